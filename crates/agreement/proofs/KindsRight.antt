@@ -1,0 +1,185 @@
+-- Demand 3: the check's outcome of any page says what `Demand3.KindsRightWith` asks. By induction on the records: the kinds and bare
+-- numbers of the working-out's stack are those of the checker's (`right`), record by record (`Nodes.node`). Assumes nothing.
+use Prim.Native.Nat.{ℕ, zero, suc, _+_, _≤_, min}
+use mathlib.Core.Path.{_≡_, refl, sym, ap, ap₂, _∙_, subst}
+use mathlib.Core.Bool.{Bool, true, false, not, true≢false, false≢true}
+use mathlib.Core.List.{List, [], _∷_, map, tail, cons-ne-nil}
+use mathlib.Core.Option.{Option}
+use native.Mathlib.Nat.{zero-add, add-zero, suc-add, add-suc}
+use native.Mathlib.Omega.{arith}
+use lib.ListN.{length, take, drop, length-map, length-reverse, length-take}
+use lib.Dec.{T, leb, leb→le}
+use Rattle.page.specs.Bytes.{pick, all}
+use Rattle.page.specs.Read.{badField, pastLimit, badText}
+use Rattle.records.specs.Kind.{Kind}
+use Rattle.records.specs.Literal.{Literal}
+use Rattle.records.specs.Record.{Record, operands, Ending, end, unreadable, readPage}
+use Rattle.records.specs.Stack.{operandsOf}
+use Rattle.ast.specs.Refusal.{Result, refused, ok, andThen}
+use Rattle.ast.specs.Expr.{Expr, valueType, scalarValue}
+use Rattle.ast.specs.Walk.{Walked, stack as stackOf, Checked, accepted, refusedAt, proceed, finished, walk}
+use Rattle.ast.specs.CheckPage.{apply, checkPage, outcomeOf, check}
+use Rattle.kinds.specs.Asked.{areAsAsked, kindGiven, isInPlace}
+use Rattle.kinds.specs.WorkingOut.{Value, Step, ended, WorkedOut, kinds, stepOf, bareNumber, isSetAside, putBack, putBare, workRecords, workPage}
+use Rattle.kinds.specs.Demand3.{nothingSetAside, allAsAsked, RunsClean, MeetsFirst, KindsRightWith}
+use Rattle.agreement.proofs.Bools.{both, left-of, right-of, either-left}
+use Rattle.agreement.proofs.Lists.{map-drop, map-operandsOf, all-drop, all-operandsOf}
+use Rattle.agreement.proofs.Faults.{isKindRefusal}
+use Rattle.agreement.proofs.Nodes.{nodeOf, apply-operands, isFormed, NodeClaim, node}
+
+abbrev pushed : List Expr → Result Expr → Result (List Expr)
+pushed below r = andThen r (λ e. ok (e ∷ below))
+
+module _ {C : Type 0} where
+  -- what an outcome of the records from record i on says of their working-out
+  abbrev Claim : ℕ → WorkedOut C → Checked Expr → Type 0
+  Claim i w (accepted e n) = T (nothingSetAside (w .steps)) → RunsClean (valueType e) w
+  Claim i w (refusedAt n j) =
+      T (isKindRefusal n) → (d : ℕ) × (j ≡ d + i) × (T (nothingSetAside (take d (w .steps))) → MeetsFirst d (w .steps))
+
+  abbrev nothing : WorkedOut C
+  nothing = record { steps = []; finish = ended }
+
+  -- a record that gave an expression: the claim of the records after it, one record on
+  after : (i : ℕ) (aside asked : Bool) (w : WorkedOut C) (c : Checked Expr) → (T (not aside) → T asked) → Claim (suc i) w c → Claim i (stepOf true aside asked w) c
+  after i aside asked w (accepted e n) h f =
+      λ g.
+      let rest : RunsClean (valueType e) w = f (right-of (not aside) (nothingSetAside (w .steps)) g) in
+      (both asked (allAsAsked (w .steps)) (h (left-of (not aside) (nothingSetAside (w .steps)) g)) (rest .0), rest .1)
+  after i aside asked w (refusedAt n j) h f =
+      λ k. (
+        suc (f k .0),
+        f k .1 ∙ add-suc (f k .0) i ∙ sym (suc-add (f k .0) i),
+        λ g.
+            let rest : MeetsFirst (f k .0) (w .steps) = f k .2 (right-of (not aside) (nothingSetAside (take (f k .0) (w .steps))) g) in
+            (both asked (allAsAsked (take (f k .0) (w .steps))) (h (left-of (not aside) (nothingSetAside (take (f k .0) (w .steps))) g)) (rest .0), rest .1),
+      )
+
+  -- an accepted record out of place is set aside
+  never : (i : ℕ) (aside asked : Bool) (w : WorkedOut C) (c : Checked Expr) → (T (not aside) → ⊥) → Claim (suc i) w c → Claim i (stepOf false aside asked w) c
+  never i aside asked w (accepted e n) h f = λ g. absurd (h (left-of (not aside) true g))
+  never i aside asked w (refusedAt n j) h f =
+      λ k. (
+        suc (f k .0),
+        f k .1 ∙ add-suc (f k .0) i ∙ sym (suc-add (f k .0) i),
+        λ g. absurd (h (left-of (not aside) (nothingSetAside (take (f k .0) [])) g)),
+      )
+
+  step : (x : Ending) (count i : ℕ) (aside p a : Bool) (k : Kind) (l : Option Literal) (w : WorkedOut C) (below : List Expr) (rs : List Record) (r : Result Expr)
+      → NodeClaim (not aside) p a k l r
+      → ((e : Expr) → k ≡ valueType e → l ≡ scalarValue e → T (isFormed e) → Claim (suc i) w (finished x count (walk apply (suc i) (e ∷ below) rs)))
+      → Claim i (stepOf p aside a w) (finished x count (proceed i (pushed below r) (λ s. walk apply (suc i) s rs)))
+  step x count i aside true a k l w below rs (refused n) c f = λ kind. (0, sym (zero-add i), λ g. (tt, either-left (not a) false (c kind .1)))
+  step x count i aside false a k l w below rs (refused n) c f = λ kind. absurd (c kind .0)
+  step x count i aside true a k l w below rs (ok e) c f =
+      after i aside a w (finished x count (walk apply (suc i) (e ∷ below) rs)) (λ g. c .0 g .1) (f e (c .1) (c .2) (c .3))
+  step x count i aside false a k l w below rs (ok e) c f =
+      never i aside a w (finished x count (walk apply (suc i) (e ∷ below) rs)) (λ g. c .0 g .0) (f e (c .1) (c .2) (c .3))
+
+  -- the test for missing operands, on both sides
+  tested : (x : Ending) (count i : ℕ) (b c : Bool) → b ≡ c → (w : WorkedOut C) (r : Result (List Expr)) (more : List Expr → Walked Expr)
+      → (T b → Claim i w (finished x count (proceed i r more))) → Claim i (pick c w nothing) (finished x count (proceed i (pick b r (refused 2)) more))
+  tested x count i true true q w r more f = f tt
+  tested x count i true false q w r more f = absurd (true≢false q)
+  tested x count i false true q w r more f = absurd (false≢true q)
+  tested x count i false false q w r more f = λ k. absurd k
+
+-- so many operands are there
+operands-length : {A : Type 0} (n : ℕ) (l : List A) → T (leb n (length l)) → length (operandsOf n l) ≡ n
+operands-length n l h = length-reverse (take n l) ∙ length-take n l ∙ least (leb→le n (length l) h)
+  where
+    least : n ≤ length l → min n (length l) ≡ n
+    least h = omega arith
+
+module _ {C : Type 0} (contents : ℕ → C) where
+  abbrev worked : Ending → ℕ → List (Value C) → List (Option Literal) → List Record → WorkedOut C
+  worked = workRecords isSetAside contents
+
+  last : (x : Ending) (count i : ℕ) (stack : List Expr) (vs : List (Value C)) (bare : List (Option Literal)) → kinds vs ≡ map valueType stack
+      → Claim i (worked x i vs bare []) (finished x count (stackOf stack))
+  last (unreadable badField) count i stack vs bare q = λ k. absurd k
+  last (unreadable pastLimit) count i stack vs bare q = λ k. absurd k
+  last (unreadable badText) count i stack vs bare q = λ k. absurd k
+  last end count i [] vs bare q = λ k. absurd k
+  last end count i (e ∷ []) [] bare q = absurd (cons-ne-nil _ _ (sym q))
+  last end count i (e ∷ []) (v ∷ []) bare q = λ g. (tt, ap firstKind q)
+    where
+      firstKind : List Kind → Kind
+      firstKind [] = v .kind
+      firstKind (k ∷ ks) = k
+  last end count i (e ∷ []) (v ∷ w ∷ vs) bare q = absurd (cons-ne-nil _ _ (ap tail q))
+  last end count i (e ∷ x ∷ es) vs bare q = λ k. absurd k
+
+  right : (x : Ending) (count : ℕ) (rs : List Record) (i : ℕ) (stack : List Expr) (vs : List (Value C)) (bare : List (Option Literal))
+      → kinds vs ≡ map valueType stack → bare ≡ map scalarValue stack → T (all isFormed stack)
+      → Claim i (worked x i vs bare rs) (finished x count (walk apply i stack rs))
+  right x count [] i stack vs bare q₁ q₂ h = last x count i stack vs bare q₁
+  right x count (r ∷ rs) i stack vs bare q₁ q₂ h =
+      subst (λ (s : Result (List Expr)). Claim i (worked x i vs bare (r ∷ rs)) (finished x count (proceed i s (λ s. walk apply (suc i) s rs)))) (sym (apply-operands r stack))
+      (tested x count i (leb (operands r) (length stack)) (leb (operands r) (length vs)) (ap (leb (operands r)) lengths)
+      (stepOf (isInPlace r) aside asked rest)
+      (pushed (drop (operands r) stack) (nodeOf r (operandsOf (operands r) stack)))
+      (λ s. walk apply (suc i) s rs)
+      (λ enough.
+      step x count i aside (isInPlace r) asked
+      (kindGiven r (operandsOf (operands r) (kinds vs))) (bareNumber r (operandsOf (operands r) bare)) rest
+      (drop (operands r) stack) rs (nodeOf r (operandsOf (operands r) stack)) (seen enough)
+      (λ e k b g.
+      right x count rs (suc i) (e ∷ drop (operands r) stack) (putBack isSetAside contents i r vs) (putBare r bare)
+      (ap₂ {C = List Kind} (λ x xs. x ∷ xs) k below-kinds)
+      (ap₂ {C = List (Option Literal)} (λ x xs. x ∷ xs) b below-bare)
+      (both (isFormed e) _ g (all-drop isFormed (operands r) stack h)))))
+    where
+      aside : Bool
+      aside = isSetAside r (operandsOf (operands r) (kinds vs)) (operandsOf (operands r) bare)
+
+      asked : Bool
+      asked = areAsAsked r (operandsOf (operands r) (kinds vs))
+
+      rest : WorkedOut C
+      rest = worked x (suc i) (putBack isSetAside contents i r vs) (putBare r bare) rs
+
+      lengths : length stack ≡ length vs
+      lengths = sym (length-map stack valueType) ∙ sym (ap length q₁) ∙ length-map vs (λ v. v .kind)
+
+      ks : operandsOf (operands r) (kinds vs) ≡ map valueType (operandsOf (operands r) stack)
+      ks = ap (operandsOf (operands r)) q₁ ∙ sym (map-operandsOf valueType (operands r) stack)
+
+      bs : operandsOf (operands r) bare ≡ map scalarValue (operandsOf (operands r) stack)
+      bs = ap (operandsOf (operands r)) q₂ ∙ sym (map-operandsOf scalarValue (operands r) stack)
+
+      below-kinds : kinds (drop (operands r) vs) ≡ map valueType (drop (operands r) stack)
+      below-kinds = map-drop (λ v. v .kind) (operands r) vs ∙ ap (drop (operands r)) q₁ ∙ sym (map-drop valueType (operands r) stack)
+
+      below-bare : drop (operands r) bare ≡ map scalarValue (drop (operands r) stack)
+      below-bare = ap (drop (operands r)) q₂ ∙ sym (map-drop scalarValue (operands r) stack)
+
+      Seen : List Kind → List (Option Literal) → Type 0
+      Seen k b = NodeClaim (not (isSetAside r k b)) (isInPlace r) (areAsAsked r k) (kindGiven r k) (bareNumber r b) (nodeOf r (operandsOf (operands r) stack))
+
+      seen : T (leb (operands r) (length stack)) → Seen (operandsOf (operands r) (kinds vs)) (operandsOf (operands r) bare)
+      seen enough =
+          subst (λ k. Seen k (operandsOf (operands r) bare)) (sym ks)
+          (subst (λ b. Seen (map valueType (operandsOf (operands r) stack)) b) (sym bs)
+          (node r (operandsOf (operands r) stack) (operands-length (operands r) stack enough) (all-operandsOf isFormed (operands r) stack h)))
+
+-- ## Demand 3
+
+module _ {C : Type 0} (contents : ℕ → C) where
+  -- the check's answer or refusal, from the claim at record 0
+  fromClaim : (page : List ℕ) (c : Checked Expr) → Claim 0 (workPage isSetAside contents (readPage page)) c → KindsRightWith contents page (outcomeOf c)
+  fromClaim page (accepted e n) f = f
+  fromClaim page (refusedAt n j) f =
+      λ k g. subst (λ (d : ℕ). MeetsFirst d steps) (same k) (f k .2 (subst (λ (d : ℕ). T (nothingSetAside (take d steps))) (sym (same k)) g))
+    where
+      steps : List Step
+      steps = workPage isSetAside contents (readPage page) .steps
+
+      same : (k : T (isKindRefusal n)) → f k .0 ≡ j
+      same k = sym (f k .1 ∙ add-zero (f k .0))
+
+  -- for every byte string, every type of contents and every contents
+  pub kindsRightWith : (page : List ℕ) → KindsRightWith contents page (check page)
+  unfolding checkPage
+  kindsRightWith page =
+      fromClaim page (checkPage page) (right contents (readPage page .ending) (length (readPage page .records)) (readPage page .records) 0 [] [] [] refl refl tt)

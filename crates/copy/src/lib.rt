@@ -1,0 +1,1 @@
+// The copy of an accepted page: the definitions stand in specs/.

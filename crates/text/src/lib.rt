@@ -1,0 +1,1 @@
+// Canonical text and split text: the definitions stand in specs/.

@@ -1,0 +1,56 @@
+-- Durations (duration.rs, `display_duration`): seven counts, years down to milliseconds. The units are those of Prometheus,
+-- 'Querying basics', 'Float literals and time durations': "1w equals 7d", "1y equals 365d (ignoring leap days)".
+use Prim.Native.Nat.{ℕ, zero, suc, _*_, _-_, _/_, _%_}
+use Prim.Native.String.{String}
+use mathlib.Core.Bool.{Bool, true, false, _&&_, not}
+use mathlib.Core.List.{List, [], _∷_, _++_}
+use lib.Dec.{eqb}
+use Rattle.page.specs.Bytes.{pick, bytes}
+use Rattle.util.specs.Decimal.{decimal}
+
+pub record TimeUnit : Type 0 where
+  pub name : String
+  -- its length in milliseconds
+  pub millis : ℕ
+  -- whether it counts only if it divides the rest
+  pub exact : Bool
+
+abbrev timeUnit : String → ℕ → Bool → TimeUnit
+timeUnit n m e = record { name = n; millis = m; exact = e }
+
+abbrev pub units : List TimeUnit
+units =
+    timeUnit "y" 31536000000 true
+    ∷ timeUnit "w" 604800000 true
+    ∷ timeUnit "d" 86400000 false
+    ∷ timeUnit "h" 3600000 false
+    ∷ timeUnit "m" 60000 false
+    ∷ timeUnit "s" 1000 false
+    ∷ timeUnit "ms" 1 false
+    ∷ []
+
+-- how often a unit goes into so many milliseconds
+abbrev pub countOf : TimeUnit → ℕ → ℕ
+countOf u ms = pick (u .exact && not (eqb (ms % u .millis) 0)) 0 (ms / u .millis)
+
+-- the counts of the units, in order, each of what those before it leave
+abbrev pub countsOf : List TimeUnit → ℕ → List ℕ
+countsOf [] ms = []
+countsOf (u ∷ us) ms = countOf u ms ∷ countsOf us (ms - countOf u ms * u .millis)
+
+abbrev pub durationCounts : ℕ → List ℕ
+durationCounts = countsOf units
+
+-- each count that is not 0, with its unit
+abbrev pub displayCount : ℕ → String → List ℕ
+displayCount zero name = []
+displayCount (suc n) name = decimal (suc n) ++ bytes name
+
+abbrev pub displayCounts : List TimeUnit → List ℕ → List ℕ
+displayCounts [] ns = []
+displayCounts (u ∷ us) [] = []
+displayCounts (u ∷ us) (n ∷ ns) = displayCount n (u .name) ++ displayCounts us ns
+
+abbrev pub displayDuration : ℕ → List ℕ
+displayDuration zero = bytes "0s"
+displayDuration (suc ms) = displayCounts units (durationCounts (suc ms))

@@ -1,0 +1,4 @@
+pub mod Decimal
+pub mod Numeral
+pub mod Duration
+pub mod Escape
