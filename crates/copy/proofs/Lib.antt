@@ -1,0 +1,2 @@
+pub mod CopyRecordsLaws
+pub mod CopyLaws
