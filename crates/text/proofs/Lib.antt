@@ -1,0 +1,4 @@
+pub mod DisplayLaws
+pub mod OperandLaws
+pub mod TrimLaws
+pub mod PrettyLaws
