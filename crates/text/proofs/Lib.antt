@@ -5,3 +5,5 @@ pub mod PrettyLaws
 pub mod TreeLaws
 pub mod EntryLaws
 pub mod SeenLaws
+pub mod ChainLaws
+pub mod ValueLaws

@@ -35,6 +35,20 @@ use Rattle.text.proofs.EntryLaws.{tree-of, Wrapped, applies, enough, le
 
 -- ## The node
 
+-- only a bare number has a value
+pub number-is : (e : Expr) (l : Literal) → scalarValue e ≡ some l → e ≡ NumberLiteral l
+number-is (Aggregate c m e) l h = cc
+number-is (AggregateParam c m p e) l h = cc
+number-is (Unary e) l h = cc
+number-is (Binary c m x y) l h = cc
+number-is (Paren e) l h = cc
+number-is (Subquery e r s t) l h = cc
+number-is (NumberLiteral x) l h = cc
+number-is (StringLiteral x) l h = cc
+number-is (VectorSelector s x) l h = cc
+number-is (MatrixSelector s x r) l h = cc
+number-is (Call f es) l h = cc
+
 -- a node without operands
 leaf-seen : (page : List ℕ) (i j : ℕ) (text : List ℕ) (e : Expr) → treeAt page i ≡ e → layoutOf e ≡ whole text → children e ≡ [] → j ≤ i → Seen page i (whole text) j 0
 leaf-seen page i j text e tree own none· low =
@@ -102,20 +116,7 @@ module _ {page starts firsts : List ℕ} {i : ℕ} (t : Tables page starts first
   -- a bare number, with the sign of the unary records on it
   pub seen-literal : (l : Literal) → scalarValue (treeAt page j) ≡ some l → Seen page i (whole (displayLiteral l)) j 0
   unfolding settled
-  seen-literal l v = leaf-seen page i j (displayLiteral l) (NumberLiteral l) (chain ∙ ap (settled n u) (number-is (treeAt page j) v)) refl refl low
-    where
-      number-is : (e : Expr) → scalarValue e ≡ some l → e ≡ NumberLiteral l
-      number-is (Aggregate c m e) h = cc
-      number-is (AggregateParam c m p e) h = cc
-      number-is (Unary e) h = cc
-      number-is (Binary c m x y) h = cc
-      number-is (Paren e) h = cc
-      number-is (Subquery e r s t) h = cc
-      number-is (NumberLiteral x) h = cc
-      number-is (StringLiteral x) h = cc
-      number-is (VectorSelector s x) h = cc
-      number-is (MatrixSelector s x r) h = cc
-      number-is (Call f es) h = cc
+  seen-literal l v = leaf-seen page i j (displayLiteral l) (NumberLiteral l) (chain ∙ ap (settled n u) (number-is (treeAt page j) l v)) refl refl low
 
   pub seen-unary : Reads page starts j (wrapper unary) → scalarValue (treeAt page j) ≡ none → Seen page i negation j 1
   unfolding settled
