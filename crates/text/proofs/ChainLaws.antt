@@ -35,7 +35,7 @@ overlaid-nothing t = by (t .at) (t .offset)
 
 -- ## The constructors
 
-range-settled : (r : ℕ) (n : Option ℕ) (u : Times) (e node : Expr) → newMatrixSelector r e ≡ ok node → settled n u (checkedExpr node) ≡ settled (some r) u e
+pub range-settled : (r : ℕ) (n : Option ℕ) (u : Times) (e node : Expr) → newMatrixSelector r e ≡ ok node → settled n u (checkedExpr node) ≡ settled (some r) u e
 unfolding settled
 range-settled r n u (Aggregate c m e) node h = cc
 range-settled r n u (AggregateParam c m p e) node h = cc
@@ -55,7 +55,7 @@ range-settled r n u (VectorSelector s t) node h = by (t .offset) (t .at) h
 range-settled r n u (MatrixSelector s t q) node h = cc
 range-settled r n u (Call f es) node h = cc
 
-at-settled : (a : AtModifier) (n : Option ℕ) (u : Times) (e node : Expr) → atExpr a e ≡ ok node → settled n u (checkedExpr node) ≡ settled n (withAt a u) e
+pub at-settled : (a : AtModifier) (n : Option ℕ) (u : Times) (e node : Expr) → atExpr a e ≡ ok node → settled n u (checkedExpr node) ≡ settled n (withAt a u) e
 unfolding settled
 at-settled a n u (Aggregate c m e) node h = cc
 at-settled a n u (AggregateParam c m p e) node h = cc
@@ -84,7 +84,7 @@ at-settled a n u (MatrixSelector s t q) node h = by (t .at) h
     by (some b) k = cc
 at-settled a n u (Call f es) node h = cc
 
-offset-settled : (o : Offset) (n : Option ℕ) (u : Times) (e node : Expr) → offsetExpr o e ≡ ok node → settled n u (checkedExpr node) ≡ settled n (withOffset o u) e
+pub offset-settled : (o : Offset) (n : Option ℕ) (u : Times) (e node : Expr) → offsetExpr o e ≡ ok node → settled n u (checkedExpr node) ≡ settled n (withOffset o u) e
 unfolding settled
 offset-settled o n u (Aggregate c m e) node h = cc
 offset-settled o n u (AggregateParam c m p e) node h = cc

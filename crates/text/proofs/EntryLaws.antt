@@ -74,7 +74,7 @@ pub record UnaryOf (e made : Expr) : Type 0 where
 plain : (e : Expr) {node : Expr} → scalarValue e ≡ none → ok (Unary e) ≡ ok node → UnaryOf e (checkedExpr node)
 plain e {node} v h = let same : node ≡ Unary e = cc in rw same (record { value = rw v; other = λ k. refl })
 
-unary-of : (e node : Expr) → newUnary e ≡ ok node → UnaryOf e (checkedExpr node)
+pub unary-of : (e node : Expr) → newUnary e ≡ ok node → UnaryOf e (checkedExpr node)
 unary-of (Aggregate c m e) node h = plain (Aggregate c m e) refl h
 unary-of (AggregateParam c m p e) node h = plain (AggregateParam c m p e) refl h
 unary-of (Unary e) node h = plain (Unary e) refl h

@@ -7,3 +7,5 @@ pub mod EntryLaws
 pub mod SeenLaws
 pub mod ChainLaws
 pub mod ValueLaws
+pub mod SoundLaws
+pub mod NodeLaws
