@@ -1,3 +1,5 @@
+pub mod ModifierLaws
+pub mod OperatorLaws
 pub mod PieceLaws
 pub mod SpanLaws
 pub mod StartsLaws

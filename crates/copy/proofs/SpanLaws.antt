@@ -67,15 +67,25 @@ first-kind (binary c m) rest = refl
 first-kind (aggregate c m n) rest = refl
 first-kind (call f n) rest = refl
 
--- all but numbers and binaries stay, and take nothing in
-other-copied : (r : Record) (rest : List ℕ) → (kindByte r ≡ 0 → ⊥) → (kindByte r ≡ 9 → ⊥) → (copied r rest ≡ r) × (absorbed r rest ≡ 0)
+-- all but numbers and binaries stay
+other-copied : (r : Record) (rest : List ℕ) → (kindByte r ≡ 0 → ⊥) → (kindByte r ≡ 9 → ⊥) → copied r rest ≡ r
 other-copied (leaf (number l)) rest h g = absurd (h refl)
-other-copied (leaf (string t)) rest h g = (refl, refl)
-other-copied (leaf (selector s)) rest h g = (refl, refl)
-other-copied (wrapper w) rest h g = (refl, refl)
+other-copied (leaf (string t)) rest h g = refl
+other-copied (leaf (selector s)) rest h g = refl
+other-copied (wrapper w) rest h g = refl
 other-copied (binary c m) rest h g = absurd (g refl)
-other-copied (aggregate c m n) rest h g = (refl, refl)
-other-copied (call f n) rest h g = (refl, refl)
+other-copied (aggregate c m n) rest h g = refl
+other-copied (call f n) rest h g = refl
+
+-- all but numbers take nothing in
+nothing-absorbed : (r : Record) (rest : List ℕ) → (kindByte r ≡ 0 → ⊥) → absorbed r rest ≡ 0
+nothing-absorbed (leaf (number l)) rest h = absurd (h refl)
+nothing-absorbed (leaf (string t)) rest h = refl
+nothing-absorbed (leaf (selector s)) rest h = refl
+nothing-absorbed (wrapper w) rest h = refl
+nothing-absorbed (binary c m) rest h = refl
+nothing-absorbed (aggregate c m n) rest h = refl
+nothing-absorbed (call f n) rest h = refl
 
 number-kind : (r : Record) → kindByte r ≡ 0 → (l : Literal) × (r ≡ leaf (number l))
 number-kind (leaf (number l)) h = (l, refl)
@@ -162,7 +172,10 @@ module _ (page : List ℕ) (start next : ℕ) (bytes : T (all isByte page)) (spa
 
   pub other-piece : (getD page start 0 ≡ 0 → ⊥) → (getD page start 0 ≡ 9 → ⊥) → pieceOf (drop start page) ≡ take (next - start) (drop start page)
   other-piece h g =
-      same-piece (other-copied (span .item) (drop next page) (λ e. h (span-kind ∙ e)) (λ e. g (span-kind ∙ e)) .0)
+      same-piece (other-copied (span .item) (drop next page) (λ e. h (span-kind ∙ e)) (λ e. g (span-kind ∙ e)))
+
+  pub other-absorbed : (getD page start 0 ≡ 0 → ⊥) → absorbedOf (drop start page) ≡ 0
+  other-absorbed h = span-absorbed ∙ nothing-absorbed (span .item) (drop next page) (λ e. h (span-kind ∙ e))
 
   -- a number, and the unary records behind it
   number-at : getD page start 0 ≡ 0 → (l : Literal) × (span .item ≡ leaf (number l))

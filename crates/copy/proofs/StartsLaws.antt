@@ -20,10 +20,12 @@ use Rattle.page.proofs.NumberLaws.{Written, isByte, right}
 use Rattle.page.proofs.ReaderLaws.{rest-bytes}
 use Rattle.records.specs.Record.{Record, readRecord, writeRecord, Ending, end, unreadable, Records, noRecords, readRecords, readPage}
 use Rattle.records.proofs.RecordLaws.{record-law}
+use Rattle.ast.specs.Part.{behind, fromRecord}
 use Rattle.ast.proofs.WalkLaws.{page-limit}
+use Rattle.ast.proofs.TablesLaws.{fromRecord-next}
 use Rattle.copy.specs.Copy.{copyRecord, copyRecords, copyPage}
 use Rattle.copy.specs.Piece.{pieceRead, pieceOf, absorbedRead, absorbedOf, copied, absorbed}
-use Rattle.copy.specs.Starts.{behind, tailAt, Starts, Spans, copyFrom}
+use Rattle.copy.specs.Starts.{Starts, Spans, copyFrom}
 use Rattle.copy.proofs.PieceLaws.{ReadsTo, nothing-read, readRecords-reads, copyRecord-piece}
 
 -- ## A page read to its end
@@ -39,19 +41,13 @@ pub readPage-reads : (page : List ℕ) → readPage page .ending ≡ end → (le
 unfolding readPage
 readPage-reads page e = reads-limited page (leb (length page) pageLimit) refl e
 
--- ## tailAt
+-- ## fromRecord
 
--- the bytes behind a record
-reads-next : (s : List ℕ) (rs : List Record) → 0 < length rs → ReadsTo s rs → ReadsTo (behind (readRecord s)) (drop 1 rs)
-reads-next s [] h g = absurd (let z : ⊥ = omega arith in z)
-reads-next s (r ∷ rs) h (t, e, more) = subst (λ (x : List ℕ). ReadsTo x rs) (ap behind e) more
-
-pub tailAt-reads : (page : List ℕ) (rs : List Record) → ReadsTo page rs → (i : ℕ) → i ≤ length rs → ReadsTo (tailAt page i) (drop i rs)
-unfolding tailAt
-tailAt-reads page rs g zero h = g
-tailAt-reads page rs g (suc i) h =
-    subst (λ (x : List Record). ReadsTo (behind (readRecord (tailAt page i))) x) (drop-drop 1 i rs ∙ ap (λ (k : ℕ). drop k rs) (add-one i))
-    (reads-next (tailAt page i) (drop i rs) (subst (λ (k : ℕ). 0 < k) (sym (length-drop i rs)) (omega arith)) (tailAt-reads page rs g i (omega arith)))
+pub fromRecord-reads : (i : ℕ) (s : List ℕ) (rs : List Record) → ReadsTo s rs → i ≤ length rs → ReadsTo (fromRecord i s) (drop i rs)
+fromRecord-reads zero s rs g h = g
+fromRecord-reads (suc i) s [] g h = absurd (let z : ⊥ = omega arith in z)
+fromRecord-reads (suc i) s (r ∷ rs) (t, e, more) h =
+    subst (λ (x : List ℕ). ReadsTo (fromRecord i x) (drop i rs)) (ap behind e) (fromRecord-reads i t rs more (omega arith))
 
 -- the bytes behind some bytes
 pub drop-bytes : (k : ℕ) (s : List ℕ) → T (all isByte s) → T (all isByte (drop k s))
@@ -82,8 +78,8 @@ module _ (page starts : List ℕ) (n : ℕ) (held : Starts page starts n) where
   page-reads : ReadsTo page (readPage page .records)
   page-reads = readPage-reads page (held .readable) .1
 
-  reads-at : (i : ℕ) → i ≤ n → ReadsTo (tailAt page i) (drop i (readPage page .records))
-  reads-at i h = tailAt-reads page (readPage page .records) page-reads i (omega (arith, held .count))
+  reads-at : (i : ℕ) → i ≤ n → ReadsTo (fromRecord i page) (drop i (readPage page .records))
+  reads-at i h = fromRecord-reads i page (readPage page .records) page-reads (omega (arith, held .count))
 
   more-at : (i : ℕ) → i < n → 0 < length (drop i (readPage page .records))
   more-at i h = subst (λ (k : ℕ). 0 < k) (sym (length-drop i (readPage page .records))) (omega (arith, held .count))
@@ -115,16 +111,15 @@ module _ (page starts : List ℕ) (n : ℕ) (held : Starts page starts n) where
   pub starts-page : length page ≤ pageLimit
   starts-page = readPage-reads page (held .readable) .0
 
-  starts-spans : (i next : ℕ) → i < n → next ≤ length page → drop next page ≡ tailAt page (suc i) → Spans page (getD starts i 0) next
-  unfolding tailAt
+  starts-spans : (i next : ℕ) → i < n → next ≤ length page → drop next page ≡ fromRecord (suc i) page → Spans page (getD starts i 0) next
   starts-spans i next h l e = spanned (drop i (readPage page .records)) (more-at i h) (reads-at i (omega arith))
     where
-      spanned : (rs : List Record) → 0 < length rs → ReadsTo (tailAt page i) rs → Spans page (getD starts i 0) next
+      spanned : (rs : List Record) → 0 < length rs → ReadsTo (fromRecord i page) rs → Spans page (getD starts i 0) next
       spanned [] k g = absurd (let z : ⊥ = omega arith in z)
       spanned (r ∷ rs) k (t, q, more) =
           record {
             item = r;
-            reads = ap (got r) (e ∙ sym (ap behind q)) ∙ q ∙ ap readRecord (sym (held .stands i h));
+            reads = ap (got r) (e ∙ fromRecord-next i page ∙ sym (ap behind q)) ∙ q ∙ ap readRecord (sym (held .stands i h));
             inside = l;
           }
 
@@ -142,12 +137,12 @@ module _ (page starts : List ℕ) (n : ℕ) (held : Starts page starts n) where
   pub starts-next : (i : ℕ) → i + 1 < n → Spans page (getD starts i 0) (getD starts (i + 1) 0)
   starts-next i h =
       starts-spans i (getD starts (i + 1) 0) (omega arith) (omega (arith, starts-inside (i + 1) h))
-      (held .stands (i + 1) h ∙ ap (tailAt page) (add-one i))
+      (held .stands (i + 1) h ∙ ap (λ (k : ℕ). fromRecord k page) (add-one i))
 
   -- the last one ends where the page ends
   pub starts-last : (i : ℕ) → i < n → n ≤ i + 1 → Spans page (getD starts i 0) (length page)
   starts-last i h l = starts-spans i (length page) h (omega arith) (drop-length page ∙ sym (none (drop (suc i) (readPage page .records)) (drop-of-length-le (readPage page .records) {i = suc i} (omega (arith, held .count))) (reads-at (suc i) (omega arith))))
     where
-      none : (rs : List Record) → rs ≡ [] → ReadsTo (tailAt page (suc i)) rs → tailAt page (suc i) ≡ []
+      none : (rs : List Record) → rs ≡ [] → ReadsTo (fromRecord (suc i) page) rs → fromRecord (suc i) page ≡ []
       none [] e g = g
       none (r ∷ rs) e g = absurd (let z : _≡_ {A = ℕ} 0 1 = cc in omega arith)

@@ -1,29 +1,21 @@
 -- Where the records of a page stand, for code that goes from record to record by a table of their starts.
-use Prim.Native.Nat.{ℕ, zero, suc, _≤_, _<_}
+use Prim.Native.Nat.{ℕ, _≤_, _<_}
 use mathlib.Core.Path.{_≡_}
-use mathlib.Core.List.{List, []}
+use mathlib.Core.List.{List}
 use lib.ListN.{length, drop, getD}
 use Rattle.page.specs.Limits.{recordLimit}
 use Rattle.page.specs.Text.{writeAll}
-use Rattle.page.specs.Read.{Read, refused, got}
+use Rattle.page.specs.Read.{got}
 use Rattle.records.specs.Record.{Record, readRecord, writeRecord, end, readPage}
+use Rattle.ast.specs.Part.{fromRecord}
 use Rattle.copy.specs.Copy.{copyRecords}
-
-abbrev pub behind : Read Record → List ℕ
-behind (refused f) = []
-behind (got r rest) = rest
-
--- the bytes of a page behind its first i records
-unfoldable pub tailAt : List ℕ → ℕ → List ℕ
-tailAt page zero = page
-tailAt page (suc i) = behind (readRecord (tailAt page i))
 
 -- a page of n records, read to its end, and the start of each in a table
 pub record Starts (page starts : List ℕ) (n : ℕ) : Type 0 where
   pub readable : readPage page .ending ≡ end
   pub count : length (readPage page .records) ≡ n
   pub size : length starts ≡ recordLimit
-  pub stands : (i : ℕ) → i < n → drop (getD starts i 0) page ≡ tailAt page i
+  pub stands : (i : ℕ) → i < n → drop (getD starts i 0) page ≡ fromRecord i page
 
 -- a record that reaches from `start` to `next`
 pub record Spans (page : List ℕ) (start next : ℕ) : Type 0 where
