@@ -3,3 +3,4 @@ pub mod OperatorLaws
 pub mod PieceLaws
 pub mod SpanLaws
 pub mod StartsLaws
+pub mod UnaryLaws

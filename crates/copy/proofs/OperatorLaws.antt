@@ -11,9 +11,8 @@ use lib.ListN.{length, take, drop, getD, length-drop, length-append}
 use lib.Seq.{drop-drop, getD-drop}
 use lib.Dec.{T}
 use Rattle.base.specs.Splice.{join}
-use Rattle.page.specs.Bytes.{pick, all}
+use Rattle.page.specs.Bytes.{pick}
 use Rattle.page.specs.Read.{FieldFault, Read, refused, got}
-use Rattle.page.proofs.NumberLaws.{isByte}
 use Rattle.page.proofs.ReaderLaws.{append-assoc, append-nil}
 use Rattle.page.proofs.ReadBackLaws.{Got}
 use Rattle.records.specs.Code.{isCode, isSetOperator}
@@ -45,14 +44,14 @@ binary-kind (call f n) h = absurd (omega arith)
 
 -- ## The piece
 
-module _ (page : List ℕ) (start next : ℕ) (bytes : T (all isByte page)) (span : Spans page start next) where
+module _ (page : List ℕ) (start next : ℕ) (span : Spans page start next) where
   module _ (c : ℕ) (m : Option BinModifier) (is : span .item ≡ binary c m) where
     allowed : T (isCode c) × IsOptionOf IsBinModifier m
     allowed = subst IsAllowed is (subst (Got IsAllowed) (sym (span .reads)) (readRecord-gives .gives (drop start page)))
 
     written : drop start page ≡ (9 ∷ c ∷ writeOption writeBinModifier m) ++ drop next page
     written =
-        span-written page start next bytes span
+        span-written page start next span
         ∙ ap (λ (s : List ℕ). s ++ drop next page) (ap writeRecord is ∙ binary-written c (allowed .0) m)
 
     second-byte : getD page (start + 1) 0 ≡ c
@@ -63,7 +62,7 @@ module _ (page : List ℕ) (start next : ℕ) (bytes : T (all isByte page)) (spa
 
     piece-set : isSetOperator (getD page (start + 1) 0) ≡ true → pieceOf (drop start page) ≡ writeRecord (binary c (some (setOperatorModifier m)))
     piece-set h =
-        span-piece page start next bytes span ∙ ap (λ (r : Record). writeRecord (copied r (drop next page))) is
+        span-piece page start next span ∙ ap (λ (r : Record). writeRecord (copied r (drop next page))) is
         ∙ ap (λ (b : Bool). writeRecord (binary c (pick b (some (setOperatorModifier m)) m))) (ap isSetOperator (sym second-byte) ∙ h)
 
     piece-plain : isSetOperator (getD page (start + 1) 0) ≡ false → copied (span .item) (drop next page) ≡ span .item
@@ -87,7 +86,7 @@ module _ (page : List ℕ) (start next : ℕ) (bytes : T (all isByte page)) (spa
   module _ (c : ℕ) (m : BinModifier) (is : span .item ≡ binary c (some m)) where
     some-written : drop start page ≡ before c m ++ ((formOf (m .card) ∷ after m) ++ drop next page)
     some-written =
-        span-written page start next bytes span
+        span-written page start next span
         ∙ ap (λ (s : List ℕ). s ++ drop next page) (ap writeRecord is ∙ modifier-written c (allowed c (some m) is .0) m)
         ∙ append-assoc (before c m) (formOf (m .card) ∷ after m) (drop next page)
 
@@ -141,57 +140,57 @@ pub record CardinalityAt (page : List ℕ) (start next cut : ℕ) : Type 0 where
   pub inside : cut + 1 ≤ next
   pub piece : pieceOf (drop start page) ≡ join (take (cut - start) (drop start page) ∷ (setCardinality (getD page cut 0) ∷ []) ∷ take (next - (cut + 1)) (drop (cut + 1) page) ∷ [])
 
-module _ (page : List ℕ) (start next : ℕ) (bytes : T (all isByte page)) (span : Spans page start next) (kind : getD page start 0 ≡ 9) where
+module _ (page : List ℕ) (start next : ℕ) (span : Spans page start next) (kind : getD page start 0 ≡ 9) where
   operator-at : (c : ℕ) × (m : Option BinModifier) × (span .item ≡ binary c m)
-  operator-at = binary-kind (span .item) (sym (span-kind page start next bytes span) ∙ kind)
+  operator-at = binary-kind (span .item) (sym (span-kind page start next span) ∙ kind)
 
   -- no set operator: the page's own bytes
   pub plain-piece : isSetOperator (getD page (start + 1) 0) ≡ false → pieceOf (drop start page) ≡ take (next - start) (drop start page)
-  plain-piece h = same-piece page start next bytes span (piece-plain page start next bytes span (operator-at .0) (operator-at .1) (operator-at .2) h)
+  plain-piece h = same-piece page start next span (piece-plain page start next span (operator-at .0) (operator-at .1) (operator-at .2) h)
 
   absent-at : getD page (start + 2) 0 ≡ 0 → span .item ≡ binary (operator-at .0) none
   absent-at h =
       let (c, m, is) = operator-at in
-      is ∙ ap (binary c) (modifier-absent m (drop next page) (sym (third-byte page start next bytes span c m is) ∙ h))
+      is ∙ ap (binary c) (modifier-absent m (drop next page) (sym (third-byte page start next span c m is) ∙ h))
 
   present-at : (getD page (start + 2) 0 ≡ 0 → ⊥) → (m : BinModifier) × (span .item ≡ binary (operator-at .0) (some m))
   present-at h =
       let (c, m, is) = operator-at in
-      let (k, e) = modifier-present m (drop next page) (λ z. h (third-byte page start next bytes span c m is ∙ z)) in
+      let (k, e) = modifier-present m (drop next page) (λ z. h (third-byte page start next span c m is ∙ z)) in
       (k, is ∙ ap (binary c) e)
 
   -- a set operator without a modifier
   pub absent-end : getD page (start + 2) 0 ≡ 0 → start + 3 ≡ next
-  absent-end h = none-end page start next bytes span (operator-at .0) (absent-at h)
+  absent-end h = none-end page start next span (operator-at .0) (absent-at h)
 
   pub absent-piece : isSetOperator (getD page (start + 1) 0) ≡ true → getD page (start + 2) 0 ≡ 0
       → pieceOf (drop start page) ≡ join (take (start + 2 - start) (drop start page) ∷ setModifier ∷ [])
   unfolding join
   absent-piece h g =
-      none-written page start next bytes span (operator-at .0) (absent-at g) h
-      ∙ ap (λ (s : List ℕ). s ++ (setModifier ++ [])) (sym (none-front page start next bytes span (operator-at .0) (absent-at g)))
+      none-written page start next span (operator-at .0) (absent-at g) h
+      ∙ ap (λ (s : List ℕ). s ++ (setModifier ++ [])) (sym (none-front page start next span (operator-at .0) (absent-at g)))
 
   -- a set operator with one
   pub present-length : isSetOperator (getD page (start + 1) 0) ≡ true → (getD page (start + 2) 0 ≡ 0 → ⊥) → length (pieceOf (drop start page)) ≡ next - start
-  present-length h g = some-length page start next bytes span (operator-at .0) (present-at g .0) (present-at g .1) h
+  present-length h g = some-length page start next span (operator-at .0) (present-at g .0) (present-at g .1) h
 
   pub present-cardinality : isSetOperator (getD page (start + 1) 0) ≡ true → (getD page (start + 2) 0 ≡ 0 → ⊥)
       → (cut : ℕ) {l : Option LabelModifier} → got l (drop cut page) ≡ readLabelModifier (drop (start + 4) page) → CardinalityAt page start next cut
   present-cardinality h g cut e =
       let c = operator-at .0 in
       let (m, is) = present-at g in
-      let read = e ∙ some-matching page start next bytes span c m is in
+      let read = e ∙ some-matching page start next span c m is in
       let tail : drop cut page ≡ (formOf (m .card) ∷ after m) ++ drop next page = cc in
       record {
-        behind = omega (arith, cut-start page start next bytes span c m is cut tail);
-        inside = cut-end page start next bytes span c m is cut tail;
-        piece = cut-piece page start next bytes span c m is cut tail h;
+        behind = omega (arith, cut-start page start next span c m is cut tail);
+        inside = cut-end page start next span c m is cut tail;
+        piece = cut-piece page start next span c m is cut tail h;
       }
 
   pub present-readable : (getD page (start + 2) 0 ≡ 0 → ⊥) → {f : FieldFault} → refused f ≡ readLabelModifier (drop (start + 4) page) → ⊥
   present-readable g e =
       let c = operator-at .0 in
       let (m, is) = present-at g in
-      let read = e ∙ some-matching page start next bytes span c m is in
+      let read = e ∙ some-matching page start next span c m is in
       let z : _≡_ {A = ℕ} 0 1 = cc in
       omega arith

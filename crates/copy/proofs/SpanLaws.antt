@@ -2,13 +2,15 @@
 -- is its kind; a number's second byte is its form, and the rest of it stays. Assumes nothing.
 use Prim.Native.Nat.{ℕ, zero, suc, _+_, _-_, _≤_, _<_}
 use mathlib.Core.Path.{_≡_, refl, sym, ap, _∙_, subst}
-use mathlib.Core.Bool.{Bool, true, false}
+use mathlib.Core.Bool.{Bool, true, false, _&&_}
 use mathlib.Core.List.{List, [], _∷_, _++_}
 use native.Mathlib.Nat.{add-zero}
 use native.Mathlib.Omega.{arith}
+use mir.Syntax.{w8}
+use mir.Val.{Fits}
 use lib.ListN.{length, take, drop, getD, length-drop, length-append}
 use lib.Seq.{drop-drop, getD-drop, take-at, drop-cons}
-use lib.Dec.{T, eqb}
+use lib.Dec.{T, eqb, lt→ltb}
 use Rattle.base.specs.Splice.{join}
 use Rattle.page.specs.Bytes.{pick, all}
 use Rattle.page.specs.Read.{got}
@@ -35,6 +37,15 @@ part-is page front from to h e =
 -- the place behind what stands there
 pub part-ends : (page front : List ℕ) (from to : ℕ) → to ≤ length page → 0 < length front → drop from page ≡ front ++ drop to page → from + length front ≡ to
 part-ends page front from to h l e = omega (arith, length-drop from page, length-drop to page, ap length e ∙ length-append front (drop to page))
+
+-- the elements of a slice of bytes
+pub known-bytes : (page : List ℕ) → ((i : ℕ) → Fits w8 (getD page i 0)) → T (all isByte page)
+known-bytes [] h = tt
+known-bytes (b ∷ bs) h = both-true (isByte b) (all isByte bs) (lt→ltb b 256 (omega (arith, h 0))) (known-bytes bs (λ i. h (suc i)))
+  where
+    both-true : (x y : Bool) → T x → T y → T (x && y)
+    both-true true y p q = q
+    both-true false y p q = p
 
 -- ## Kinds
 
@@ -149,9 +160,9 @@ number-behind (b ∷ bs) l = by (eqb b 7) (number-behind bs (negate l))
 
 -- ## Pieces
 
-module _ (page : List ℕ) (start next : ℕ) (bytes : T (all isByte page)) (span : Spans page start next) where
+module _ (page : List ℕ) (start next : ℕ) (span : Spans page start next) where
   pub span-written : drop start page ≡ writeRecord (span .item) ++ drop next page
-  span-written = subst (Written writeRecord (drop start page)) (sym (span .reads)) (record-law (drop start page) (drop-bytes start page bytes))
+  span-written = subst (Written writeRecord (drop start page)) (sym (span .reads)) (record-law (drop start page) (drop-bytes start page (span .bytes)))
 
   pub span-kind : getD page start 0 ≡ kindByte (span .item)
   span-kind =

@@ -84,15 +84,15 @@ module _ (page starts : List ℕ) (n : ℕ) (held : Starts page starts n) where
   more-at : (i : ℕ) → i < n → 0 < length (drop i (readPage page .records))
   more-at i h = subst (λ (k : ℕ). 0 < k) (sym (length-drop i (readPage page .records))) (omega (arith, held .count))
 
-  pub copyFrom-cut : T (all isByte page) → (i : ℕ) → i < n
+  pub copyFrom-cut : (i : ℕ) → i < n
       → Cut (copyFrom page i) (pieceOf (drop (getD starts i 0) page)) (copyFrom page (i + 1 + absorbedOf (drop (getD starts i 0) page)))
   unfolding copyFrom
-  copyFrom-cut h i l =
+  copyFrom-cut i l =
       let s = drop (getD starts i 0) page in
       let reads : ReadsTo s (drop i (readPage page .records)) = subst (λ (x : List ℕ). ReadsTo x (drop i (readPage page .records))) (sym (held .stands i l)) (reads-at i (omega arith)) in
       record {
         is =
-            copy-front s (drop i (readPage page .records)) (drop-bytes (getD starts i 0) page h) (more-at i l) reads
+            copy-front s (drop i (readPage page .records)) (drop-bytes (getD starts i 0) page (held .bytes)) (more-at i l) reads
             ∙ ap (λ (x : List Record). pieceOf s ++ writeAll writeRecord (copyRecords x)) (drop-drop (suc (absorbedOf s)) i (readPage page .records) ∙ ap (λ (k : ℕ). drop k (readPage page .records)) (further (absorbedOf s)));
       }
     where
@@ -118,6 +118,7 @@ module _ (page starts : List ℕ) (n : ℕ) (held : Starts page starts n) where
       spanned [] k g = absurd (let z : ⊥ = omega arith in z)
       spanned (r ∷ rs) k (t, q, more) =
           record {
+            bytes = held .bytes;
             item = r;
             reads = ap (got r) (e ∙ fromRecord-next i page ∙ sym (ap behind q)) ∙ q ∙ ap readRecord (sym (held .stands i h));
             inside = l;
