@@ -13,6 +13,9 @@ use Rattle.ast.specs.CheckAst.{checkAst}
 use Rattle.ast.specs.CheckPage.{apply, checkPage, check}
 use Rattle.ast.specs.Part.{Part, labelPart}
 use Rattle.copy.specs.Copy.{copyPage}
+use Rattle.util.specs.Decimal.{digits, decimal}
+use Rattle.util.specs.Escape.{escapeByte, escape, quote}
+use Rattle.util.specs.Duration.{countOf, countsOf, durationCounts, displayCount, displayCounts, displayDuration}
 use Rattle.text.specs.Display.{display}
 use Rattle.text.specs.Pretty.{pretty}
 use Rattle.records.specs.Outcome.{Outcome, answer, refusal}
@@ -97,5 +100,5 @@ unfolding readRecord readPage checkAst apply checkPage labelPart
 jointLabel = tt
 
 starred : T (all holds examples)
-unfolding readRecord readPage writeRecord checkAst apply checkPage copyPage display pretty
+unfolding readRecord readPage writeRecord checkAst apply checkPage copyPage digits decimal escapeByte escape quote countOf countsOf durationCounts displayCount displayCounts displayDuration display pretty
 starred = tt
