@@ -4,7 +4,7 @@ ghost use Prim.Native.Nat.{_+_, _<_, _≤_};
 ghost use lib.ListN.{length};
 ghost use Rattle.base.specs.Splice.{Wrote};
 ghost use Rattle.util.specs.Decimal.{decimal, threeDigits};
-use crate::buffer::put_byte;
+use page::put_byte;
 
 // How many digits n has.
 pub fn decimal_len(n: u64) -> usize

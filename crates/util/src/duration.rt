@@ -5,10 +5,10 @@ ghost use Prim.Native.Nat.{_+_, _<_, _≤_};
 ghost use lib.ListN.{length};
 ghost use Rattle.base.specs.Splice.{Wrote};
 ghost use Rattle.util.specs.Duration.{unitAt, unitName, countOf, durationCounts, displayCount, displayDuration};
-use crate::buffer::put_byte;
-use crate::buffer::put_bytes;
 use crate::decimal::decimal_len;
 use crate::decimal::put_decimal;
+use page::put_byte;
+use page::put_bytes;
 
 // The units in milliseconds: year, week, day, hour, minute, second, millisecond.
 const UNITS: [u64; 7] = [31536000000, 604800000, 86400000, 3600000, 60000, 1000, 1];

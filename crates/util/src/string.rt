@@ -4,8 +4,8 @@ ghost use Prim.Native.Nat.{_+_, _≤_, min};
 ghost use lib.ListN.{length};
 ghost use Rattle.base.specs.Splice.{Wrote};
 ghost use Rattle.util.specs.Escape.{escapeByte, escapeWith, escape, quote};
-use crate::buffer::capped_add;
-use crate::buffer::put_byte;
+use crate::capped::capped_add;
+use page::put_byte;
 
 // The letter that stands after a backslash for b, or 0 where b stands for itself.
 pub fn escape_letter(b: u8) -> u8

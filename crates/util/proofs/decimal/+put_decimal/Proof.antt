@@ -1,20 +1,20 @@
 -- `util::decimal::put_decimal` meets its contract: the digits of n / 10, then the last one. It calls itself with n / 10: the measure is n.
 -- Assumes nothing.
-use Rattle.util.proofs.DecimalLaws.{decimal-last, decimal-more}
-use Rattle.base.specs.Splice.{begin, first, room, step, finish, cut-last}
-use lib.ListN.{length}
-use mathlib.Core.Path.{refl, ap}
-use native.Mathlib.Omega.{arith}
 use borrow.Author.Needs.{needs}
-use Prim.Native.Nat.{ℕ, _<_}
 use borrow.Fn.Kinds.{In}
 use borrow.Fn.PlainCycle.{Measures, is, falls, and}
+use Prim.Native.Nat.{ℕ, _<_}
+use native.Mathlib.Omega.{arith}
+use mathlib.Core.Path.{refl, ap}
+use lib.ListN.{length}
+use Rattle.base.specs.Splice.{begin, first, room, step, finish, cut-last}
+use Rattle.page.proofs.write.put_byte.Reads as put-byte-reads
+use Rattle.util.proofs.DecimalLaws.{decimal-last, decimal-more}
 use Rattle.util.proofs.decimal.put_decimal.Reads as put-decimal
 use Rattle.util.proofs.decimal.put_decimal.Kinds as put-decimal-kinds
 use Rattle.util.proofs.decimal.+put_decimal.Lts-put_decimal as put-decimal-lts
-use Rattle.util.proofs.buffer.put_byte.Reads as put-byte-reads
-use Rattle.util.proofs.decimal.+put_decimal.{statement}
 use Rattle.util.proofs.decimal.+put_decimal.Tie.{close}
+use Rattle.util.proofs.decimal.+put_decimal.{statement}
 
 abbrev μ-put-decimal : Measures 1 put-decimal-kinds.ps ℕ
 μ-put-decimal κs a = a .0

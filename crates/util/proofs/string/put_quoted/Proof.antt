@@ -1,16 +1,12 @@
 -- `util::string::put_quoted` meets its contract: the pieces of its text, one after the other. Assumes nothing.
-use Rattle.base.specs.Splice.{join, start, fits, next, end, Run}
+use borrow.Author.Needs.{needs}
+use denote.Ref.{now}
 use mathlib.Core.Path.{refl}
 use mathlib.Core.List.{[], _∷_}
-use denote.Ref.{now}
+use Rattle.base.specs.Splice.{join, start, fits, next, end, Run}
 use Rattle.util.specs.Escape.{escape, quote}
-use borrow.Author.Needs.{needs}
 use Rattle.util.proofs.string.put_quoted.Statement.{statement}
 use Rattle.util.proofs.string.put_quoted.Tie as tie
-use Rattle.util.proofs.string.put_quoted.Reads as reads
-use Rattle.util.proofs.string.put_quoted.Lts as lts
-use Rattle.util.proofs.buffer.put_byte.Reads as put-byte-reads
-use Rattle.util.proofs.string.put_escaped.Reads as put-escaped-reads
 
 -- before the first write
 begun : (s : tie.Start)

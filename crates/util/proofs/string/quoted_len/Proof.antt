@@ -1,14 +1,10 @@
-use Rattle.util.proofs.EscapeLaws.{length-quote}
-use denote.Ref.{now}
-use native.Mathlib.Omega.{arith}
 -- `util::string::quoted_len` meets its contract: two quotes and the escaped text. Assumes nothing.
 use borrow.Author.Needs.{needs}
+use denote.Ref.{now}
+use native.Mathlib.Omega.{arith}
+use Rattle.util.proofs.EscapeLaws.{length-quote}
 use Rattle.util.proofs.string.quoted_len.Statement.{statement}
 use Rattle.util.proofs.string.quoted_len.Tie as tie
-use Rattle.util.proofs.string.quoted_len.Reads as reads
-use Rattle.util.proofs.string.quoted_len.Lts as lts
-use Rattle.util.proofs.buffer.capped_add.Reads as capped-add-reads
-use Rattle.util.proofs.string.escaped_len.Reads as escaped-len-reads
 
 escaped-len-requires : tie.Need-escaped-len-requires
 escaped-len-requires c κs = search needs
