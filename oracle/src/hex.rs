@@ -1,48 +1,52 @@
-//! Pages in hexadecimal, with repetition for long ones: `01 ac02 61*300;` or `(02 02 75 70 00)*3; 08`.
+//! Pages in hexadecimal. Long ones repeat a byte or a group, `01 ac02 61*300;` or `(02 02 75 70 00)*3;`; numbers of the
+//! page may be written in decimal, `03 #1500;`.
 
-/// The bytes that the notation stands for. Panics on a text that is no notation: rows are ours.
+use crate::page::write;
+
+/// The bytes that the notation stands for. Panics on a text that is no notation: the rows are ours.
 pub fn bytes(notation: &str) -> Vec<u8> {
-    let compact: Vec<char> = notation.chars().filter(|c| !c.is_whitespace()).collect();
-    let mut stack: Vec<Vec<u8>> = vec![Vec::new()];
+    let mut groups: Vec<Vec<u8>> = vec![Vec::new()];
     let mut last = 0;
-    let mut at = 0;
-    while at < compact.len() {
-        match compact[at] {
+    let mut rest = notation.trim_start();
+    while let Some(first) = rest.chars().next() {
+        let page = groups.last_mut().expect("the page itself is a group");
+        match first {
             '(' => {
-                stack.push(Vec::new());
-                at += 1;
+                groups.push(Vec::new());
+                rest = &rest[1..];
             }
             ')' => {
-                let group = stack.pop().expect("a bracket is open");
+                let group = groups.pop().expect("a bracket is open");
                 last = group.len();
-                stack.last_mut().expect("a bracket was open").extend(group);
-                at += 1;
+                groups.last_mut().expect("a bracket was open").extend(group);
+                rest = &rest[1..];
             }
             '*' => {
-                let digits: String = compact[at + 1..]
-                    .iter()
-                    .take_while(|c| **c != ';')
-                    .collect();
-                repeat(stack.last_mut().expect("never empty"), last, &digits);
-                at += digits.len() + 2;
+                let (times, after) = decimal(&rest[1..]);
+                let unit = page.split_off(page.len() - last);
+                page.extend(unit.repeat(times as usize));
+                rest = after;
+            }
+            '#' => {
+                let (value, after) = decimal(&rest[1..]);
+                write::number(page, value);
+                rest = after;
             }
             _ => {
-                let pair: String = compact[at..at + 2].iter().collect();
-                let byte = u8::from_str_radix(&pair, 16).expect("two hexadecimal digits");
-                stack.last_mut().expect("never empty").push(byte);
+                page.push(u8::from_str_radix(&rest[..2], 16).expect("hexadecimal digits"));
                 last = 1;
-                at += 2;
+                rest = &rest[2..];
             }
         }
+        rest = rest.trim_start();
     }
-    stack.pop().expect("never empty")
+    groups.pop().expect("the page itself is a group")
 }
 
-/// Puts the last `size` bytes there `times` times in all.
-fn repeat(page: &mut Vec<u8>, size: usize, times: &str) {
-    let unit = page.split_off(page.len() - size);
-    let times: usize = times.parse().expect("a decimal number");
-    page.extend(unit.repeat(times));
+/// A decimal number up to a semicolon, and what follows.
+fn decimal(notation: &str) -> (u64, &str) {
+    let (digits, after) = notation.split_once(';').expect("a semicolon ends a number");
+    (digits.parse().expect("decimal digits"), after)
 }
 
 pub fn text(bytes: &[u8]) -> String {

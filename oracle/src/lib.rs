@@ -5,6 +5,7 @@
 //! which classes of document 01 they reached, `kept` writes the list that other programs replay.
 
 pub mod answer;
+pub mod chosen;
 pub mod copy;
 pub mod hex;
 pub mod page;
