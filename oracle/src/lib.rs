@@ -7,7 +7,11 @@
 pub mod answer;
 pub mod chosen;
 pub mod copy;
+pub mod coverage;
+pub mod generate;
 pub mod hex;
 pub mod page;
+pub mod random;
 pub mod refusal;
+pub mod run;
 pub mod tree;

@@ -1,9 +1,10 @@
 //! Command line of the oracle.
 //!
-//!     oracle answer HEX    what document 01 answers to a page
+//!     oracle answer HEX          what document 01 answers to a page
+//!     oracle run SEED ROUNDS     generated pages, and the classes that they reached
 
 use oracle::answer::{self, Answer, Outcome};
-use oracle::hex;
+use oracle::{hex, run};
 use std::process::ExitCode;
 
 fn main() -> ExitCode {
@@ -11,9 +12,32 @@ fn main() -> ExitCode {
     let words: Vec<&str> = arguments.iter().map(String::as_str).collect();
     match words.as_slice() {
         ["answer", page] => show(&hex::bytes(page)),
-        _ => {
-            eprintln!("usage: oracle answer HEX");
+        ["run", seed, rounds] => match (seed.parse(), rounds.parse()) {
+            (Ok(seed), Ok(rounds)) => report(seed, rounds),
+            _ => usage(),
+        },
+        _ => usage(),
+    }
+}
+
+fn usage() -> ExitCode {
+    eprintln!("usage: oracle answer HEX | run SEED ROUNDS");
+    ExitCode::FAILURE
+}
+
+/// Runs generated pages; a class that never occurred is a failure.
+fn report(seed: u64, rounds: usize) -> ExitCode {
+    match run::run(seed, rounds) {
+        Err(words) => {
+            eprintln!("{words}");
             ExitCode::FAILURE
+        }
+        Ok(coverage) => {
+            print!("{coverage}");
+            for class in coverage.missing() {
+                eprintln!("never occurred: {class}");
+            }
+            ExitCode::from(u8::from(!coverage.missing().is_empty()))
         }
     }
 }
