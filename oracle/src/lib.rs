@@ -10,6 +10,7 @@ pub mod copy;
 pub mod coverage;
 pub mod generate;
 pub mod hex;
+pub mod kept;
 pub mod page;
 pub mod random;
 pub mod refusal;

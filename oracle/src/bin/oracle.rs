@@ -1,62 +1,40 @@
 //! Command line of the oracle.
 //!
-//!     oracle answer HEX          what document 01 answers to a page
-//!     oracle run SEED ROUNDS     generated pages, and the classes that they reached
+//!     oracle answer HEX         what document 01 answers to a page
+//!     oracle run SEED ROUNDS    generated pages, and the classes that they reached
+//!     oracle keep               writes the kept list again
 
-use oracle::answer::{self, Answer, Outcome};
-use oracle::{hex, run};
+use oracle::answer::{self, Outcome};
+use oracle::{hex, kept, run};
 use std::process::ExitCode;
+
+const USAGE: &str = "usage: oracle answer HEX | run SEED ROUNDS | keep";
 
 fn main() -> ExitCode {
     let arguments: Vec<String> = std::env::args().skip(1).collect();
     let words: Vec<&str> = arguments.iter().map(String::as_str).collect();
-    match words.as_slice() {
+    let result = match words.as_slice() {
         ["answer", page] => show(&hex::bytes(page)),
-        ["run", seed, rounds] => match (seed.parse(), rounds.parse()) {
-            (Ok(seed), Ok(rounds)) => report(seed, rounds),
-            _ => usage(),
-        },
-        _ => usage(),
-    }
-}
-
-fn usage() -> ExitCode {
-    eprintln!("usage: oracle answer HEX | run SEED ROUNDS");
-    ExitCode::FAILURE
-}
-
-/// Runs generated pages; a class that never occurred is a failure.
-fn report(seed: u64, rounds: usize) -> ExitCode {
-    match run::run(seed, rounds) {
+        ["run", seed, rounds] => report(seed, rounds),
+        ["keep"] => keep(),
+        _ => Err(USAGE.into()),
+    };
+    match result {
+        Ok(()) => ExitCode::SUCCESS,
         Err(words) => {
             eprintln!("{words}");
             ExitCode::FAILURE
         }
-        Ok(coverage) => {
-            print!("{coverage}");
-            for class in coverage.missing() {
-                eprintln!("never occurred: {class}");
-            }
-            ExitCode::from(u8::from(!coverage.missing().is_empty()))
-        }
     }
 }
 
-fn show(page: &[u8]) -> ExitCode {
-    match answer::answer(page) {
-        Ok(answer) => {
-            print_answer(&answer);
-            ExitCode::SUCCESS
-        }
-        Err(failure) => {
-            eprintln!("{failure:?}");
-            ExitCode::FAILURE
-        }
-    }
-}
-
-fn print_answer(answer: &Answer) {
+fn show(page: &[u8]) -> Result<(), String> {
+    let worked = answer::work(page).map_err(|failure| failure.0)?;
+    let answer = answer::of_worked(&worked);
     println!("{:?} ({:?})", answer.outcome, answer.domain);
+    if let Some(message) = worked.message {
+        println!("the Rust: {message}");
+    }
     if let Some(part) = answer.label {
         println!("label: {}, {}", part.start, part.length);
     }
@@ -65,4 +43,26 @@ fn print_answer(answer: &Answer) {
         println!("canonical: {}", String::from_utf8_lossy(&answer.canonical));
         println!("split:\n{}", String::from_utf8_lossy(&answer.split));
     }
+    Ok(())
+}
+
+/// Runs generated pages; a class that never occurred is a failure.
+fn report(seed: &str, rounds: &str) -> Result<(), String> {
+    let seed = seed.parse().map_err(|_| USAGE)?;
+    let rounds = rounds.parse().map_err(|_| USAGE)?;
+    let coverage = run::run(seed, rounds)?;
+    print!("{coverage}");
+    match coverage.missing().as_slice() {
+        [] => Ok(()),
+        missing => Err(format!("never occurred: {}", missing.join(", "))),
+    }
+}
+
+fn keep() -> Result<(), String> {
+    let entries = kept::entries().map_err(|failure| failure.0)?;
+    let list = kept::list(&entries);
+    std::fs::write(kept::PATH, &list).map_err(|error| error.to_string())?;
+    let (pages, accepted) = kept::counts(&entries);
+    println!("{pages} pages, {accepted} accepted, {} bytes", list.len());
+    Ok(())
 }

@@ -1,11 +1,10 @@
 //! Pages from a seed: good ones, planted faults, damaged copies, sizes at the limits, deep nesting, short and random bytes.
 
 mod call;
+pub mod codes;
 mod damage;
 mod expression;
 pub mod fault;
-mod fault_checks;
-mod fault_fields;
 pub mod limits;
 pub mod nesting;
 mod parts;

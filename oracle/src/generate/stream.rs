@@ -1,6 +1,6 @@
 //! All pages of a run: the fixed ones, then as many rounds as asked for.
 
-use super::{bytes, damaged, fault, good, limits, nesting, shortest};
+use super::{bytes, codes, damaged, fault, good, limits, nesting, shortest};
 use crate::answer::Outcome;
 use crate::chosen;
 use crate::random::Random;
@@ -20,7 +20,7 @@ impl Sample {
     }
 }
 
-/// Chosen pages, the limits, deep nesting.
+/// Chosen pages, the limits, every code and every kind of operand, deep nesting.
 pub fn fixed() -> impl Iterator<Item = Sample> {
     let chosen = chosen::rows().map(|row| Sample::any(row.bytes()));
     let limits = limits::limits().map(|limit| Sample {
@@ -31,7 +31,8 @@ pub fn fixed() -> impl Iterator<Item = Sample> {
         .into_iter()
         .flat_map(nesting::series)
         .map(|(_, page)| Sample::any(page));
-    chosen.chain(limits).chain(nested)
+    let swept = codes::pages().chain(codes::kinds()).map(Sample::any);
+    chosen.chain(limits).chain(swept).chain(nested)
 }
 
 /// Every byte string of at most two bytes.

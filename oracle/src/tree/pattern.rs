@@ -2,7 +2,9 @@
 
 use crate::page::record::{Matcher, Operation};
 use promql_parser::label::{self, MatchOp};
-use promql_parser::parser::token::{T_EQL, T_EQL_REGEX, T_NEQ, T_NEQ_REGEX};
+use promql_parser::parser::token::{TokenId, T_EQL_REGEX, T_NEQ_REGEX};
+use std::cell::RefCell;
+use std::collections::HashMap;
 
 /// Whether a pattern's flag is the Rust's own: document 01 compares only pages where it is.
 #[derive(Debug, Clone, Copy, PartialEq, Eq)]
@@ -26,40 +28,49 @@ pub fn pattern(matcher: &Matcher) -> Pattern {
 
 /// Whether the pattern matches empty text; nothing if the Rust's regex does not take it.
 pub fn matches_empty(pattern: &str) -> Option<bool> {
-    label::Matcher::new_matcher(T_EQL_REGEX, String::new(), pattern.to_string())
-        .ok()
-        .map(|matcher| matcher.is_match(""))
+    operation(T_EQL_REGEX, pattern).map(|operation| is_match(operation, pattern))
+}
+
+fn is_match(operation: MatchOp, pattern: &str) -> bool {
+    label::Matcher::new(operation, "", pattern).is_match("")
+}
+
+/// The Rust's operation for a token and a value, as `new_matcher` makes it; a compiled pattern is remembered.
+fn operation(id: TokenId, value: &str) -> Option<MatchOp> {
+    const MOST: usize = 10_000;
+    thread_local! {
+        static KNOWN: RefCell<HashMap<(TokenId, String), Option<MatchOp>>> = RefCell::default();
+    }
+    KNOWN.with_borrow_mut(|known| {
+        if known.len() >= MOST {
+            known.clear();
+        }
+        known
+            .entry((id, value.to_string()))
+            .or_insert_with(|| {
+                label::Matcher::new_matcher(id, String::new(), value.to_string())
+                    .ok()
+                    .map(|matcher| matcher.op)
+            })
+            .clone()
+    })
 }
 
 pub fn matcher(matcher: &Matcher) -> label::Matcher {
     let name = matcher.name.text.as_ref();
     let value = matcher.value.text.as_ref();
-    let id = match matcher.operation {
-        Operation::Equal => T_EQL,
-        Operation::NotEqual => T_NEQ,
-        Operation::Regex(_) => T_EQL_REGEX,
-        Operation::NotRegex(_) => T_NEQ_REGEX,
+    let (id, flag) = match matcher.operation {
+        Operation::Equal => return label::Matcher::new(MatchOp::Equal, name, value),
+        Operation::NotEqual => return label::Matcher::new(MatchOp::NotEqual, name, value),
+        Operation::Regex(flag) => (T_EQL_REGEX, flag),
+        Operation::NotRegex(flag) => (T_NEQ_REGEX, flag),
     };
-    match pattern(matcher) {
-        Pattern::FlagTrue => label::Matcher::new_matcher(id, name.into(), value.into())
-            .expect("the pattern was taken before"),
-        Pattern::FlagUntrue | Pattern::NotTaken => by_flag(matcher.operation, name, value),
-    }
-}
-
-/// Outside the domain the flag decides alone: a pattern that matches empty text just when the flag says so.
-fn by_flag(operation: Operation, name: &str, value: &str) -> label::Matcher {
-    let taken = |id, flag| {
-        let stand_in = if flag { "" } else { "a" };
-        label::Matcher::new_matcher(id, String::new(), stand_in.into())
-            .expect("a plain pattern is taken")
-            .op
+    // Outside the domain the flag decides alone: a pattern that matches empty text just when the flag says so.
+    let judged = match pattern(matcher) {
+        Pattern::FlagTrue => value,
+        Pattern::FlagUntrue | Pattern::NotTaken if flag => "",
+        Pattern::FlagUntrue | Pattern::NotTaken => "a",
     };
-    let operation = match operation {
-        Operation::Equal => MatchOp::Equal,
-        Operation::NotEqual => MatchOp::NotEqual,
-        Operation::Regex(flag) => taken(T_EQL_REGEX, flag),
-        Operation::NotRegex(flag) => taken(T_NEQ_REGEX, flag),
-    };
+    let operation = operation(id, judged).expect("the pattern is taken");
     label::Matcher::new(operation, name, value)
 }

@@ -1,6 +1,12 @@
 //! One planted fault: good expressions on the stack, the operands of the faulty record, that record, and what follows unread.
 
-use super::{fault_checks, fault_fields, Generator, Records};
+mod aggregate;
+mod binary;
+mod call;
+mod checks;
+mod fields;
+
+use super::{Generator, Records};
 use crate::answer::Outcome;
 use crate::page::record::Kind;
 use crate::page::write;
@@ -17,11 +23,11 @@ pub fn numbers() -> impl Iterator<Item = u8> {
 }
 
 /// A faulty record on the stack that `before` leaves.
-pub(super) struct Fault {
-    pub before: Records,
-    pub record: Vec<u8>,
+struct Fault {
+    before: Records,
+    record: Vec<u8>,
     /// Nothing may follow, since the fault is that the page ends.
-    pub is_last: bool,
+    is_last: bool,
 }
 
 /// A page that is refused with this number, at an index that varies.
@@ -31,8 +37,8 @@ pub fn planted(random: &mut Random, number: u8) -> Planted {
     }
     let mut generator = Generator::new(random, 8);
     let fault = match number {
-        1 | 3 | 4 => fault_fields::fault(&mut generator, number),
-        _ => fault_checks::fault(&mut generator, number),
+        1 | 3 | 4 => fields::fault(&mut generator, number),
+        _ => checks::fault(&mut generator, number),
     };
     let mut records = context(&mut generator, 2);
     records.extend(fault.before);
@@ -87,7 +93,7 @@ fn operands_missing(random: &mut Random) -> Planted {
     }
     let mut page = write::page(&records);
     if !is_at_end {
-        write::record(&mut page, &fault_checks::wanting(&mut generator, values));
+        write::record(&mut page, &checks::wanting(&mut generator, values));
         page.extend(unread(generator.random));
     }
     Planted {
