@@ -1,6 +1,5 @@
 // A number in the copy: its form negated by each unary record behind it, all else as on the page.
 ghost use mathlib.Core.Path.{_≡_};
-
 ghost use lib.ListN.{drop, getD};
 ghost use Rattle.base.specs.Splice.{Wrote};
 ghost use Rattle.copy.specs.Piece.{unaries, negatedForm, formBehind, pieceOf};
