@@ -74,7 +74,7 @@ impl Generator<'_> {
                 18 => left == Kind::Scalar && right == Kind::Scalar,
                 20 => has(Kind::Scalar),
                 21 => are_vectors,
-                22 => !is_numeric && !(is_set_operator(code) && has(Kind::Scalar)),
+                22 => !(is_numeric || is_set_operator(code) && has(Kind::Scalar)),
                 23 => is_numeric && !are_vectors,
                 _ => true,
             };
