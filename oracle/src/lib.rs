@@ -11,6 +11,7 @@ pub mod coverage;
 pub mod generate;
 pub mod hex;
 pub mod kept;
+pub mod lines;
 pub mod page;
 pub mod random;
 pub mod refusal;
