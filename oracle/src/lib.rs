@@ -11,7 +11,6 @@ pub mod coverage;
 pub mod generate;
 pub mod hex;
 pub mod kept;
-pub mod lines;
 pub mod page;
 pub mod random;
 pub mod refusal;

@@ -3,17 +3,12 @@
 //!     oracle answer HEX         what document 01 answers to a page
 //!     oracle run SEED ROUNDS    generated pages, and the classes that they reached
 //!     oracle keep               writes the kept list again
-//!     oracle pages SEED ROUNDS  writes the pages of a run, each with its length
-//!     oracle lines              the records of such pages, as the program `show_records` shows them
 
 use oracle::answer::{self, Outcome};
-use oracle::generate::stream;
-use oracle::random::Random;
-use oracle::{hex, kept, lines, run};
-use std::io::{self, Write};
+use oracle::{hex, kept, run};
 use std::process::ExitCode;
 
-const USAGE: &str = "usage: oracle answer HEX | run SEED ROUNDS | keep | pages SEED ROUNDS | lines";
+const USAGE: &str = "usage: oracle answer HEX | run SEED ROUNDS | keep";
 
 fn main() -> ExitCode {
     let arguments: Vec<String> = std::env::args().skip(1).collect();
@@ -22,8 +17,6 @@ fn main() -> ExitCode {
         ["answer", page] => show(&hex::bytes(page)),
         ["run", seed, rounds] => report(seed, rounds),
         ["keep"] => keep(),
-        ["pages", seed, rounds] => pages(seed, rounds),
-        ["lines"] => show_lines().map_err(|error| error.to_string()),
         _ => Err(USAGE.into()),
     };
     match result {
@@ -71,24 +64,5 @@ fn keep() -> Result<(), String> {
     std::fs::write(kept::PATH, &list).map_err(|error| error.to_string())?;
     let (pages, accepted) = kept::counts(&entries);
     println!("{pages} pages, {accepted} accepted, {} bytes", list.len());
-    Ok(())
-}
-
-fn pages(seed: &str, rounds: &str) -> Result<(), String> {
-    let mut random = Random::new(seed.parse().map_err(|_| USAGE)?);
-    let rounds: usize = rounds.parse().map_err(|_| USAGE)?;
-    let rounds = (0..rounds).flat_map(|_| stream::round(&mut random));
-    let mut out = io::BufWriter::new(io::stdout().lock());
-    for sample in stream::fixed().chain(stream::short()).chain(rounds) {
-        lines::frame(&sample.page, &mut out).map_err(|error| error.to_string())?;
-    }
-    Ok(())
-}
-
-fn show_lines() -> io::Result<()> {
-    let mut out = io::BufWriter::new(io::stdout().lock());
-    for page in lines::frames(io::stdin().lock())? {
-        out.write_all(lines::of_page(&page).as_bytes())?;
-    }
     Ok(())
 }

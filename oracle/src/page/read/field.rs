@@ -23,11 +23,6 @@ impl<'a> Reader<'a> {
         Self { page, at: 0 }
     }
 
-    /// Where the next field starts.
-    pub fn position(&self) -> usize {
-        self.at
-    }
-
     pub fn is_at_end(&self) -> bool {
         self.at == self.page.len()
     }
