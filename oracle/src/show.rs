@@ -18,7 +18,7 @@ pub fn lines(page: &[u8]) -> Vec<String> {
             }
         }
     }
-    lines.push("end".into());
+    lines.push(format!("end {}", lines.len()));
     lines
 }
 
