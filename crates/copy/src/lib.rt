@@ -4,3 +4,6 @@ pub mod number;
 pub mod operator;
 pub mod piece;
 pub mod whole;
+
+pub use whole::copy_fits;
+pub use whole::put_copy;
