@@ -15,11 +15,11 @@ use Rattle.ast.specs.Construct.{noTimes}
 use Rattle.ast.specs.CheckPage.{wrap}
 use Rattle.ast.specs.Tables.{treeAt, Tables}
 use Rattle.text.specs.Layout.{Layout, whole, negation, suffixed, enclosed, infixed, layoutOf}
-use Rattle.text.specs.Chain.{settled}
+use Rattle.text.specs.Chain.{withAt, withOffset, settled}
 use Rattle.text.specs.Seen.{Reads, Seen}
 use Rattle.text.proofs.EntryLaws.{leaf-tree, wrapped, negated, unary-value}
 use Rattle.text.proofs.SeenLaws.{number-is, seen-subquery, seen-paren, seen-binary, seen-aggregate, seen-call}
-use Rattle.text.proofs.ChainLaws.{withAt, withOffset, settled-nothing, chain-range, chain-at, chain-offset}
+use Rattle.text.proofs.ChainLaws.{settled-nothing, chain-range, chain-at, chain-offset}
 
 -- ## The sign
 
