@@ -10,7 +10,8 @@ use lib.Dec.{eqb, ltb}
 use Rattle.page.specs.Bytes.{pick}
 use Rattle.records.specs.Code.{word}
 use Rattle.records.specs.Literal.{Literal, plus, minus, nan, whole, infinite}
-use Rattle.util.specs.Decimal.{digits}
+use Rattle.util.specs.Decimal.{digits, decimal}
+use Rattle.util.specs.Escape.{quote}
 use Rattle.util.specs.Numeral.{displayLiteral}
 use Rattle.ast.specs.Expr.{Expr, Aggregate, AggregateParam, Unary, Binary, Paren, Subquery, NumberLiteral, StringLiteral, VectorSelector, MatrixSelector, Call}
 use Rattle.text.specs.Display.{display, displaySelector}
@@ -61,6 +62,7 @@ Sound (MatrixSelector s t r) = Begins (displaySelector s)
 Sound (Call f es) = Begins (f .name)
 
 digits-begin : (k n : ℕ) → Begins (digits k n)
+unfolding digits
 digits-begin zero n = begins (48 + n) [] (omega arith)
 digits-begin (suc k) n = by (ltb n 10) (digits-begin k (n / 10))
   where
@@ -69,13 +71,14 @@ digits-begin (suc k) n = by (ltb n 10) (digits-begin k (n / 10))
     by false d = begins-append _ d
 
 literal-begins : (l : Literal) → Begins (displayLiteral l)
+unfolding decimal
 literal-begins (plus (whole n)) = digits-begin n n
 literal-begins (plus infinite) = begins 73 _ (omega arith)
 literal-begins (minus m) = begins 45 _ (omega arith)
 literal-begins nan = begins 78 _ (omega arith)
 
 pub display-begins : (e : Expr) → Sound e → Begins (display e)
-unfolding display
+unfolding display quote
 display-begins (Aggregate c m e) s = begins-append _ (begins-append _ (begins-append _ (begins-append _ s)))
 display-begins (AggregateParam c m p e) s = begins-append _ (begins-append _ (begins-append _ (begins-append _ s)))
 display-begins (Unary e) s = begins 45 _ (omega arith)
