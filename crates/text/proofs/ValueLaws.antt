@@ -70,7 +70,7 @@ Joins (infixed operator) = Unit {0}
 joins-unvalued : (e : Expr) {own : Layout} → layoutOf e ≡ own → Joins own → scalarValue e ≡ none
 joins-unvalued e is j = unvalued e (λ l k. rw (← is, k) at j)
 
-settled-value : (n : Option ℕ) (u : Times) (e : Expr) → scalarValue (settled n u e) ≡ scalarValue e
+pub settled-value : (n : Option ℕ) (u : Times) (e : Expr) → scalarValue (settled n u e) ≡ scalarValue e
 unfolding settled
 settled-value n u (Aggregate c m e) = refl
 settled-value n u (AggregateParam c m p e) = refl
