@@ -15,15 +15,18 @@ use Rattle.reader.specs.declared.Record.the-variants as code
 use Rattle.ast.specs.Expr.{Expr, scalarValue}
 use Rattle.ast.specs.Construct.{noTimes}
 use Rattle.ast.specs.Tables.{treeAt, Tables}
+use Rattle.text.specs.Layout.{negation}
 use Rattle.text.specs.Chain.{withAt, withOffset, settled}
 use Rattle.text.specs.Answers.{timesOf}
 use Rattle.text.proofs.EntryLaws.{wrapped}
 use Rattle.text.proofs.SeenLaws.{seen-number, seen-string, seen-selector, seen-subquery, seen-paren, seen-literal, seen-unary, seen-binary, seen-aggregate, seen-call}
 use Rattle.text.proofs.ChainLaws.{settled-nothing, chain-range, chain-at, chain-offset}
 use Rattle.text.proofs.ValueLaws.{settled-value}
-use Rattle.view.specs.View.{Starts, Standing, Viewed, Unvalued, Below}
+use Rattle.view.specs.View.{Starts, Standing, layoutOn, Viewed, Unvalued, Below, isMinus}
 use Rattle.view.specs.declared.Parts.{Parts}
+use Rattle.view.specs.declared.Own.{Own}
 use Rattle.view.specs.declared.Own.the-variants as own
+use Rattle.view.specs.declared.View.{View}
 use Rattle.view.proofs.ViewLaws.{starts-fewer}
 
 -- at the start nothing is set
@@ -102,3 +105,18 @@ module _ {page starts : List ℕ} {i j : ℕ} {parts : Parts} (s : Starts page s
 
   pub view-literal : {l : _} → some (literalOf l) ≡ scalarValue (treeAt page j) → Viewed page i (record { own = own.Number l; end = j; count = 0 })
   view-literal {l} v = record { seen = seen-literal tables j (b .low) _ _ (b .tree) (literalOf l) (sym v); lies = tt }
+
+-- the operand of a minus is no bare number
+pub minus-unvalued : {page : List ℕ} {i : ℕ} {v : View} → Viewed page i v → Unvalued page (v .end - 1) (isMinus (v .own))
+minus-unvalued {page} {i} {v} w m = w .seen .unsigned (negates (v .own) m)
+  where
+    negates : (o : Own) → isMinus o ≡ true → layoutOn page o ≡ negation
+    negates (own.Number l) h = cc
+    negates (own.String t) h = cc
+    negates (own.Selector t p) h = cc
+    negates (own.Subquery n t p) h = cc
+    negates own.Unary h = refl
+    negates own.Paren h = cc
+    negates (own.Binary c o) h = cc
+    negates (own.Aggregate c o) h = cc
+    negates (own.Call f) h = cc

@@ -1,7 +1,7 @@
 -- What the functions of this crate say of a page's records.
 use Prim.Native.Nat.{ℕ, _≤_}
 use mathlib.Core.Path.{_≡_}
-use mathlib.Core.Bool.{Bool, true}
+use mathlib.Core.Bool.{Bool, true, false}
 use mathlib.Core.List.{List, [], _++_}
 use mathlib.Core.Option.{Option, none, some}
 use Rattle.page.specs.Answers.{spanOn, Lies}
@@ -76,3 +76,15 @@ Unvalued page i mark = mark ≡ true → scalarValue (treeAt page i) ≡ none
 pub record Below (page : List ℕ) (i j : ℕ) (parts : Parts) : Type 0 where
   pub low : j ≤ i
   pub tree : treeAt page i ≡ settled (stepOf (parts .range)) (timesOf (parts .times)) (treeAt page j)
+
+-- a minus before the operand
+abbrev pub isMinus : Own → Bool
+isMinus (own.Number l) = false
+isMinus (own.String s) = false
+isMinus (own.Selector s p) = false
+isMinus (own.Subquery n s p) = false
+isMinus own.Unary = true
+isMinus own.Paren = false
+isMinus (own.Binary c m) = false
+isMinus (own.Aggregate c m) = false
+isMinus (own.Call f) = false

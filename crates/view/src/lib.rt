@@ -14,7 +14,7 @@ ghost use Rattle.ast.specs.Tables.{treeAt};
 ghost use mathlib.Core.Option.{some};
 ghost use Rattle.text.specs.Chain.{withAt, withOffset};
 ghost use Rattle.text.specs.Answers.{timesOf};
-ghost use Rattle.view.specs.View.{Starts, Standing, signedOf, Viewed, Unvalued, Below};
+ghost use Rattle.view.specs.View.{Starts, Standing, signedOf, Viewed, Unvalued, Below, isMinus};
 
 // What the records above a selector or a subquery have set. A subquery has no range of this kind.
 pub struct Parts {
@@ -212,4 +212,21 @@ pub fn view_at(page: &[u8], starts: &[u16], i: usize, unvalued: bool) -> View
         times: times,
     };
     view_from(page, starts, i, i, parts, unvalued)
+}
+
+// Whether the node is a minus before its operand.
+pub fn is_minus(own: Own) -> bool
+    ensures { λ r. ⌜ r ≡ isMinus own ⌝ }
+{
+    match own {
+        Own::Number(_) => false,
+        Own::String(_) => false,
+        Own::Selector(_, _) => false,
+        Own::Subquery(_, _, _) => false,
+        Own::Unary => true,
+        Own::Paren => false,
+        Own::Binary(_, _) => false,
+        Own::Aggregate(_, _) => false,
+        Own::Call(_) => false,
+    }
 }
