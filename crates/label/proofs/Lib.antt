@@ -1,1 +1,4 @@
 pub mod LabelLaws
+pub mod SymbolLaws
+pub mod MatcherLaws
+pub mod KeyLaws

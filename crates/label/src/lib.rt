@@ -1,5 +1,7 @@
 // Texts of labels and matchers (label/mod.rs, label/matcher.rs): the definitions stand in specs/.
+pub mod key;
 pub mod label;
+pub mod order;
 
 pub use label::label_len;
 pub use label::labels_len;
