@@ -11,7 +11,7 @@ use lib.Dec.{T, leb, leb→le, le→leb}
 use borrow.Author.Tests.{leb-true, le-leb}
 use Rattle.page.specs.Bytes.{pick}
 use Rattle.page.specs.Limits.{numberLimit, countLimit}
-use Rattle.page.specs.Read.{FieldFault, badField, pastLimit, badText, Read, refused, got, Reader, andThen, _>>=_, return, ensure, readerAt, repeat, readBytes}
+use Rattle.page.specs.Read.{FieldFault, badField, pastLimit, badText, Read, refused, got, Reader, andThen, _>>=_, return, refuse, ensure, readerAt, repeat, readBytes}
 use Rattle.page.specs.Number.{readGroups, readNumber, readChoice, writeNumber}
 use Rattle.page.specs.Text.{Text, readText, readCount, readList, writeText, writeAll, writeList}
 use Rattle.page.specs.Allowed.{IsNumber, IsCount, IsTextOf, Each, IsListOf}
@@ -57,6 +57,13 @@ module _ {A : Type 0} where
       by (refused f) g = tt
       by (got a rest) g = k a g
 
+  pub gives-any : (r : Reader A) → Gives r (λ a. Unit {0})
+  gives-any r = record { gives = λ s. by (r s) }
+    where
+      by : (m : Read A) → Got (λ a. Unit {0}) m
+      by (refused f) = tt
+      by (got a rest) = tt
+
   pub gives-return : {P : A → Type 0} (a : A) → P a → Gives (return a) P
   gives-return a h = record { gives = λ s. h }
 
@@ -97,35 +104,28 @@ pub readNumber-back : ReadsBack readNumber writeNumber IsNumber
 readNumber-back n h = reads-tested {r = readGroups} (λ n. leb n numberLimit) badField (record { reads = read-written n }) (le→leb n numberLimit h)
 
 pub readNumber-gives : Gives readNumber IsNumber
-readNumber-gives = gives-bind {P = λ n. Unit {0}} _ anything (λ n h. gives-ensure (leb n numberLimit) badField n (λ t. leb→le n numberLimit t))
-  where
-    any : (m : Read ℕ) → Got (λ n. Unit {0}) m
-    any (refused f) = tt
-    any (got n rest) = tt
-
-    anything : Gives readGroups (λ n. Unit {0})
-    anything = record { gives = λ s. any (readGroups s) }
+readNumber-gives = gives-bind _ (gives-any readGroups) (λ n h. gives-ensure (leb n numberLimit) badField n (λ t. leb→le n numberLimit t))
 
 module _ {A : Type 0} where
   -- the bytes of a form stand behind its number
   pub reads-choice : (rs : List (Reader A)) (n : ℕ) {u : List ℕ} {a : A} → IsNumber n → Reads (readerAt rs n) u a → Reads (readChoice rs) (writeNumber n ++ u) a
   reads-choice rs n h k = reads-bind (readerAt rs) (readNumber-back n h) k
 
--- each form of a choice gives values with the property
-module _ {A : Type 0} (P : A → Type 0) where
+-- each form of a choice has the property
+module _ {A : Type 0} (Q : Reader A → Type 0) where
   infixr 5 _also_
-  pub data EachGives : List (Reader A) → Type 0 where
-    noMore : EachGives []
-    _also_ : {r : Reader A} {rs : List (Reader A)} → Gives r P → EachGives rs → EachGives (r ∷ rs)
+  pub data EachForm : List (Reader A) → Type 0 where
+    noMore : EachForm []
+    _also_ : {r : Reader A} {rs : List (Reader A)} → Q r → EachForm rs → EachForm (r ∷ rs)
 
-module _ {A : Type 0} {P : A → Type 0} where
-  at-gives : {rs : List (Reader A)} → EachGives P rs → (n : ℕ) → Gives (readerAt rs n) P
-  at-gives noMore n = record { gives = λ s. tt }
-  at-gives (h also hs) zero = h
-  at-gives (h also hs) (suc n) = at-gives hs n
+module _ {A : Type 0} where
+  pub at-form : {Q : Reader A → Type 0} {rs : List (Reader A)} → Q (refuse badField) → EachForm Q rs → (n : ℕ) → Q (readerAt rs n)
+  at-form past noMore n = past
+  at-form past (h also hs) zero = h
+  at-form past (h also hs) (suc n) = at-form past hs n
 
-  pub gives-choice : {rs : List (Reader A)} → EachGives P rs → Gives (readChoice rs) P
-  gives-choice {rs} h = gives-bind (readerAt rs) readNumber-gives (λ n g. at-gives h n)
+  pub gives-choice : {P : A → Type 0} {rs : List (Reader A)} → EachForm (λ r. Gives r P) rs → Gives (readChoice rs) P
+  gives-choice {P} {rs} h = gives-bind (readerAt rs) readNumber-gives (λ n g. at-form {Q = λ r. Gives r P} (record { gives = λ s. tt }) h n)
 
 -- ## Texts
 
