@@ -2,19 +2,21 @@
 use Prim.Native.Nat.{ℕ, _+_, _-_, _*_, _/_, _%_, _≤_, _<_}
 use native.Mathlib.Omega.{arith}
 use mathlib.Core.Bool.{Bool, true, false}
-use mathlib.Core.List.{List, [], _∷_}
+use mathlib.Core.List.{List, [], _∷_, _++_, append-nil}
 use mathlib.Core.Path.{_≡_, refl, sym, ap, _∙_}
 use lib.Dec.{eqb}
 use lib.ListN.{length, take, drop, length-drop}
 use lib.Seq.{length-take-le}
+use Rattle.base.specs.Splice.{join}
+use Rattle.util.specs.Escape.{quote}
 use Rattle.page.specs.Bytes.{pick}
 use Rattle.page.specs.Limits.{pageLimit, textLimit}
 use Rattle.page.specs.Text.{isLabel}
 use Rattle.page.specs.Answers.{spanOn, Lies}
 use Rattle.page.specs.declared.text.Span.{Span}
 use Rattle.label.specs.declared.key.Printed.{Printed}
-use Rattle.label.specs.Label.{atMost}
-use Rattle.label.specs.Symbols.{matcherText}
+use Rattle.label.specs.Label.{displayLabel, atMost}
+use Rattle.label.specs.Symbols.{operatorWord, matcherText}
 use Rattle.label.specs.Key.{unpacked, printedText, keyText, Prints}
 
 -- ## Sizes of parts
@@ -95,3 +97,13 @@ pub asked : (page : List ℕ) (k : ℕ) (a : Printed) (n v : List ℕ) → a ≡
 asked page k a n v is w en ev =
     let p : Prints page a = rw is w in
     (rw en (p .label), p .op, rw en (p .nameSize), rw ev (p .valueSize))
+
+-- ## keyText in the pieces that are written
+
+pub keyText-prints : (page : List ℕ) (k : ℕ) (a : Printed) → a ≡ unpacked k → Prints page (unpacked k) → Prints page a
+keyText-prints page k a is w = rw is w
+
+pub keyText-pieces : (page : List ℕ) (k : ℕ) (a : Printed) → a ≡ unpacked k
+    → keyText page k ≡ join (displayLabel (spanOn page (a .name)) ∷ operatorWord (a .op) ∷ quote (spanOn page (a .value)) ∷ [])
+unfolding keyText printedText matcherText join
+keyText-pieces page k a is = rw (← is) (ap (λ (l : List ℕ). displayLabel (spanOn page (a .name)) ++ (operatorWord (a .op) ++ l)) (sym (append-nil (quote (spanOn page (a .value))))))

@@ -4,11 +4,13 @@ use mathlib.Core.Bool.{Bool}
 use mathlib.Core.List.{List, [], _∷_, map}
 use mathlib.Core.Path.{_≡_}
 use lib.Dec.{eqb}
-use lib.ListN.{length}
+use lib.ListN.{length, take}
 use Rattle.page.specs.Limits.{textLimit}
 use Rattle.page.specs.Text.{isLabel}
 use Rattle.page.specs.Answers.{spanOn, Lies}
 use Rattle.label.specs.declared.key.Printed.{Printed}
+use Rattle.records.specs.Matcher.{Matcher}
+use Rattle.label.specs.Label.{displayMatcher, sort}
 use Rattle.label.specs.Symbols.{matcherText}
 
 -- lowest first: 1 bit for a bare name, 2 for the operator, 8 for the value's size, 15 for its start, 8 for the name's size, then its start
@@ -41,6 +43,11 @@ pub record Prints (page : List ℕ) (p : Printed) : Type 0 where
 abbrev pub IsKey : List ℕ → ℕ → Type 0
 IsKey page k = Prints page (unpacked k)
 
+-- the printed parts are a matcher's
+pub record PrintsAs (page : List ℕ) (m : Matcher) (p : Printed) : Type 0 where
+  pub prints : Prints page p
+  pub text : printedText page p ≡ displayMatcher m
+
 -- every number of the list is a key
 unfoldable pub AreKeys : List ℕ → List ℕ → Type 0
 AreKeys page [] = Unit {0}
@@ -49,3 +56,14 @@ AreKeys page (k ∷ ks) = IsKey page k × AreKeys page ks
 -- the texts of the keys, in their order
 unfoldable pub keyTexts : List ℕ → List ℕ → List (List ℕ)
 keyTexts page ks = map (keyText page) ks
+
+-- the same keys, in the order of their texts
+pub record Sorts (page before after : List ℕ) : Type 0 where
+  pub sorted : keyTexts page after ≡ sort (keyTexts page before)
+  pub keys : AreKeys page after
+
+-- the first n keys are those of the matchers, in their order
+pub record Collected (page : List ℕ) (ms : List Matcher) (keys : List ℕ) (n : ℕ) : Type 0 where
+  pub texts : keyTexts page (take n keys) ≡ map displayMatcher ms
+  pub areKeys : AreKeys page (take n keys)
+  pub inside : n ≤ length keys
