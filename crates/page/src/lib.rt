@@ -1,1 +1,33 @@
-// The page format: numbers, texts, readers. The definitions stand in specs/, laws of them in proofs/.
+// The fields of a page (document 01, 'The page', house format): numbers, counts and texts, read at a position and written into a buffer.
+pub mod fault;
+pub mod list;
+pub mod name;
+pub mod number;
+pub mod text;
+pub mod write;
+
+pub use fault::Fault;
+pub use list::ListField;
+pub use name::ByteClass;
+pub use name::all_in;
+pub use name::byte_is;
+pub use name::is_label;
+pub use name::is_metric_name;
+pub use name::is_name_of;
+pub use name::is_text;
+pub use number::Count;
+pub use number::Number;
+pub use number::read_count;
+pub use number::read_number;
+pub use text::Span;
+pub use text::Text;
+pub use text::TextClass;
+pub use text::read_text;
+pub use text::same_text;
+pub use text::text_at;
+pub use text::within;
+pub use write::number_len;
+pub use write::put_byte;
+pub use write::put_bytes;
+pub use write::put_number;
+pub use write::put_text;

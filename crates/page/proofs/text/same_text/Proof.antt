@@ -1,0 +1,61 @@
+-- `page::text::same_text` meets its contract. The loop's invariant: what is left of both texts decides. Assumes nothing.
+use denote.Ref.{now}
+use Rattle.page.proofs.TextLaws.{lengths-differ, equal-stop, equal-go, equal-end}
+use Rattle.page.specs.Bytes.{equal}
+use lib.ListN.{length, drop}
+use mathlib.Core.Path.{_≡_, refl}
+use Prim.Native.Nat.{_-_}
+use borrow.Author.Needs.{needs}
+use Rattle.page.proofs.text.same_text.Statement.{statement}
+use Rattle.page.proofs.text.same_text.Tie as tie
+use Rattle.page.proofs.text.same_text.Reads as reads
+use Rattle.page.proofs.text.same_text.Lts as lts
+
+abbrev Inv-loop : tie.InvT-loop
+Inv-loop a b i₀ i = equal a b ≡ equal (drop i a) (drop i b)
+
+abbrev μ-loop : tie.MeasureT-loop
+μ-loop a b i₀ i = length a - i
+
+returns : tie.Need-returns Inv-loop μ-loop
+returns c = lengths-differ (now (c .before .args .a)) (now (c .before .args .b)) (c .if1 .taken)
+
+loop-holds : tie.Need-loop-holds Inv-loop μ-loop
+loop-holds c = refl
+
+shared-slice-read-if2 : tie.Need-shared-slice-read-if2 Inv-loop μ-loop
+shared-slice-read-if2 c = search needs
+
+shared-slice-read-if2-2 : tie.Need-shared-slice-read-if2-2 Inv-loop μ-loop
+shared-slice-read-if2-2 c = search needs
+
+returns-2 : tie.Need-returns-2 Inv-loop μ-loop
+returns-2 c = equal-stop (now (c .before .before .before .before .before .before .args .a)) (now (c .before .before .before .before .before .before .args .b)) (c .before .before .before .before .loop .i) (c .before .before .before .before .loop .inv) (c .before .before .before .before .before .if1 .left) (c .before .before .before .loop-test .taken) (c .if2 .taken)
+
+add-i : tie.Need-add-i Inv-loop μ-loop
+add-i c = search needs
+
+loop-less : tie.Need-loop-less Inv-loop μ-loop
+loop-less c = search needs
+
+loop-again : tie.Need-loop-again Inv-loop μ-loop
+loop-again c = equal-go (now (c .before .before .before .before .before .before .args .a)) (now (c .before .before .before .before .before .before .args .b)) (c .before .before .before .before .loop .i) (c .before .before .before .before .loop .inv) (c .before .before .before .before .before .if1 .left) (c .before .before .before .loop-test .taken) (c .if2 .left)
+
+returns-3 : tie.Need-returns-3 Inv-loop μ-loop
+returns-3 c = equal-end (now (c .before .before .before .args .a)) (now (c .before .before .before .args .b)) (c .before .loop .i) (c .before .loop .inv) (c .before .before .if1 .left) (c .loop-test .left)
+
+pub same-text-spec : {M : Type 1} → statement M
+same-text-spec =
+    tie.close
+    (tie.spec
+    Inv-loop
+    μ-loop
+    returns
+    loop-holds
+    shared-slice-read-if2
+    shared-slice-read-if2-2
+    returns-2
+    add-i
+    loop-less
+    loop-again
+    returns-3)

@@ -1,0 +1,76 @@
+// Numbers: groups of seven bits, lowest first, the high bit of each byte set except the last; shortest form, at most 2^53.
+use crate::fault::Fault;
+ghost use mathlib.Core.Path.{_≡_};
+ghost use Prim.Native.Nat.{_≤_};
+ghost use lib.ListN.{length, drop};
+ghost use Rattle.page.specs.Number.{readNumber};
+ghost use Rattle.page.specs.Text.{readCount};
+ghost use Rattle.page.specs.Answers.{numberAt, numberEnd, readUpTo, countAt};
+
+// The highest number that a page may hold, 2^53.
+pub const LIMIT: u64 = 9007199254740992;
+
+// A number and the position behind it. Whatever is wrong with a number is a bad field.
+pub enum Number {
+    Got(u64, usize),
+    Bad,
+}
+
+// The number at a position, if it is at most `limit`. The groups behind the first make a number of at most `limit / 128`, so the
+// calls are no deeper than the limit has groups.
+pub fn read_up_to(page: &[u8], at: usize, limit: u64) -> Number
+    ensures { λ r. ⌜ numberAt (now (page .entry)) r ≡ readUpTo limit (drop at (now (page .entry))) ⌝ }
+    ensures { λ r. ⌜ numberEnd r ≤ length (now (page .entry)) ⌝ }
+{
+    if page.len() <= at {
+        return Number::Bad;
+    }
+    let b = page[at] as u64;
+    if limit < b {
+        return Number::Bad;
+    }
+    if b < 128 {
+        return Number::Got(b, at + 1);
+    }
+    match read_up_to(page, at + 1, limit / 128) {
+        Number::Got(v, next) => {
+            if v == 0 {
+                return Number::Bad;
+            }
+            let n = b - 128 + 128 * v;
+            if limit < n {
+                return Number::Bad;
+            }
+            Number::Got(n, next)
+        }
+        Number::Bad => Number::Bad,
+    }
+}
+
+pub fn read_number(page: &[u8], at: usize) -> Number
+    ensures { λ r. ⌜ numberAt (now (page .entry)) r ≡ readNumber (drop at (now (page .entry))) ⌝ }
+    ensures { λ r. ⌜ numberEnd r ≤ length (now (page .entry)) ⌝ }
+{
+    read_up_to(page, at, LIMIT)
+}
+
+// A count of labels, matchers, kinds or arguments, and the position behind it.
+pub enum Count {
+    Got(usize, usize),
+    Bad(Fault),
+}
+
+pub fn read_count(page: &[u8], at: usize) -> Count
+    ensures { λ r. ⌜ countAt (now (page .entry)) r ≡ readCount (drop at (now (page .entry))) ⌝ }
+{
+    match read_number(page, at) {
+        Number::Got(n, next) => {
+            if n <= 16 {
+                Count::Got(n as usize, next)
+            } else {
+                Count::Bad(Fault::PastLimit)
+            }
+        }
+        Number::Bad => Count::Bad(Fault::BadField),
+    }
+}

@@ -1,0 +1,126 @@
+// Texts: a length and bytes, one field. Cut short is a bad field, then too long, then not allowed.
+use crate::fault::Fault;
+use crate::name::is_label;
+use crate::name::is_metric_name;
+use crate::name::is_text;
+use crate::number::Number;
+use crate::number::read_number;
+ghost use mathlib.Core.Path.{_≡_};
+ghost use Prim.Native.Nat.{_≤_};
+ghost use lib.ListN.{length, drop};
+ghost use Rattle.page.specs.Bytes.{equal};
+ghost use Rattle.page.specs.Text.{isSelectorName};
+ghost use Rattle.page.specs.Answers.{limitOf, allowedBy, readTextOf, spanOn, Lies, textAt, textLies, Within};
+
+// A part of the page, from its first byte to the position behind its last.
+pub struct Span {
+    pub start: usize,
+    pub end: usize,
+}
+
+// The bytes of a part.
+pub fn text_at(page: &[u8], span: Span) -> &[u8]
+    requires { ⌜ Lies (now page) span ⌝ }
+    ensures { λ r. ⌜ now r ≡ spanOn (now (page .entry)) span ⌝ }
+{
+    let start = span.start;
+    let end = span.end;
+    &page[start..end]
+}
+
+// The texts of a page: strings, labels and values; metric names; function names.
+pub enum TextClass {
+    Any,
+    MetricName,
+    FunctionName,
+}
+
+pub fn text_limit(class: TextClass) -> usize
+    ensures { λ r. ⌜ r ≡ limitOf class ⌝ }
+{
+    match class {
+        TextClass::Any => 255,
+        TextClass::MetricName => 255,
+        TextClass::FunctionName => 64,
+    }
+}
+
+// A selector's name, or no bytes where there is none.
+pub fn is_selector_name(text: &[u8]) -> bool
+    ensures { λ r. ⌜ r ≡ isSelectorName (now (text .entry)) ⌝ }
+{
+    if text.len() == 0 {
+        return true;
+    }
+    is_metric_name(text)
+}
+
+pub fn text_allowed(text: &[u8], class: TextClass) -> bool
+    ensures { λ r. ⌜ r ≡ allowedBy class (now (text .entry)) ⌝ }
+{
+    match class {
+        TextClass::Any => is_text(text),
+        TextClass::MetricName => is_selector_name(text),
+        TextClass::FunctionName => is_label(text),
+    }
+}
+
+// A text's part of the page. The next field starts at its end.
+pub enum Text {
+    Got(Span),
+    Bad(Fault),
+}
+
+pub fn read_text(page: &[u8], at: usize, class: TextClass) -> Text
+    ensures { λ r. ⌜ textAt (now (page .entry)) r ≡ readTextOf class (drop at (now (page .entry))) ⌝ }
+    ensures { λ r. ⌜ textLies (now (page .entry)) r ⌝ }
+{
+    match read_number(page, at) {
+        Number::Got(n, start) => {
+            let size = n as usize;
+            if page.len() - start < size {
+                return Text::Bad(Fault::BadField);
+            }
+            if text_limit(class) < size {
+                return Text::Bad(Fault::PastLimit);
+            }
+            let end = start + size;
+            if text_allowed(&page[start..end], class) {
+                Text::Got(Span {
+                    start: start,
+                    end: end,
+                })
+            } else {
+                Text::Bad(Fault::BadText)
+            }
+        }
+        Number::Bad => Text::Bad(Fault::BadField),
+    }
+}
+
+// Whether two texts have the same bytes.
+pub fn same_text(a: &[u8], b: &[u8]) -> bool
+    ensures { λ r. ⌜ r ≡ equal (now (a .entry)) (now (b .entry)) ⌝ }
+{
+    if a.len() != b.len() {
+        return false;
+    }
+    let mut i = 0;
+    while i < a.len() {
+        if a[i] != b[i] {
+            return false;
+        }
+        i = i + 1;
+    }
+    true
+}
+
+// A position of the page that stands for the same bytes: what is past the end is the end.
+pub fn within(page: &[u8], at: usize) -> usize
+    ensures { λ r. ⌜ Within (now (page .entry)) at r ⌝ }
+{
+    if at <= page.len() {
+        return at;
+    }
+    page.len()
+}
