@@ -8,9 +8,6 @@ use Prim.Native.Nat.{_-_}
 use borrow.Author.Needs.{needs}
 use Rattle.page.proofs.name.all_in.Statement.{statement}
 use Rattle.page.proofs.name.all_in.Tie as tie
-use Rattle.page.proofs.name.all_in.Reads as reads
-use Rattle.page.proofs.name.all_in.Lts as lts
-use Rattle.page.proofs.name.byte_is.Reads as byte-is-reads
 
 abbrev Inv-loop : tie.InvT-loop
 Inv-loop text class i₀ i = all (inClass class) text ≡ all (inClass class) (drop i text)

@@ -5,10 +5,6 @@ use denote.Ref.{now}
 use borrow.Author.Needs.{needs}
 use Rattle.page.proofs.name.is_name_of.Statement.{statement}
 use Rattle.page.proofs.name.is_name_of.Tie as tie
-use Rattle.page.proofs.name.is_name_of.Reads as reads
-use Rattle.page.proofs.name.is_name_of.Lts as lts
-use Rattle.page.proofs.name.all_in.Reads as all-in-reads
-use Rattle.page.proofs.name.byte_is.Reads as byte-is-reads
 
 returns : tie.Need-returns
 returns c = name-empty (inClass (c .before .before .args .first)) (inClass (c .before .before .args .other)) (now (c .before .before .args .text)) (c .if1 .taken)

@@ -3,9 +3,6 @@ use borrow.Author.Tests.{le-leb, lt-leb}
 use borrow.Author.Needs.{needs}
 use Rattle.page.proofs.number.read_count.Statement.{statement}
 use Rattle.page.proofs.number.read_count.Tie as tie
-use Rattle.page.proofs.number.read_count.Reads as reads
-use Rattle.page.proofs.number.read_count.Lts as lts
-use Rattle.page.proofs.number.read_number.Reads as read-number-reads
 
 read-number-requires : tie.Need-read-number-requires
 read-number-requires c κs = search needs

@@ -4,9 +4,6 @@ use Rattle.page.proofs.TextLaws.{empty-true, empty-false}
 use borrow.Author.Needs.{needs}
 use Rattle.page.proofs.text.is_selector_name.Statement.{statement}
 use Rattle.page.proofs.text.is_selector_name.Tie as tie
-use Rattle.page.proofs.text.is_selector_name.Reads as reads
-use Rattle.page.proofs.text.is_selector_name.Lts as lts
-use Rattle.page.proofs.name.is_metric_name.Reads as is-metric-name-reads
 
 returns : tie.Need-returns
 returns c = rw (empty-true (now (c .before .before .args .text)) (c .if1 .taken))

@@ -7,11 +7,6 @@ use borrow.Author.Tests.{le-leb, lt-leb}
 use borrow.Author.Needs.{needs}
 use Rattle.page.proofs.text.read_text.Statement.{statement}
 use Rattle.page.proofs.text.read_text.Tie as tie
-use Rattle.page.proofs.text.read_text.Reads as reads
-use Rattle.page.proofs.text.read_text.Lts as lts
-use Rattle.page.proofs.number.read_number.Reads as read-number-reads
-use Rattle.page.proofs.text.text_allowed.Reads as text-allowed-reads
-use Rattle.page.proofs.text.text_limit.Reads as text-limit-reads
 
 read-number-requires : tie.Need-read-number-requires
 read-number-requires c κs = search needs

@@ -8,8 +8,6 @@ use Prim.Native.Nat.{_-_}
 use borrow.Author.Needs.{needs}
 use Rattle.page.proofs.text.same_text.Statement.{statement}
 use Rattle.page.proofs.text.same_text.Tie as tie
-use Rattle.page.proofs.text.same_text.Reads as reads
-use Rattle.page.proofs.text.same_text.Lts as lts
 
 abbrev Inv-loop : tie.InvT-loop
 Inv-loop a b i₀ i = equal a b ≡ equal (drop i a) (drop i b)

@@ -2,11 +2,6 @@
 use borrow.Author.Needs.{needs}
 use Rattle.page.proofs.text.text_allowed.Statement.{statement}
 use Rattle.page.proofs.text.text_allowed.Tie as tie
-use Rattle.page.proofs.text.text_allowed.Reads as reads
-use Rattle.page.proofs.text.text_allowed.Lts as lts
-use Rattle.page.proofs.name.is_text.Reads as is-text-reads
-use Rattle.page.proofs.text.is_selector_name.Reads as is-selector-name-reads
-use Rattle.page.proofs.name.is_label.Reads as is-label-reads
 
 enum-told : tie.Need-enum-told
 enum-told c = search needs

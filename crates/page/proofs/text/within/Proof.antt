@@ -7,8 +7,6 @@ use lib.ListN.{drop-of-length-le}
 use borrow.Author.Needs.{needs}
 use Rattle.page.proofs.text.within.Statement.{statement}
 use Rattle.page.proofs.text.within.Tie as tie
-use Rattle.page.proofs.text.within.Reads as reads
-use Rattle.page.proofs.text.within.Lts as lts
 
 returns : tie.Need-returns
 returns c = search needs

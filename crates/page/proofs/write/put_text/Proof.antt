@@ -7,10 +7,6 @@ use Rattle.base.specs.Splice.{begin, step, finish, first, room, cut, cut-last}
 use borrow.Author.Needs.{needs}
 use Rattle.page.proofs.write.put_text.Statement.{statement}
 use Rattle.page.proofs.write.put_text.Tie as tie
-use Rattle.page.proofs.write.put_text.Reads as reads
-use Rattle.page.proofs.write.put_text.Lts as lts
-use Rattle.page.proofs.write.put_bytes.Reads as put-bytes-reads
-use Rattle.page.proofs.write.put_number.Reads as put-number-reads
 
 put-number-requires : tie.Need-put-number-requires
 put-number-requires c κs = first _ _ (c .before .before .before .pre) (cut (writeNumber (length (now (c .before .before .before .args .text)))) (now (c .before .before .before .args .text)))

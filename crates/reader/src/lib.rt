@@ -1,0 +1,234 @@
+// The twelve records (document 01, 'The page', kinds 0 to 11), read at a position.
+use records::AtField;
+use records::AtModifier;
+use records::Function;
+use records::FunctionField;
+use records::LabelModifier;
+use records::LabelModifierField;
+use records::Literal;
+use records::LiteralField;
+use records::Modifier;
+use records::ModifierField;
+use records::Offset;
+use records::OffsetField;
+use records::Step;
+use records::StepField;
+use records::read_at_modifier;
+use records::read_function;
+use records::read_label_modifier;
+use records::read_literal;
+use records::read_matchers;
+use records::read_modifier;
+use records::read_offset;
+use records::read_step;
+ghost use mathlib.Core.Path.{_≡_};
+ghost use lib.ListN.{drop};
+ghost use Rattle.page.specs.Read.{readerAt};
+ghost use Rattle.page.specs.Answers.{numberAt};
+ghost use Rattle.records.specs.Record.{readCode, recordForms, readRecord};
+ghost use Rattle.reader.specs.Answers.{recordAt, recordLies, RecordRead};
+
+// A selector: its name, a part without bytes where there is none, the start of its first matcher and their count.
+pub struct Selector {
+    pub name: page::Span,
+    pub matchers: usize,
+    pub count: usize,
+}
+
+pub enum Record {
+    Number(Literal),
+    String(page::Span),
+    Selector(Selector),
+    Range(u64),
+    Subquery(u64, Step),
+    At(AtModifier),
+    Offset(Offset),
+    Unary,
+    Paren,
+    Binary(u64, Modifier),
+    Aggregate(u64, LabelModifier, usize),
+    Call(Function, usize),
+}
+
+// A record and the position behind it.
+pub enum RecordField {
+    Got(Record, usize),
+    Bad(page::Fault),
+}
+
+// The code of an operator or an aggregator, 1 to 30.
+pub fn read_code(page: &[u8], at: usize) -> page::Number
+    ensures { λ r. ⌜ numberAt (now (page .entry)) r ≡ readCode (drop at (now (page .entry))) ⌝ }
+{
+    match page::read_number(page, at) {
+        page::Number::Got(code, next) => {
+            if (1 <= code) & (code <= 30) {
+                page::Number::Got(code, next)
+            } else {
+                page::Number::Bad
+            }
+        }
+        page::Number::Bad => page::Number::Bad,
+    }
+}
+
+fn read_number_record(page: &[u8], at: usize) -> RecordField
+    ensures { λ r. ⌜ recordAt (now (page .entry)) r ≡ readerAt recordForms 0 (drop at (now (page .entry))) ⌝ }
+    ensures { λ r. ⌜ recordLies (now (page .entry)) r ⌝ }
+{
+    match read_literal(page, at) {
+        LiteralField::Got(l, next) => RecordField::Got(Record::Number(l), next),
+        LiteralField::Bad => RecordField::Bad(page::Fault::BadField),
+    }
+}
+
+fn read_string(page: &[u8], at: usize) -> RecordField
+    ensures { λ r. ⌜ recordAt (now (page .entry)) r ≡ readerAt recordForms 1 (drop at (now (page .entry))) ⌝ }
+    ensures { λ r. ⌜ recordLies (now (page .entry)) r ⌝ }
+{
+    match page::read_text(page, at, page::TextClass::Any) {
+        page::Text::Got(text) => RecordField::Got(Record::String(text), text.end),
+        page::Text::Bad(f) => RecordField::Bad(f),
+    }
+}
+
+fn read_selector(page: &[u8], at: usize) -> RecordField
+    ensures { λ r. ⌜ recordAt (now (page .entry)) r ≡ readerAt recordForms 2 (drop at (now (page .entry))) ⌝ }
+    ensures { λ r. ⌜ recordLies (now (page .entry)) r ⌝ }
+{
+    match page::read_text(page, at, page::TextClass::MetricName) {
+        page::Text::Got(name) => match read_matchers(page, name.end) {
+            page::ListField::Got(matchers, count, next) => RecordField::Got(
+                Record::Selector(Selector {
+                    name: name,
+                    matchers: matchers,
+                    count: count,
+                }),
+                next,
+            ),
+            page::ListField::Bad(f) => RecordField::Bad(f),
+        },
+        page::Text::Bad(f) => RecordField::Bad(f),
+    }
+}
+
+fn read_range(page: &[u8], at: usize) -> RecordField
+    ensures { λ r. ⌜ recordAt (now (page .entry)) r ≡ readerAt recordForms 3 (drop at (now (page .entry))) ⌝ }
+    ensures { λ r. ⌜ recordLies (now (page .entry)) r ⌝ }
+{
+    match page::read_number(page, at) {
+        page::Number::Got(range, next) => RecordField::Got(Record::Range(range), next),
+        page::Number::Bad => RecordField::Bad(page::Fault::BadField),
+    }
+}
+
+fn read_subquery(page: &[u8], at: usize) -> RecordField
+    ensures { λ r. ⌜ recordAt (now (page .entry)) r ≡ readerAt recordForms 4 (drop at (now (page .entry))) ⌝ }
+    ensures { λ r. ⌜ recordLies (now (page .entry)) r ⌝ }
+{
+    match page::read_number(page, at) {
+        page::Number::Got(range, next) => match read_step(page, next) {
+            StepField::Got(step, end) => RecordField::Got(Record::Subquery(range, step), end),
+            StepField::Bad => RecordField::Bad(page::Fault::BadField),
+        },
+        page::Number::Bad => RecordField::Bad(page::Fault::BadField),
+    }
+}
+
+fn read_at(page: &[u8], at: usize) -> RecordField
+    ensures { λ r. ⌜ recordAt (now (page .entry)) r ≡ readerAt recordForms 5 (drop at (now (page .entry))) ⌝ }
+    ensures { λ r. ⌜ recordLies (now (page .entry)) r ⌝ }
+{
+    match read_at_modifier(page, at) {
+        AtField::Got(modifier, next) => RecordField::Got(Record::At(modifier), next),
+        AtField::Bad(f) => RecordField::Bad(f),
+    }
+}
+
+fn read_offset_record(page: &[u8], at: usize) -> RecordField
+    ensures { λ r. ⌜ recordAt (now (page .entry)) r ≡ readerAt recordForms 6 (drop at (now (page .entry))) ⌝ }
+    ensures { λ r. ⌜ recordLies (now (page .entry)) r ⌝ }
+{
+    match read_offset(page, at) {
+        OffsetField::Got(offset, next) => RecordField::Got(Record::Offset(offset), next),
+        OffsetField::Bad => RecordField::Bad(page::Fault::BadField),
+    }
+}
+
+fn read_binary(page: &[u8], at: usize) -> RecordField
+    ensures { λ r. ⌜ recordAt (now (page .entry)) r ≡ readerAt recordForms 9 (drop at (now (page .entry))) ⌝ }
+    ensures { λ r. ⌜ recordLies (now (page .entry)) r ⌝ }
+{
+    match read_code(page, at) {
+        page::Number::Got(code, next) => match read_modifier(page, next) {
+            ModifierField::Got(m, end) => RecordField::Got(Record::Binary(code, m), end),
+            ModifierField::Bad(f) => RecordField::Bad(f),
+        },
+        page::Number::Bad => RecordField::Bad(page::Fault::BadField),
+    }
+}
+
+fn read_aggregate(page: &[u8], at: usize) -> RecordField
+    ensures { λ r. ⌜ recordAt (now (page .entry)) r ≡ readerAt recordForms 10 (drop at (now (page .entry))) ⌝ }
+    ensures { λ r. ⌜ recordLies (now (page .entry)) r ⌝ }
+{
+    match read_code(page, at) {
+        page::Number::Got(code, next) => match read_label_modifier(page, next) {
+            LabelModifierField::Got(m, after) => match page::read_count(page, after) {
+                page::Count::Got(n, end) => RecordField::Got(Record::Aggregate(code, m, n), end),
+                page::Count::Bad(f) => RecordField::Bad(f),
+            },
+            LabelModifierField::Bad(f) => RecordField::Bad(f),
+        },
+        page::Number::Bad => RecordField::Bad(page::Fault::BadField),
+    }
+}
+
+fn read_call(page: &[u8], at: usize) -> RecordField
+    ensures { λ r. ⌜ recordAt (now (page .entry)) r ≡ readerAt recordForms 11 (drop at (now (page .entry))) ⌝ }
+    ensures { λ r. ⌜ recordLies (now (page .entry)) r ⌝ }
+{
+    match read_function(page, at) {
+        FunctionField::Got(function, next) => match page::read_count(page, next) {
+            page::Count::Got(n, end) => RecordField::Got(Record::Call(function, n), end),
+            page::Count::Bad(f) => RecordField::Bad(f),
+        },
+        FunctionField::Bad(f) => RecordField::Bad(f),
+    }
+}
+
+// The record of a kind, behind the kind's number.
+fn read_fields(page: &[u8], at: usize, kind: u64) -> RecordField
+    ensures { λ r. ⌜ recordAt (now (page .entry)) r ≡ readerAt recordForms kind (drop at (now (page .entry))) ⌝ }
+    ensures { λ r. ⌜ recordLies (now (page .entry)) r ⌝ }
+{
+    match kind {
+        0 => read_number_record(page, at),
+        1 => read_string(page, at),
+        2 => read_selector(page, at),
+        3 => read_range(page, at),
+        4 => read_subquery(page, at),
+        5 => read_at(page, at),
+        6 => read_offset_record(page, at),
+        7 => RecordField::Got(Record::Unary, at),
+        8 => RecordField::Got(Record::Paren, at),
+        9 => read_binary(page, at),
+        10 => read_aggregate(page, at),
+        11 => read_call(page, at),
+        _ => RecordField::Bad(page::Fault::BadField),
+    }
+}
+
+// The record at a position: for every page and every position.
+pub fn read_record(page: &[u8], at: usize) -> RecordField
+    ensures { λ r. ⌜ recordAt (now (page .entry)) r ≡ readRecord (drop at (now (page .entry))) ⌝ }
+    ensures { λ r. ⌜ RecordRead (now (page .entry)) r ⌝ }
+{
+    match page::read_number(page, at) {
+        page::Number::Got(kind, next) => match read_fields(page, next, kind) {
+            RecordField::Got(r, end) => RecordField::Got(r, page::within(page, end)),
+            RecordField::Bad(f) => RecordField::Bad(f),
+        },
+        page::Number::Bad => RecordField::Bad(page::Fault::BadField),
+    }
+}

@@ -1,0 +1,86 @@
+-- `records::literal::read_literal` meets its contract: the number says which form follows. Assumes nothing.
+use Rattle.records.specs.Literal.{literalForms}
+use Rattle.page.proofs.FieldLaws.{no-form}
+use denote.Ref.{now}
+use lib.ListN.{drop}
+use native.Mathlib.Omega.{arith}
+use borrow.Author.Needs.{needs}
+use Rattle.records.proofs.literal.read_literal.Statement.{statement}
+use Rattle.records.proofs.literal.read_literal.Tie as tie
+
+read-number-requires : tie.Need-read-number-requires
+read-number-requires c κs = search needs
+
+enum-known-form : tie.Need-enum-known-form
+enum-known-form c = search needs
+
+read-number-requires-2 : tie.Need-read-number-requires-2
+read-number-requires-2 c κs = search needs
+
+enum-known-n : tie.Need-enum-known-n
+enum-known-n c = search needs
+
+enum-told : tie.Need-enum-told
+enum-told c = search needs
+
+read-number-requires-3 : tie.Need-read-number-requires-3
+read-number-requires-3 c κs = search needs
+
+enum-known-n-2 : tie.Need-enum-known-n-2
+enum-known-n-2 c = search needs
+
+enum-told-2 : tie.Need-enum-told-2
+enum-told-2 c = search needs
+
+enum-told-3 : tie.Need-enum-told-3
+enum-told-3 c = search needs
+
+returns : tie.Need-returns
+returns c = let e = rw (c .before .before .before .before .before .before .form .given .1) at (c .before .before .before .before .before .before .before .before .read-number .ensures .0) in let f = rw (c .before .n .given .1) at (c .before .before .before .read-number2 .ensures .0) in simp (← e, c .before .before .before .before .match2 .keys1, ← f)
+
+returns-2 : tie.Need-returns-2
+returns-2 c = let e = rw (c .before .before .before .before .before .form .given .1) at (c .before .before .before .before .before .before .before .read-number .ensures .0) in let f = rw (c .enum-told .given .1) at (c .before .before .read-number2 .ensures .0) in simp (← e, c .before .before .before .match2 .keys1, ← f)
+
+returns-3 : tie.Need-returns-3
+returns-3 c = let e = rw (c .before .before .before .before .before .before .form .given .1) at (c .before .before .before .before .before .before .before .before .read-number .ensures .0) in let f = rw (c .before .n2 .given .1) at (c .before .before .before .read-number3 .ensures .0) in simp (← e, c .before .before .before .before .match2 .keys2, ← f)
+
+returns-4 : tie.Need-returns-4
+returns-4 c = let e = rw (c .before .before .before .before .before .form .given .1) at (c .before .before .before .before .before .before .before .read-number .ensures .0) in let f = rw (c .enum-told2 .given .1) at (c .before .before .read-number3 .ensures .0) in simp (← e, c .before .before .before .match2 .keys2, ← f)
+
+returns-5 : tie.Need-returns-5
+returns-5 c = let e = rw (c .before .before .form .given .1) at (c .before .before .before .before .read-number .ensures .0) in simp (← e, c .match2 .keys3)
+
+returns-6 : tie.Need-returns-6
+returns-6 c = let e = rw (c .before .before .form .given .1) at (c .before .before .before .before .read-number .ensures .0) in simp (← e, c .match2 .keys4)
+
+returns-7 : tie.Need-returns-7
+returns-7 c = let e = rw (c .before .before .form .given .1) at (c .before .before .before .before .read-number .ensures .0) in simp (← e, c .match2 .keys5)
+
+returns-8 : tie.Need-returns-8
+returns-8 c = let e = rw (c .before .before .form .given .1) at (c .before .before .before .before .read-number .ensures .0) in rw (← e) (no-form literalForms (c .before .before .form .given .0 .0) (drop (c .before .before .form .given .0 .1 .0) (now (c .before .before .before .before .before .before .args .page))) (omega arith))
+
+returns-9 : tie.Need-returns-9
+returns-9 c = let e = rw (c .enum-told3 .given .1) at (c .before .before .read-number .ensures .0) in simp (← e)
+
+pub read-literal-spec : {M : Type 1} → statement M
+read-literal-spec =
+    tie.close
+    (tie.spec
+    read-number-requires
+    enum-known-form
+    read-number-requires-2
+    enum-known-n
+    enum-told
+    read-number-requires-3
+    enum-known-n-2
+    enum-told-2
+    enum-told-3
+    returns
+    returns-2
+    returns-3
+    returns-4
+    returns-5
+    returns-6
+    returns-7
+    returns-8
+    returns-9)

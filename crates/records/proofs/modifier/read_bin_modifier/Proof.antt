@@ -1,0 +1,70 @@
+-- `records::modifier::read_bin_modifier` meets its contract, field by field. Assumes nothing.
+use borrow.Author.Needs.{needs}
+use Rattle.records.proofs.modifier.read_bin_modifier.Statement.{statement}
+use Rattle.records.proofs.modifier.read_bin_modifier.Tie as tie
+
+read-flag-requires : tie.Need-read-flag-requires
+read-flag-requires c κs = search needs
+
+enum-known-flag : tie.Need-enum-known-flag
+enum-known-flag c = search needs
+
+read-label-modifier-requires : tie.Need-read-label-modifier-requires
+read-label-modifier-requires c κs = search needs
+
+enum-known-matching : tie.Need-enum-known-matching
+enum-known-matching c = search needs
+
+read-cardinality-requires : tie.Need-read-cardinality-requires
+read-cardinality-requires c κs = search needs
+
+enum-known-card : tie.Need-enum-known-card
+enum-known-card c = search needs
+
+read-fills-requires : tie.Need-read-fills-requires
+read-fills-requires c κs = search needs
+
+enum-known-f : tie.Need-enum-known-f
+enum-known-f c = search needs
+
+enum-known-f-2 : tie.Need-enum-known-f-2
+enum-known-f-2 c = search needs
+
+enum-told : tie.Need-enum-told
+enum-told c = search needs
+
+returns : tie.Need-returns
+returns c = let e = rw (c .before .before .before .before .before .before .before .before .before .before .flag .given .1) at (c .before .before .before .before .before .before .before .before .before .before .before .before .read-flag .ensures) in
+    let f = rw (c .before .before .before .before .before .before .matching .given .1) at (c .before .before .before .before .before .before .before .before .read-label-modifier .ensures) in
+    let g = rw (c .before .before .card .given .1) at (c .before .before .before .before .read-cardinality .ensures) in simp (← e, ← f, ← g, c .read-fills .ensures)
+
+returns-2 : tie.Need-returns-2
+returns-2 c = let e = rw (c .before .before .before .before .before .before .before .before .before .flag .given .1) at (c .before .before .before .before .before .before .before .before .before .before .before .read-flag .ensures) in
+    let f = rw (c .before .before .before .before .before .matching .given .1) at (c .before .before .before .before .before .before .before .read-label-modifier .ensures) in
+    let g = rw (c .before .f .given .1) at (c .before .before .before .read-cardinality .ensures) in simp (← e, ← f, ← g)
+
+returns-3 : tie.Need-returns-3
+returns-3 c = let e = rw (c .before .before .before .before .before .flag .given .1) at (c .before .before .before .before .before .before .before .read-flag .ensures) in
+    let f = rw (c .before .f2 .given .1) at (c .before .before .before .read-label-modifier .ensures) in simp (← e, ← f)
+
+returns-4 : tie.Need-returns-4
+returns-4 c = let e = rw (c .enum-told .given .1) at (c .before .before .read-flag .ensures) in simp (← e)
+
+pub read-bin-modifier-spec : {M : Type 1} → statement M
+read-bin-modifier-spec =
+    tie.close
+    (tie.spec
+    read-flag-requires
+    enum-known-flag
+    read-label-modifier-requires
+    enum-known-matching
+    read-cardinality-requires
+    enum-known-card
+    read-fills-requires
+    enum-known-f
+    enum-known-f-2
+    enum-told
+    returns
+    returns-2
+    returns-3
+    returns-4)

@@ -1,0 +1,82 @@
+-- `records::modifier::read_cardinality` meets its contract: the number says which form follows. Assumes nothing.
+use Rattle.records.specs.Modifier.{cardinalityForms}
+use Rattle.page.proofs.FieldLaws.{no-form}
+use denote.Ref.{now}
+use lib.ListN.{drop}
+use native.Mathlib.Omega.{arith}
+use borrow.Author.Needs.{needs}
+use Rattle.records.proofs.modifier.read_cardinality.Statement.{statement}
+use Rattle.records.proofs.modifier.read_cardinality.Tie as tie
+
+read-number-requires : tie.Need-read-number-requires
+read-number-requires c κs = search needs
+
+enum-known-n : tie.Need-enum-known-n
+enum-known-n c = search needs
+
+read-labels-requires : tie.Need-read-labels-requires
+read-labels-requires c κs = search needs
+
+enum-known-start : tie.Need-enum-known-start
+enum-known-start c = search needs
+
+enum-known-f : tie.Need-enum-known-f
+enum-known-f c = search needs
+
+read-labels-requires-2 : tie.Need-read-labels-requires-2
+read-labels-requires-2 c κs = search needs
+
+enum-known-start-2 : tie.Need-enum-known-start-2
+enum-known-start-2 c = search needs
+
+enum-known-f-2 : tie.Need-enum-known-f-2
+enum-known-f-2 c = search needs
+
+enum-told : tie.Need-enum-told
+enum-told c = search needs
+
+returns : tie.Need-returns
+returns c = let e = rw (c .before .before .n .given .1) at (c .before .before .before .before .read-number .ensures .0) in simp (← e, c .match2 .keys1)
+
+returns-2 : tie.Need-returns-2
+returns-2 c = let e = rw (c .before .before .before .before .before .before .n .given .1) at (c .before .before .before .before .before .before .before .before .read-number .ensures .0) in let f = rw (c .before .start .given .1) at (c .before .before .before .read-labels .ensures) in simp (← e, c .before .before .before .before .match2 .keys2, ← f)
+
+returns-3 : tie.Need-returns-3
+returns-3 c = let e = rw (c .before .before .before .before .before .before .n .given .1) at (c .before .before .before .before .before .before .before .before .read-number .ensures .0) in let f = rw (c .before .f .given .1) at (c .before .before .before .read-labels .ensures) in simp (← e, c .before .before .before .before .match2 .keys2, ← f)
+
+returns-4 : tie.Need-returns-4
+returns-4 c = let e = rw (c .before .before .before .before .before .before .n .given .1) at (c .before .before .before .before .before .before .before .before .read-number .ensures .0) in let f = rw (c .before .start2 .given .1) at (c .before .before .before .read-labels2 .ensures) in simp (← e, c .before .before .before .before .match2 .keys3, ← f)
+
+returns-5 : tie.Need-returns-5
+returns-5 c = let e = rw (c .before .before .before .before .before .before .n .given .1) at (c .before .before .before .before .before .before .before .before .read-number .ensures .0) in let f = rw (c .before .f2 .given .1) at (c .before .before .before .read-labels2 .ensures) in simp (← e, c .before .before .before .before .match2 .keys3, ← f)
+
+returns-6 : tie.Need-returns-6
+returns-6 c = let e = rw (c .before .before .n .given .1) at (c .before .before .before .before .read-number .ensures .0) in simp (← e, c .match2 .keys4)
+
+returns-7 : tie.Need-returns-7
+returns-7 c = let e = rw (c .before .before .n .given .1) at (c .before .before .before .before .read-number .ensures .0) in rw (← e) (no-form cardinalityForms (c .before .before .n .given .0 .0) (drop (c .before .before .n .given .0 .1 .0) (now (c .before .before .before .before .before .before .args .page))) (omega arith))
+
+returns-8 : tie.Need-returns-8
+returns-8 c = let e = rw (c .enum-told .given .1) at (c .before .before .read-number .ensures .0) in simp (← e)
+
+pub read-cardinality-spec : {M : Type 1} → statement M
+read-cardinality-spec =
+    tie.close
+    (tie.spec
+    read-number-requires
+    enum-known-n
+    read-labels-requires
+    enum-known-start
+    enum-known-f
+    read-labels-requires-2
+    enum-known-start-2
+    enum-known-f-2
+    enum-told
+    returns
+    returns-2
+    returns-3
+    returns-4
+    returns-5
+    returns-6
+    returns-7
+    returns-8)

@@ -1,0 +1,62 @@
+-- `records::signature::read_variadic` meets its contract: the number says which form follows. Assumes nothing.
+use native.Mathlib.Omega.{arith}
+use lib.ListN.{drop}
+use denote.Ref.{now}
+use Rattle.page.proofs.FieldLaws.{no-form}
+use Rattle.records.specs.Signature.{variadicForms}
+use borrow.Author.Needs.{needs}
+use Rattle.records.proofs.signature.read_variadic.Statement.{statement}
+use Rattle.records.proofs.signature.read_variadic.Tie as tie
+
+read-number-requires : tie.Need-read-number-requires
+read-number-requires c κs = search needs
+
+enum-known-form : tie.Need-enum-known-form
+enum-known-form c = search needs
+
+read-upper-requires : tie.Need-read-upper-requires
+read-upper-requires c κs = search needs
+
+enum-known-n : tie.Need-enum-known-n
+enum-known-n c = search needs
+
+enum-known-f : tie.Need-enum-known-f
+enum-known-f c = search needs
+
+enum-told : tie.Need-enum-told
+enum-told c = search needs
+
+returns : tie.Need-returns
+returns c = let e = rw (c .before .before .form .given .1) at (c .before .before .before .before .read-number .ensures .0) in simp (← e, c .match2 .keys1)
+
+returns-2 : tie.Need-returns-2
+returns-2 c = let e = rw (c .before .before .form .given .1) at (c .before .before .before .before .read-number .ensures .0) in simp (← e, c .match2 .keys2)
+
+returns-3 : tie.Need-returns-3
+returns-3 c = let e = rw (c .before .before .before .before .before .before .form .given .1) at (c .before .before .before .before .before .before .before .before .read-number .ensures .0) in let f = rw (c .before .n .given .1) at (c .before .before .before .read-upper .ensures) in simp (← e, c .before .before .before .before .match2 .keys3, ← f)
+
+returns-4 : tie.Need-returns-4
+returns-4 c = let e = rw (c .before .before .before .before .before .before .form .given .1) at (c .before .before .before .before .before .before .before .before .read-number .ensures .0) in let g = rw (c .before .f .given .1) at (c .before .before .before .read-upper .ensures) in simp (← e, c .before .before .before .before .match2 .keys3, ← g)
+
+returns-5 : tie.Need-returns-5
+returns-5 c = let e = rw (c .before .before .form .given .1) at (c .before .before .before .before .read-number .ensures .0) in rw (← e) (no-form variadicForms (c .before .before .form .given .0 .0) (drop (c .before .before .form .given .0 .1 .0) (now (c .before .before .before .before .before .before .args .page))) (omega arith))
+
+returns-6 : tie.Need-returns-6
+returns-6 c = let e = rw (c .enum-told .given .1) at (c .before .before .read-number .ensures .0) in simp (← e)
+
+pub read-variadic-spec : {M : Type 1} → statement M
+read-variadic-spec =
+    tie.close
+    (tie.spec
+    read-number-requires
+    enum-known-form
+    read-upper-requires
+    enum-known-n
+    enum-known-f
+    enum-told
+    returns
+    returns-2
+    returns-3
+    returns-4
+    returns-5
+    returns-6)

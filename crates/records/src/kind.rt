@@ -1,0 +1,85 @@
+// Kinds of values (value.rs, `ValueType`) and flags: one number each.
+ghost use mathlib.Core.Path.{_≡_};
+ghost use lib.ListN.{drop};
+ghost use Rattle.page.specs.Read.{repeat};
+ghost use Rattle.page.specs.Text.{readList};
+ghost use Rattle.page.specs.Answers.{listAt};
+ghost use Rattle.records.specs.Field.{readFlag, readKind};
+ghost use Rattle.records.specs.Answers.{flagAt, kindAt};
+
+// 0 or 1, and the position behind it.
+pub enum Flag {
+    Got(bool, usize),
+    Bad,
+}
+
+pub fn read_flag(page: &[u8], at: usize) -> Flag
+    ensures { λ r. ⌜ flagAt (now (page .entry)) r ≡ readFlag (drop at (now (page .entry))) ⌝ }
+{
+    match page::read_number(page, at) {
+        page::Number::Got(n, next) => match n {
+            0 => Flag::Got(false, next),
+            1 => Flag::Got(true, next),
+            _ => Flag::Bad,
+        },
+        page::Number::Bad => Flag::Bad,
+    }
+}
+
+pub enum Kind {
+    Vector,
+    Scalar,
+    Matrix,
+    String,
+}
+
+// A kind and the position behind it.
+pub enum KindField {
+    Got(Kind, usize),
+    Bad,
+}
+
+pub fn read_kind(page: &[u8], at: usize) -> KindField
+    ensures { λ r. ⌜ kindAt (now (page .entry)) r ≡ readKind (drop at (now (page .entry))) ⌝ }
+{
+    match page::read_number(page, at) {
+        page::Number::Got(n, next) => match n {
+            0 => KindField::Got(Kind::Vector, next),
+            1 => KindField::Got(Kind::Scalar, next),
+            2 => KindField::Got(Kind::Matrix, next),
+            3 => KindField::Got(Kind::String, next),
+            _ => KindField::Bad,
+        },
+        page::Number::Bad => KindField::Bad,
+    }
+}
+
+// So many kinds from a position on.
+pub fn kinds_from(page: &[u8], start: usize, count: usize) -> page::ListField
+    ensures { λ r. ⌜ listAt readKind (now (page .entry)) r ≡ repeat count readKind (drop start (now (page .entry))) ⌝ }
+{
+    let mut left = count;
+    let mut at = start;
+    while 0 < left {
+        match read_kind(page, at) {
+            KindField::Got(_, next) => {
+                at = next;
+                left = left - 1;
+            }
+            KindField::Bad => {
+                return page::ListField::Bad(page::Fault::BadField);
+            }
+        }
+    }
+    page::ListField::Got(start, count, at)
+}
+
+// A count, and so many kinds.
+pub fn read_kinds(page: &[u8], at: usize) -> page::ListField
+    ensures { λ r. ⌜ listAt readKind (now (page .entry)) r ≡ readList readKind (drop at (now (page .entry))) ⌝ }
+{
+    match page::read_count(page, at) {
+        page::Count::Got(count, start) => kinds_from(page, start, count),
+        page::Count::Bad(f) => page::ListField::Bad(f),
+    }
+}

@@ -1,0 +1,170 @@
+// Modifiers of binary and aggregate expressions (ast.rs, `LabelModifier`, `VectorMatchCardinality`, `BinModifier`).
+use crate::kind::Flag;
+use crate::kind::read_flag;
+use crate::label::read_labels;
+use crate::literal::Fill;
+use crate::literal::FillField;
+use crate::literal::read_fill;
+ghost use mathlib.Core.Path.{_≡_};
+ghost use lib.ListN.{drop};
+ghost use Rattle.records.specs.Field.{readOption};
+ghost use Rattle.records.specs.Modifier.{readLabelModifier, readCardinality, readBinModifier};
+ghost use Rattle.records.specs.Answers.{labelModifierAt, labelModifierOn, cardinalityAt, cardinalityOn, binModifierAt, readFills, modifierAt};
+
+// `on` and `by` include, `ignoring` and `without` exclude: the start of the first label and their count.
+pub enum LabelModifier {
+    None,
+    Include(usize, usize),
+    Exclude(usize, usize),
+}
+
+pub enum LabelModifierField {
+    Got(LabelModifier, usize),
+    Bad(page::Fault),
+}
+
+pub fn read_label_modifier(page: &[u8], at: usize) -> LabelModifierField
+    ensures { λ r. ⌜ labelModifierAt (now (page .entry)) r ≡ readLabelModifier (drop at (now (page .entry))) ⌝ }
+{
+    match page::read_number(page, at) {
+        page::Number::Got(n, next) => match n {
+            0 => LabelModifierField::Got(LabelModifier::None, next),
+            1 => match read_labels(page, next) {
+                page::ListField::Got(start, count, end) => {
+                    LabelModifierField::Got(LabelModifier::Include(start, count), end)
+                }
+                page::ListField::Bad(f) => LabelModifierField::Bad(f),
+            },
+            2 => match read_labels(page, next) {
+                page::ListField::Got(start, count, end) => {
+                    LabelModifierField::Got(LabelModifier::Exclude(start, count), end)
+                }
+                page::ListField::Bad(f) => LabelModifierField::Bad(f),
+            },
+            _ => LabelModifierField::Bad(page::Fault::BadField),
+        },
+        page::Number::Bad => LabelModifierField::Bad(page::Fault::BadField),
+    }
+}
+
+// group_left is many-to-one, group_right one-to-many, with the group labels.
+pub enum Cardinality {
+    OneToOne,
+    ManyToOne(usize, usize),
+    OneToMany(usize, usize),
+    ManyToMany,
+}
+
+pub enum CardinalityField {
+    Got(Cardinality, usize),
+    Bad(page::Fault),
+}
+
+pub fn read_cardinality(page: &[u8], at: usize) -> CardinalityField
+    ensures { λ r. ⌜ cardinalityAt (now (page .entry)) r ≡ readCardinality (drop at (now (page .entry))) ⌝ }
+{
+    match page::read_number(page, at) {
+        page::Number::Got(n, next) => match n {
+            0 => CardinalityField::Got(Cardinality::OneToOne, next),
+            1 => match read_labels(page, next) {
+                page::ListField::Got(start, count, end) => {
+                    CardinalityField::Got(Cardinality::ManyToOne(start, count), end)
+                }
+                page::ListField::Bad(f) => CardinalityField::Bad(f),
+            },
+            2 => match read_labels(page, next) {
+                page::ListField::Got(start, count, end) => {
+                    CardinalityField::Got(Cardinality::OneToMany(start, count), end)
+                }
+                page::ListField::Bad(f) => CardinalityField::Bad(f),
+            },
+            3 => CardinalityField::Got(Cardinality::ManyToMany, next),
+            _ => CardinalityField::Bad(page::Fault::BadField),
+        },
+        page::Number::Bad => CardinalityField::Bad(page::Fault::BadField),
+    }
+}
+
+// The modifier of a binary expression (ast.rs, `BinModifier`).
+pub struct BinModifier {
+    pub returns_bool: bool,
+    pub matching: LabelModifier,
+    pub card: Cardinality,
+    pub lhs: Fill,
+    pub rhs: Fill,
+}
+
+pub enum BinModifierField {
+    Got(BinModifier, usize),
+    Bad(page::Fault),
+}
+
+// The rest of a modifier: its two fill values.
+fn read_fills(
+    page: &[u8],
+    at: usize,
+    flag: bool,
+    matching: LabelModifier,
+    card: Cardinality,
+) -> BinModifierField
+    ensures { λ r. ⌜ binModifierAt (now (page .entry)) r ≡ readFills flag (labelModifierOn (now (page .entry)) matching) (cardinalityOn (now (page .entry)) card) (drop at (now (page .entry))) ⌝ }
+{
+    match read_fill(page, at) {
+        FillField::Got(lhs, next) => match read_fill(page, next) {
+            FillField::Got(rhs, end) => BinModifierField::Got(
+                BinModifier {
+                    returns_bool: flag,
+                    matching: matching,
+                    card: card,
+                    lhs: lhs,
+                    rhs: rhs,
+                },
+                end,
+            ),
+            FillField::Bad => BinModifierField::Bad(page::Fault::BadField),
+        },
+        FillField::Bad => BinModifierField::Bad(page::Fault::BadField),
+    }
+}
+
+pub fn read_bin_modifier(page: &[u8], at: usize) -> BinModifierField
+    ensures { λ r. ⌜ binModifierAt (now (page .entry)) r ≡ readBinModifier (drop at (now (page .entry))) ⌝ }
+{
+    match read_flag(page, at) {
+        Flag::Got(flag, next) => match read_label_modifier(page, next) {
+            LabelModifierField::Got(matching, after) => match read_cardinality(page, after) {
+                CardinalityField::Got(card, end) => read_fills(page, end, flag, matching, card),
+                CardinalityField::Bad(f) => BinModifierField::Bad(f),
+            },
+            LabelModifierField::Bad(f) => BinModifierField::Bad(f),
+        },
+        Flag::Bad => BinModifierField::Bad(page::Fault::BadField),
+    }
+}
+
+// A binary expression's modifier, if there is one.
+pub enum Modifier {
+    None,
+    Some(BinModifier),
+}
+
+pub enum ModifierField {
+    Got(Modifier, usize),
+    Bad(page::Fault),
+}
+
+pub fn read_modifier(page: &[u8], at: usize) -> ModifierField
+    ensures { λ r. ⌜ modifierAt (now (page .entry)) r ≡ readOption readBinModifier (drop at (now (page .entry))) ⌝ }
+{
+    match page::read_number(page, at) {
+        page::Number::Got(n, next) => match n {
+            0 => ModifierField::Got(Modifier::None, next),
+            1 => match read_bin_modifier(page, next) {
+                BinModifierField::Got(m, end) => ModifierField::Got(Modifier::Some(m), end),
+                BinModifierField::Bad(f) => ModifierField::Bad(f),
+            },
+            _ => ModifierField::Bad(page::Fault::BadField),
+        },
+        page::Number::Bad => ModifierField::Bad(page::Fault::BadField),
+    }
+}

@@ -1,0 +1,141 @@
+// Offsets, @ times and steps (ast.rs, `Offset`, `AtModifier`), in milliseconds.
+ghost use mathlib.Core.Path.{_≡_};
+ghost use lib.ListN.{drop};
+ghost use Rattle.page.specs.Number.{readNumber};
+ghost use Rattle.records.specs.Field.{readOption};
+ghost use Rattle.records.specs.Time.{readTime, readNegativeTime, readAtModifier, readOffset};
+ghost use Rattle.records.specs.Answers.{amountAt, atModifierAt, offsetAt, stepAt};
+
+// A number within a limit of its own, and the position behind it.
+pub enum Amount {
+    Got(u64, usize),
+    Bad(page::Fault),
+}
+
+// The latest @ time, 10^15.
+pub const TIME_LIMIT: u64 = 1000000000000000;
+
+// A time that is not negative.
+fn read_time(page: &[u8], at: usize) -> Amount
+    ensures { λ r. ⌜ amountAt (now (page .entry)) r ≡ readTime (drop at (now (page .entry))) ⌝ }
+{
+    match page::read_number(page, at) {
+        page::Number::Got(n, next) => {
+            if n <= TIME_LIMIT {
+                Amount::Got(n, next)
+            } else {
+                Amount::Bad(page::Fault::PastLimit)
+            }
+        }
+        page::Number::Bad => Amount::Bad(page::Fault::BadField),
+    }
+}
+
+// The magnitude of a negative time: 0 is a bad field.
+fn read_negative_time(page: &[u8], at: usize) -> Amount
+    ensures { λ r. ⌜ amountAt (now (page .entry)) r ≡ readNegativeTime (drop at (now (page .entry))) ⌝ }
+{
+    match page::read_number(page, at) {
+        page::Number::Got(n, next) => {
+            if n == 0 {
+                return Amount::Bad(page::Fault::BadField);
+            }
+            if n <= TIME_LIMIT {
+                Amount::Got(n, next)
+            } else {
+                Amount::Bad(page::Fault::PastLimit)
+            }
+        }
+        page::Number::Bad => Amount::Bad(page::Fault::BadField),
+    }
+}
+
+// A time so many milliseconds after or before 1970, or an end of the range.
+pub enum AtModifier {
+    Start,
+    End,
+    After(u64),
+    Before(u64),
+}
+
+pub enum AtField {
+    Got(AtModifier, usize),
+    Bad(page::Fault),
+}
+
+pub fn read_at_modifier(page: &[u8], at: usize) -> AtField
+    ensures { λ r. ⌜ atModifierAt (now (page .entry)) r ≡ readAtModifier (drop at (now (page .entry))) ⌝ }
+{
+    match page::read_number(page, at) {
+        page::Number::Got(form, next) => match form {
+            0 => AtField::Got(AtModifier::Start, next),
+            1 => AtField::Got(AtModifier::End, next),
+            2 => match read_time(page, next) {
+                Amount::Got(n, end) => AtField::Got(AtModifier::After(n), end),
+                Amount::Bad(f) => AtField::Bad(f),
+            },
+            3 => match read_negative_time(page, next) {
+                Amount::Got(n, end) => AtField::Got(AtModifier::Before(n), end),
+                Amount::Bad(f) => AtField::Bad(f),
+            },
+            _ => AtField::Bad(page::Fault::BadField),
+        },
+        page::Number::Bad => AtField::Bad(page::Fault::BadField),
+    }
+}
+
+pub enum Offset {
+    Pos(u64),
+    Neg(u64),
+}
+
+pub enum OffsetField {
+    Got(Offset, usize),
+    Bad,
+}
+
+pub fn read_offset(page: &[u8], at: usize) -> OffsetField
+    ensures { λ r. ⌜ offsetAt (now (page .entry)) r ≡ readOffset (drop at (now (page .entry))) ⌝ }
+{
+    match page::read_number(page, at) {
+        page::Number::Got(sign, next) => match sign {
+            0 => match page::read_number(page, next) {
+                page::Number::Got(n, end) => OffsetField::Got(Offset::Pos(n), end),
+                page::Number::Bad => OffsetField::Bad,
+            },
+            1 => match page::read_number(page, next) {
+                page::Number::Got(n, end) => OffsetField::Got(Offset::Neg(n), end),
+                page::Number::Bad => OffsetField::Bad,
+            },
+            _ => OffsetField::Bad,
+        },
+        page::Number::Bad => OffsetField::Bad,
+    }
+}
+
+// A subquery's step, if there is one.
+pub enum Step {
+    None,
+    Some(u64),
+}
+
+pub enum StepField {
+    Got(Step, usize),
+    Bad,
+}
+
+pub fn read_step(page: &[u8], at: usize) -> StepField
+    ensures { λ r. ⌜ stepAt (now (page .entry)) r ≡ readOption readNumber (drop at (now (page .entry))) ⌝ }
+{
+    match page::read_number(page, at) {
+        page::Number::Got(present, next) => match present {
+            0 => StepField::Got(Step::None, next),
+            1 => match page::read_number(page, next) {
+                page::Number::Got(n, end) => StepField::Got(Step::Some(n), end),
+                page::Number::Bad => StepField::Bad,
+            },
+            _ => StepField::Bad,
+        },
+        page::Number::Bad => StepField::Bad,
+    }
+}
