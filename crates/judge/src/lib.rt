@@ -3,7 +3,6 @@ pub mod aggregate;
 pub mod binary;
 pub mod code;
 pub mod kind;
-pub mod label;
 pub mod node;
 pub mod refusal;
 pub mod wrapper;

@@ -1,4 +1,4 @@
--- `judge::label::has_joint` meets its contract. The loop's invariant: what is left of the group list decides. Assumes nothing.
+-- `verdict::label::has_joint` meets its contract. The loop's invariant: what is left of the group list decides. Assumes nothing.
 use mathlib.Core.Path.{_≡_, refl, sym, ap, _∙_}
 use lib.ListN.{drop}
 use denote.Ref.{now}
@@ -9,11 +9,11 @@ use Rattle.page.specs.Listed.{listed}
 use Rattle.page.proofs.ListLaws.{any-found, any-next, any-refused, any-none}
 use Rattle.ast.specs.CheckAst.{hasLabel}
 use borrow.Author.Needs.{needs}
-use Rattle.judge.proofs.label.has_joint.Statement.{statement}
-use Rattle.judge.proofs.label.has_joint.Tie as tie
-use Rattle.judge.proofs.label.has_joint.Reads as reads
-use Rattle.judge.proofs.label.has_joint.Lts as lts
-use Rattle.judge.proofs.label.has_label.Reads as has-label-reads
+use Rattle.verdict.proofs.label.has_joint.Statement.{statement}
+use Rattle.verdict.proofs.label.has_joint.Tie as tie
+use Rattle.verdict.proofs.label.has_joint.Reads as reads
+use Rattle.verdict.proofs.label.has_joint.Lts as lts
+use Rattle.verdict.proofs.label.has_label.Reads as has-label-reads
 use Rattle.page.proofs.read_text.Reads as read-text-reads
 use Rattle.page.proofs.text_at.Reads as text-at-reads
 

@@ -1,4 +1,4 @@
--- `judge::label::has_labels` meets its contract: a list is not empty where its first element can be read. Assumes nothing.
+-- `verdict::label::has_labels` meets its contract: a list is not empty where its first element can be read. Assumes nothing.
 use mathlib.Core.Path.{sym, ap}
 use mathlib.Core.Bool.{Bool, not}
 use mathlib.Core.List.{List}
@@ -10,10 +10,10 @@ use Rattle.page.specs.Bytes.{isEmpty}
 use Rattle.page.specs.Text.{Text, readAnyText}
 use Rattle.page.proofs.ListLaws.{listed-more, listed-refused, listed-none}
 use borrow.Author.Needs.{needs}
-use Rattle.judge.proofs.label.has_labels.Statement.{statement}
-use Rattle.judge.proofs.label.has_labels.Tie as tie
-use Rattle.judge.proofs.label.has_labels.Reads as reads
-use Rattle.judge.proofs.label.has_labels.Lts as lts
+use Rattle.verdict.proofs.label.has_labels.Statement.{statement}
+use Rattle.verdict.proofs.label.has_labels.Tie as tie
+use Rattle.verdict.proofs.label.has_labels.Reads as reads
+use Rattle.verdict.proofs.label.has_labels.Lts as lts
 use Rattle.page.proofs.read_text.Reads as read-text-reads
 
 returns : tie.Need-returns

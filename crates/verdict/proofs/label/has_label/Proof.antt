@@ -1,4 +1,4 @@
--- `judge::label::has_label` meets its contract. The loop's invariant: what is left of the list decides. Assumes nothing.
+-- `verdict::label::has_label` meets its contract. The loop's invariant: what is left of the list decides. Assumes nothing.
 use mathlib.Core.Path.{_≡_, refl, sym, ap, _∙_}
 use lib.ListN.{drop}
 use denote.Ref.{now}
@@ -8,10 +8,10 @@ use Rattle.page.specs.Listed.{listed}
 use Rattle.page.proofs.ListLaws.{any-found, any-next, any-refused, any-none}
 use Rattle.ast.specs.CheckAst.{hasLabel}
 use borrow.Author.Needs.{needs}
-use Rattle.judge.proofs.label.has_label.Statement.{statement}
-use Rattle.judge.proofs.label.has_label.Tie as tie
-use Rattle.judge.proofs.label.has_label.Reads as reads
-use Rattle.judge.proofs.label.has_label.Lts as lts
+use Rattle.verdict.proofs.label.has_label.Statement.{statement}
+use Rattle.verdict.proofs.label.has_label.Tie as tie
+use Rattle.verdict.proofs.label.has_label.Reads as reads
+use Rattle.verdict.proofs.label.has_label.Lts as lts
 use Rattle.page.proofs.read_text.Reads as read-text-reads
 use Rattle.page.proofs.same_text.Reads as same-text-reads
 use Rattle.page.proofs.text_at.Reads as text-at-reads

@@ -1,0 +1,2 @@
+pub mod Selector
+pub mod Call
