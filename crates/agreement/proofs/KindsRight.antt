@@ -25,7 +25,8 @@ use Rattle.kinds.specs.Demand3.{nothingSetAside, allAsAsked, RunsClean, MeetsFi
 use Rattle.agreement.proofs.Bools.{both, left-of, right-of, either-left}
 use Rattle.agreement.proofs.Lists.{map-drop, map-operandsOf, all-drop, all-operandsOf}
 use Rattle.agreement.proofs.Faults.{isKindRefusal}
-use Rattle.agreement.proofs.Nodes.{nodeOf, apply-operands, isFormed, NodeClaim, node}
+use Rattle.agreement.proofs.NodeOf.{nodeOf, apply-operands, isFormed, NodeClaim}
+use Rattle.agreement.proofs.Nodes.{node}
 
 abbrev pushed : List Expr → Result Expr → Result (List Expr)
 pushed below r = andThen r (λ e. ok (e ∷ below))

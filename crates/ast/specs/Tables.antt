@@ -13,6 +13,7 @@ use Rattle.ast.specs.Refusal.{ok}
 use Rattle.ast.specs.Expr.{Expr, NumberLiteral}
 use Rattle.ast.specs.Walk.{Walked, stack, stopped, stackAfter}
 use Rattle.ast.specs.CheckPage.{apply}
+use Rattle.ast.specs.Part.{fromRecord}
 
 abbrev pub entries : Walked Expr → List Expr
 entries (stack s) = s
@@ -32,6 +33,7 @@ treeAt page i = newest (stackAt page (suc i))
 
 -- entry i of the tables: record i stands at `start`, and its operands go down to the stack behind the first `first` records
 pub record Entry (page : List ℕ) (start first i : ℕ) : Type 0 where
+  pub stands : drop start page ≡ fromRecord i page
   pub item : Record
   pub rest : List ℕ
   pub reads : got item rest ≡ readRecord (drop start page)

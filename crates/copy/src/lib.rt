@@ -1,1 +1,3 @@
-// The copy of an accepted page: the definitions stand in specs/.
+// The copy of an accepted page (document 01, 'Checking', "The copy holds this state"): records go over as parts of the page, but for
+// set operators, which become many-to-many, and numbers, which take in the unary records behind them.
+pub mod number;

@@ -4,19 +4,23 @@ use Prim.Native.String.{String}
 use mathlib.Core.Bool.{Bool, true, false, _&&_, _||_}
 use mathlib.Core.List.{List, [], _∷_, _++_, map}
 use lib.Dec.{eqb, ltb}
-use Rattle.page.specs.Bytes.{pick, bytes, join}
+use Rattle.page.specs.Bytes.{pick, bytes, joinRest, join}
 use Rattle.page.specs.Text.{Text, isLabel}
 use Rattle.util.specs.Escape.{quote}
 use Rattle.records.specs.Field.{Labels}
 use Rattle.records.specs.Matcher.{MatchOp, equal, notEqual, re, notRe, Matcher}
 
 -- a label as it is, or quoted where it fails `is_label`
-abbrev pub displayLabel : Text → List ℕ
+unfoldable pub displayLabel : Text → List ℕ
 displayLabel t = pick (isLabel t) t (quote t)
 
 -- `Display` of `Labels`
-abbrev pub displayLabels : Labels → List ℕ
+unfoldable pub displayLabels : Labels → List ℕ
 displayLabels ls = join (bytes ", ") (map displayLabel ls)
+
+-- the labels behind the first, each with its separator in front
+unfoldable pub displayMoreLabels : Labels → List ℕ
+displayMoreLabels ls = joinRest (bytes ", ") (map displayLabel ls)
 
 abbrev pub matchOpWord : MatchOp → List ℕ
 matchOpWord equal = bytes "="
@@ -25,23 +29,23 @@ matchOpWord (re b) = bytes "=~"
 matchOpWord (notRe b) = bytes "!~"
 
 -- `Display` of `Matcher`
-abbrev pub displayMatcher : Matcher → List ℕ
+unfoldable pub displayMatcher : Matcher → List ℕ
 displayMatcher m = displayLabel (m .name) ++ matchOpWord (m .op) ++ quote (m .value)
 
 -- the order of texts as bytes
-abbrev pub atMost : Text → Text → Bool
+unfoldable pub atMost : Text → Text → Bool
 atMost [] u = true
 atMost (a ∷ t) [] = false
 atMost (a ∷ t) (b ∷ u) = ltb a b || (eqb a b && atMost t u)
 
-abbrev pub insert : Text → List Text → List Text
+unfoldable pub insert : Text → List Text → List Text
 insert t [] = t ∷ []
 insert t (u ∷ us) = pick (atMost t u) (t ∷ u ∷ us) (u ∷ insert t us)
 
-abbrev pub sort : List Text → List Text
+unfoldable pub sort : List Text → List Text
 sort [] = []
 sort (t ∷ ts) = insert t (sort ts)
 
 -- `Display` of `Matchers`: the texts sorted, joined by a comma
-abbrev pub displayMatchers : List Matcher → List ℕ
+unfoldable pub displayMatchers : List Matcher → List ℕ
 displayMatchers ms = join (bytes ",") (sort (map displayMatcher ms))

@@ -13,10 +13,14 @@ use Rattle.ast.specs.CheckAst.{checkAst}
 use Rattle.ast.specs.CheckPage.{apply, checkPage, check}
 use Rattle.ast.specs.Part.{Part, labelPart}
 use Rattle.copy.specs.Copy.{copyPage}
+use Rattle.util.specs.Decimal.{digits, decimal}
+use Rattle.util.specs.Escape.{escapeByte, escape, quote}
+use Rattle.util.specs.Duration.{countOf, countsOf, durationCounts, displayCount, displayCounts, displayDuration}
+use Rattle.label.specs.Label.{displayLabel, displayLabels, displayMatcher, atMost, insert, sort, displayMatchers}
 use Rattle.text.specs.Display.{display}
 use Rattle.text.specs.Pretty.{pretty}
 use Rattle.records.specs.Outcome.{Outcome, answer, refusal}
-use Rattle.sandzguli.specs.Calls.{Called, copy, canonicalText, programOutput}
+use Rattle.sandzguli.specs.Calls.{Called, copy, canonicalText, splitText, programOutput}
 
 -- what a page gives: its kind, its canonical text and its copy; or a refusal's number and record, and the program's output
 data Expected : Type 0 where
@@ -30,10 +34,13 @@ record Example : Type 0 where
 abbrev example : List ℕ → Expected → Example
 example p e = record { page = p; expected = e }
 
+abbrev up : List ℕ
+up = 0x02 ∷ 0x02 ∷ 0x75 ∷ 0x70 ∷ 0x00 ∷ []
+
 abbrev examples : List Example
 examples =
     -- `up`
-    example (0x02 ∷ 0x02 ∷ 0x75 ∷ 0x70 ∷ 0x00 ∷ []) (gives vector "up" (0x02 ∷ 0x02 ∷ 0x75 ∷ 0x70 ∷ 0x00 ∷ []))
+    example up (gives vector "up" (0x02 ∷ 0x02 ∷ 0x75 ∷ 0x70 ∷ 0x00 ∷ []))
     -- `-5`: the copy has a negated number
     ∷ example (0x00 ∷ 0x00 ∷ 0x05 ∷ 0x07 ∷ []) (gives scalar "-5" (0x00 ∷ 0x01 ∷ 0x05 ∷ []))
     -- `up and up`: the copy has a many-to-many modifier
@@ -96,6 +103,14 @@ jointLabel : T (outcomeIs (refuses 19 2 "") (check jointPage) && isPart 23 1 (la
 unfolding readRecord readPage checkAst apply checkPage labelPart
 jointLabel = tt
 
-starred : T (all holds examples)
+-- row 5 of document 01's table: `up`, 1 byte lent. 5 has the number of records as index, and the buffer keeps its byte
+abbrev isTooShort : Called → Bool
+isTooShort c = outcomeIs (refuses 5 1 "") (c .outcome) && equalBytes (c .buffer) (7 ∷ [])
+
+tooShortForUp : T (isTooShort (copy up (7 ∷ [])) && isTooShort (canonicalText up (7 ∷ [])) && isTooShort (splitText up (7 ∷ [])))
 unfolding readRecord readPage writeRecord checkAst apply checkPage copyPage display pretty
+tooShortForUp = tt
+
+starred : T (all holds examples)
+unfolding readRecord readPage writeRecord checkAst apply checkPage copyPage digits decimal escapeByte escape quote countOf countsOf durationCounts displayCount displayCounts displayDuration displayLabel displayLabels displayMatcher atMost insert sort displayMatchers display pretty
 starred = tt

@@ -1,2 +1,5 @@
 pub mod Display
 pub mod Pretty
+pub mod Layout
+pub mod Chain
+pub mod Seen

@@ -5,6 +5,7 @@ use Prim.Native.String.{String}
 use mathlib.Core.Bool.{Bool, true, false, _&&_, not}
 use mathlib.Core.List.{List, [], _∷_, _++_}
 use lib.Dec.{eqb}
+use lib.ListN.{getD}
 use Rattle.page.specs.Bytes.{pick, bytes}
 use Rattle.util.specs.Decimal.{decimal}
 
@@ -15,7 +16,7 @@ pub record TimeUnit : Type 0 where
   -- whether it counts only if it divides the rest
   pub exact : Bool
 
-abbrev timeUnit : String → ℕ → Bool → TimeUnit
+abbrev pub timeUnit : String → ℕ → Bool → TimeUnit
 timeUnit n m e = record { name = n; millis = m; exact = e }
 
 abbrev pub units : List TimeUnit
@@ -29,28 +30,37 @@ units =
     ∷ timeUnit "ms" 1 false
     ∷ []
 
--- how often a unit goes into so many milliseconds
-abbrev pub countOf : TimeUnit → ℕ → ℕ
-countOf u ms = pick (u .exact && not (eqb (ms % u .millis) 0)) 0 (ms / u .millis)
+-- the unit at a place of the list
+unfoldable pub unitAt : ℕ → TimeUnit
+unitAt i = getD units i (timeUnit "" 1 false)
+
+unfoldable pub unitName : ℕ → List ℕ
+unitName i = bytes (unitAt i .name)
+
+-- how often a unit, exact or not, goes into so many milliseconds
+unfoldable pub countOf : Bool → ℕ → ℕ → ℕ
+countOf exact millis ms = pick (exact && not (eqb (ms % millis) 0)) 0 (ms / millis)
 
 -- the counts of the units, in order, each of what those before it leave
-abbrev pub countsOf : List TimeUnit → ℕ → List ℕ
+unfoldable pub countsOf : List TimeUnit → ℕ → List ℕ
 countsOf [] ms = []
-countsOf (u ∷ us) ms = countOf u ms ∷ countsOf us (ms - countOf u ms * u .millis)
+countsOf (u ∷ us) ms =
+    let count = countOf (u .exact) (u .millis) ms in
+    count ∷ countsOf us (ms - count * u .millis)
 
-abbrev pub durationCounts : ℕ → List ℕ
+unfoldable pub durationCounts : ℕ → List ℕ
 durationCounts = countsOf units
 
 -- each count that is not 0, with its unit
-abbrev pub displayCount : ℕ → String → List ℕ
+unfoldable pub displayCount : ℕ → String → List ℕ
 displayCount zero name = []
 displayCount (suc n) name = decimal (suc n) ++ bytes name
 
-abbrev pub displayCounts : List TimeUnit → List ℕ → List ℕ
+unfoldable pub displayCounts : List TimeUnit → List ℕ → List ℕ
 displayCounts [] ns = []
 displayCounts (u ∷ us) [] = []
 displayCounts (u ∷ us) (n ∷ ns) = displayCount n (u .name) ++ displayCounts us ns
 
-abbrev pub displayDuration : ℕ → List ℕ
+unfoldable pub displayDuration : ℕ → List ℕ
 displayDuration zero = bytes "0s"
 displayDuration (suc ms) = displayCounts units (durationCounts (suc ms))

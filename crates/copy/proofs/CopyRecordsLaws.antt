@@ -1,0 +1,151 @@
+-- The records of a copy: they are allowed where those of the page are, no more of them than of the page, and copied to themselves. The set
+-- operator's change and the negated number are each done once. Assumes nothing.
+use Prim.Native.Nat.{ℕ, suc, _≤_}
+use mathlib.Core.Path.{_≡_, refl, ap, ap₂}
+use mathlib.Core.Bool.{Bool, true, false}
+use mathlib.Core.List.{List, [], _∷_}
+use mathlib.Core.Option.{Option, none, some}
+use native.Mathlib.Omega.{arith}
+use lib.ListN.{length}
+use Rattle.page.specs.Bytes.{pick}
+use Rattle.page.specs.Allowed.{Each}
+use Rattle.records.specs.Code.{isSetOperator}
+use Rattle.records.specs.Literal.{Literal, plus, minus, nan, negate}
+use Rattle.records.specs.Float.{IsExact}
+use Rattle.records.specs.Modifier.{Cardinality, oneToOne, manyToMany, manyToOne, oneToMany, BinModifier}
+use Rattle.records.specs.Record.{number, string, selector, range, subquery, at, offset, unary, paren, Record, leaf, wrapper, binary, aggregate, call}
+use Rattle.records.specs.Allowed.{IsOptionOf, IsCardinality, IsBinModifier, IsAllowed}
+use Rattle.ast.specs.CheckAst.{manyToManyOf, setOperatorModifier, checkedModifier}
+use Rattle.copy.specs.Copy.{copyNumber, copyRecord, copyRecords}
+
+-- ## checkedModifier
+
+manyToManyOf-allowed : (c : Cardinality) → IsCardinality c → IsCardinality (manyToManyOf c)
+manyToManyOf-allowed oneToOne h = tt
+manyToManyOf-allowed manyToMany h = tt
+manyToManyOf-allowed (manyToOne ls) h = h
+manyToManyOf-allowed (oneToMany ls) h = h
+
+setOperatorModifier-allowed : (m : Option BinModifier) → IsOptionOf IsBinModifier m → IsBinModifier (setOperatorModifier m)
+setOperatorModifier-allowed none h = (tt, tt, tt, tt)
+setOperatorModifier-allowed (some m) h = (h .0, manyToManyOf-allowed (m .card) (h .1), h .2, h .3)
+
+pub checkedModifier-allowed : (c : ℕ) (m : Option BinModifier) → IsOptionOf IsBinModifier m → IsOptionOf IsBinModifier (checkedModifier c m)
+checkedModifier-allowed c m h = by (isSetOperator c)
+  where
+    by : (b : Bool) → IsOptionOf IsBinModifier (pick b (some (setOperatorModifier m)) m)
+    by true = setOperatorModifier-allowed m h
+    by false = h
+
+manyToManyOf-once : (c : Cardinality) → manyToManyOf (manyToManyOf c) ≡ manyToManyOf c
+manyToManyOf-once oneToOne = refl
+manyToManyOf-once manyToMany = refl
+manyToManyOf-once (manyToOne ls) = refl
+manyToManyOf-once (oneToMany ls) = refl
+
+setOperatorModifier-once : (m : Option BinModifier) → setOperatorModifier (some (setOperatorModifier m)) ≡ setOperatorModifier m
+setOperatorModifier-once none = refl
+setOperatorModifier-once (some m) =
+    ap (λ (c : Cardinality). record { returnBool = m .returnBool; matching = m .matching; card = c; fillValues = m .fillValues }) (manyToManyOf-once (m .card))
+
+pub checkedModifier-once : (c : ℕ) (m : Option BinModifier) → checkedModifier c (checkedModifier c m) ≡ checkedModifier c m
+checkedModifier-once c m = by (isSetOperator c)
+  where
+    by : (b : Bool) → pick b (some (setOperatorModifier (pick b (some (setOperatorModifier m)) m))) (pick b (some (setOperatorModifier m)) m) ≡ pick b (some (setOperatorModifier m)) m
+    by true = ap some (setOperatorModifier-once m)
+    by false = refl
+
+-- ## copyNumber
+
+negate-exact : (l : Literal) → IsExact l → IsExact (negate l)
+negate-exact (plus m) h = h
+negate-exact (minus m) h = h
+negate-exact nan h = tt
+
+pub copyNumber-allowed : (l : Literal) (rs : List Record) → IsExact l → Each IsAllowed rs → Each IsAllowed (copyNumber l rs)
+copyNumber-allowed l [] h k = (h, tt)
+copyNumber-allowed l (leaf x ∷ rs) h k = (h, k)
+copyNumber-allowed l (wrapper unary ∷ rs) h k = copyNumber-allowed (negate l) rs (negate-exact l h) (k .1)
+copyNumber-allowed l (wrapper (range n) ∷ rs) h k = (h, k)
+copyNumber-allowed l (wrapper (subquery r s) ∷ rs) h k = (h, k)
+copyNumber-allowed l (wrapper (at a) ∷ rs) h k = (h, k)
+copyNumber-allowed l (wrapper (offset o) ∷ rs) h k = (h, k)
+copyNumber-allowed l (wrapper paren ∷ rs) h k = (h, k)
+copyNumber-allowed l (binary c m ∷ rs) h k = (h, k)
+copyNumber-allowed l (aggregate c m n ∷ rs) h k = (h, k)
+copyNumber-allowed l (call f n ∷ rs) h k = (h, k)
+
+pub copyNumber-length : (l : Literal) (rs : List Record) → length (copyNumber l rs) ≤ suc (length rs)
+copyNumber-length l [] = omega arith
+copyNumber-length l (leaf x ∷ rs) = omega arith
+copyNumber-length l (wrapper unary ∷ rs) = more (copyNumber-length (negate l) rs)
+  where
+    more : length (copyNumber (negate l) rs) ≤ suc (length rs) → length (copyNumber (negate l) rs) ≤ suc (suc (length rs))
+    more h = omega arith
+copyNumber-length l (wrapper (range n) ∷ rs) = omega arith
+copyNumber-length l (wrapper (subquery r s) ∷ rs) = omega arith
+copyNumber-length l (wrapper (at a) ∷ rs) = omega arith
+copyNumber-length l (wrapper (offset o) ∷ rs) = omega arith
+copyNumber-length l (wrapper paren ∷ rs) = omega arith
+copyNumber-length l (binary c m ∷ rs) = omega arith
+copyNumber-length l (aggregate c m n ∷ rs) = omega arith
+copyNumber-length l (call f n ∷ rs) = omega arith
+
+-- before records that are copied to themselves
+pub copyNumber-once : (l : Literal) (rs : List Record) → copyRecords rs ≡ rs → copyRecords (copyNumber l rs) ≡ copyNumber l rs
+copyNumber-once l [] e = refl
+copyNumber-once l (leaf x ∷ rs) e = ap (copyNumber l) e
+copyNumber-once l (wrapper unary ∷ rs) e = copyNumber-once (negate l) rs (cc)
+copyNumber-once l (wrapper (range n) ∷ rs) e = ap (copyNumber l) e
+copyNumber-once l (wrapper (subquery r s) ∷ rs) e = ap (copyNumber l) e
+copyNumber-once l (wrapper (at a) ∷ rs) e = ap (copyNumber l) e
+copyNumber-once l (wrapper (offset o) ∷ rs) e = ap (copyNumber l) e
+copyNumber-once l (wrapper paren ∷ rs) e = ap (copyNumber l) e
+copyNumber-once l (binary c m ∷ rs) e = ap (copyNumber l) e
+copyNumber-once l (aggregate c m n ∷ rs) e = ap (copyNumber l) e
+copyNumber-once l (call f n ∷ rs) e = ap (copyNumber l) e
+
+-- ## copyRecords
+
+copyRecord-allowed : (r : Record) (rs : List Record) → IsAllowed r → Each IsAllowed rs → Each IsAllowed (copyRecord r rs)
+copyRecord-allowed (leaf (number l)) rs h k = copyNumber-allowed l rs h k
+copyRecord-allowed (leaf (string t)) rs h k = (h, k)
+copyRecord-allowed (leaf (selector s)) rs h k = (h, k)
+copyRecord-allowed (wrapper w) rs h k = (h, k)
+copyRecord-allowed (binary c m) rs h k = ((h .0, checkedModifier-allowed c m (h .1)), k)
+copyRecord-allowed (aggregate c m n) rs h k = (h, k)
+copyRecord-allowed (call f n) rs h k = (h, k)
+
+pub copyRecords-allowed : (rs : List Record) → Each IsAllowed rs → Each IsAllowed (copyRecords rs)
+copyRecords-allowed [] h = tt
+copyRecords-allowed (r ∷ rs) h = copyRecord-allowed r (copyRecords rs) (h .0) (copyRecords-allowed rs (h .1))
+
+copyRecord-length : (r : Record) (rs : List Record) → length (copyRecord r rs) ≤ suc (length rs)
+copyRecord-length (leaf (number l)) rs = copyNumber-length l rs
+copyRecord-length (leaf (string t)) rs = omega arith
+copyRecord-length (leaf (selector s)) rs = omega arith
+copyRecord-length (wrapper w) rs = omega arith
+copyRecord-length (binary c m) rs = omega arith
+copyRecord-length (aggregate c m n) rs = omega arith
+copyRecord-length (call f n) rs = omega arith
+
+pub copyRecords-length : (rs : List Record) → length (copyRecords rs) ≤ length rs
+copyRecords-length [] = omega arith
+copyRecords-length (r ∷ rs) = further (copyRecord-length r (copyRecords rs)) (copyRecords-length rs)
+  where
+    further : length (copyRecord r (copyRecords rs)) ≤ suc (length (copyRecords rs)) → length (copyRecords rs) ≤ length rs → length (copyRecord r (copyRecords rs)) ≤ suc (length rs)
+    further h k = omega arith
+
+copyRecord-once : (r : Record) (rs : List Record) → copyRecords rs ≡ rs → copyRecords (copyRecord r rs) ≡ copyRecord r rs
+copyRecord-once (leaf (number l)) rs e = copyNumber-once l rs e
+copyRecord-once (leaf (string t)) rs e = ap {B = List Record} (λ xs. leaf (string t) ∷ xs) e
+copyRecord-once (leaf (selector s)) rs e = ap {B = List Record} (λ xs. leaf (selector s) ∷ xs) e
+copyRecord-once (wrapper w) rs e = ap {B = List Record} (λ xs. wrapper w ∷ xs) e
+copyRecord-once (binary c m) rs e = ap₂ {C = List Record} (λ x xs. binary c x ∷ xs) (checkedModifier-once c m) e
+copyRecord-once (aggregate c m n) rs e = ap {B = List Record} (λ xs. aggregate c m n ∷ xs) e
+copyRecord-once (call f n) rs e = ap {B = List Record} (λ xs. call f n ∷ xs) e
+
+-- a copy is copied to itself
+pub copyRecords-once : (rs : List Record) → copyRecords (copyRecords rs) ≡ copyRecords rs
+copyRecords-once [] = refl
+copyRecords-once (r ∷ rs) = copyRecord-once r (copyRecords rs) (copyRecords-once rs)

@@ -1,0 +1,149 @@
+-- The records of a readable page by their starts: the copy from one record on is that record's piece, then the copy from the next
+-- record that the piece does not take in. Assumes nothing.
+use Prim.Native.Nat.{ℕ, zero, suc, _+_, _-_, _≤_, _<_}
+use mathlib.Core.Path.{_≡_, refl, sym, ap, _∙_, subst}
+use mathlib.Core.Bool.{Bool, true, false}
+use mathlib.Core.List.{List, [], _∷_, _++_}
+use native.Mathlib.Omega.{arith}
+use native.Mathlib.Numerals.{add-one}
+use lib.ListN.{length, drop, getD, drop-of-length-le, length-drop}
+use lib.Seq.{drop-drop, drop-length}
+use lib.Dec.{T, leb}
+use borrow.Author.Tests.{leb-true}
+use Rattle.base.specs.Splice.{Cut}
+use Rattle.base.specs.Cases.{by-lt}
+use Rattle.page.specs.Bytes.{pick, all}
+use Rattle.page.specs.Limits.{pageLimit, recordLimit}
+use Rattle.page.specs.Read.{Read, refused, got, pastLimit}
+use Rattle.page.specs.Text.{writeAll}
+use Rattle.page.proofs.NumberLaws.{Written, isByte, right}
+use Rattle.page.proofs.ReaderLaws.{rest-bytes}
+use Rattle.records.specs.Record.{Record, readRecord, writeRecord, Ending, end, unreadable, Records, noRecords, readRecords, readPage}
+use Rattle.records.proofs.RecordLaws.{record-law}
+use Rattle.ast.specs.Part.{behind, fromRecord}
+use Rattle.ast.proofs.WalkLaws.{page-limit}
+use Rattle.ast.proofs.TablesLaws.{fromRecord-next}
+use Rattle.copy.specs.Copy.{copyRecord, copyRecords, copyPage}
+use Rattle.copy.specs.Piece.{pieceRead, pieceOf, absorbedRead, absorbedOf, copied, absorbed}
+use Rattle.copy.specs.Starts.{Starts, Spans, copyFrom}
+use Rattle.copy.proofs.PieceLaws.{ReadsTo, nothing-read, readRecords-reads, copyRecord-piece}
+
+-- ## A page read to its end
+
+module _ (page : List ℕ) where
+  reads-limited : (b : Bool) → leb (length page) pageLimit ≡ b
+      → pick b (readRecords recordLimit page) (noRecords (unreadable pastLimit)) .ending ≡ end
+      → (length page ≤ pageLimit) × ReadsTo page (pick b (readRecords recordLimit page) (noRecords (unreadable pastLimit)) .records)
+  reads-limited true q e = (leb-true (length page) pageLimit q, readRecords-reads recordLimit page e)
+  reads-limited false q e = absurd (let z : _≡_ {A = ℕ} 0 1 = cc in omega arith)
+
+pub readPage-reads : (page : List ℕ) → readPage page .ending ≡ end → (length page ≤ pageLimit) × ReadsTo page (readPage page .records)
+unfolding readPage
+readPage-reads page e = reads-limited page (leb (length page) pageLimit) refl e
+
+-- ## fromRecord
+
+pub fromRecord-reads : (i : ℕ) (s : List ℕ) (rs : List Record) → ReadsTo s rs → i ≤ length rs → ReadsTo (fromRecord i s) (drop i rs)
+fromRecord-reads zero s rs g h = g
+fromRecord-reads (suc i) s [] g h = absurd (let z : ⊥ = omega arith in z)
+fromRecord-reads (suc i) s (r ∷ rs) (t, e, more) h =
+    subst (λ (x : List ℕ). ReadsTo (fromRecord i x) (drop i rs)) (ap behind e) (fromRecord-reads i t rs more (omega arith))
+
+-- the bytes behind some bytes
+pub drop-bytes : (k : ℕ) (s : List ℕ) → T (all isByte s) → T (all isByte (drop k s))
+drop-bytes zero s h = h
+drop-bytes (suc k) [] h = h
+drop-bytes (suc k) (b ∷ bs) h = drop-bytes k bs (right (isByte b) (all isByte bs) h)
+
+behind-bytes : (s : List ℕ) (r : Record) (t : List ℕ) → T (all isByte s) → got r t ≡ readRecord s → T (all isByte t)
+behind-bytes s r t h e =
+    rest-bytes (writeRecord r) t (subst (λ (x : List ℕ). T (all isByte x)) (subst (Written writeRecord s) (sym e) (record-law s h)) h)
+
+-- ## copyFrom
+
+pub copyFrom-start : (page : List ℕ) → copyFrom page 0 ≡ copyPage page
+unfolding copyFrom copyPage
+copyFrom-start page = refl
+
+-- the first record's piece, and the copy of the records that it does not take in
+copy-front : (s : List ℕ) (rs : List Record) → T (all isByte s) → 0 < length rs → ReadsTo s rs
+    → writeAll writeRecord (copyRecords rs) ≡ pieceOf s ++ writeAll writeRecord (copyRecords (drop (suc (absorbedOf s)) rs))
+unfolding pieceOf absorbedOf
+copy-front s [] h l g = absurd (let z : ⊥ = omega arith in z)
+copy-front s (r ∷ rs) h l (t, e, more) =
+    ap (writeAll writeRecord) (copyRecord-piece r t rs (behind-bytes s r t h e) more)
+    ∙ ap (λ (x : Read Record). pieceRead x ++ writeAll writeRecord (copyRecords (drop (absorbedRead x) rs))) e
+
+module _ (page starts : List ℕ) (n : ℕ) (held : Starts page starts n) where
+  page-reads : ReadsTo page (readPage page .records)
+  page-reads = readPage-reads page (held .readable) .1
+
+  reads-at : (i : ℕ) → i ≤ n → ReadsTo (fromRecord i page) (drop i (readPage page .records))
+  reads-at i h = fromRecord-reads i page (readPage page .records) page-reads (omega (arith, held .count))
+
+  more-at : (i : ℕ) → i < n → 0 < length (drop i (readPage page .records))
+  more-at i h = subst (λ (k : ℕ). 0 < k) (sym (length-drop i (readPage page .records))) (omega (arith, held .count))
+
+  pub copyFrom-cut : (i : ℕ) → i < n
+      → Cut (copyFrom page i) (pieceOf (drop (getD starts i 0) page)) (copyFrom page (i + 1 + absorbedOf (drop (getD starts i 0) page)))
+  unfolding copyFrom
+  copyFrom-cut i l =
+      let s = drop (getD starts i 0) page in
+      let reads : ReadsTo s (drop i (readPage page .records)) = subst (λ (x : List ℕ). ReadsTo x (drop i (readPage page .records))) (sym (held .stands i l)) (reads-at i (omega arith)) in
+      record {
+        is =
+            copy-front s (drop i (readPage page .records)) (drop-bytes (getD starts i 0) page (held .bytes)) (more-at i l) reads
+            ∙ ap (λ (x : List Record). pieceOf s ++ writeAll writeRecord (copyRecords x)) (drop-drop (suc (absorbedOf s)) i (readPage page .records) ∙ ap (λ (k : ℕ). drop k (readPage page .records)) (further (absorbedOf s)));
+      }
+    where
+      further : (k : ℕ) → i + suc k ≡ i + 1 + k
+      further k = omega arith
+
+  pub copyFrom-end : (i : ℕ) → n ≤ i → copyFrom page i ≡ []
+  unfolding copyFrom
+  copyFrom-end i h = ap (λ (x : List Record). writeAll writeRecord (copyRecords x)) (drop-of-length-le (readPage page .records) {i = i} (omega (arith, held .count)))
+
+  -- ## Starts
+
+  pub starts-few : n ≤ recordLimit
+  starts-few = omega (arith, held .count, page-limit page)
+
+  pub starts-page : length page ≤ pageLimit
+  starts-page = readPage-reads page (held .readable) .0
+
+  starts-spans : (i next : ℕ) → i < n → next ≤ length page → drop next page ≡ fromRecord (suc i) page → Spans page (getD starts i 0) next
+  starts-spans i next h l e = spanned (drop i (readPage page .records)) (more-at i h) (reads-at i (omega arith))
+    where
+      spanned : (rs : List Record) → 0 < length rs → ReadsTo (fromRecord i page) rs → Spans page (getD starts i 0) next
+      spanned [] k g = absurd (let z : ⊥ = omega arith in z)
+      spanned (r ∷ rs) k (t, q, more) =
+          record {
+            bytes = held .bytes;
+            item = r;
+            reads = ap (got r) (e ∙ fromRecord-next i page ∙ sym (ap behind q)) ∙ q ∙ ap readRecord (sym (held .stands i h));
+            inside = l;
+          }
+
+  starts-inside : (i : ℕ) → i < n → getD starts i 0 < length page
+  starts-inside i h = by-lt (getD starts i 0) (length page) (λ l. l) (λ l. beyond (drop i (readPage page .records)) (more-at i h) (at-end l))
+    where
+      at-end : length page ≤ getD starts i 0 → ReadsTo [] (drop i (readPage page .records))
+      at-end l = subst (λ (x : List ℕ). ReadsTo x (drop i (readPage page .records))) (sym (held .stands i h) ∙ drop-of-length-le page {i = getD starts i 0} l) (reads-at i (omega arith))
+
+      beyond : (rs : List Record) → 0 < length rs → ReadsTo [] rs → getD starts i 0 < length page
+      beyond [] k g = absurd (let z : ⊥ = omega arith in z)
+      beyond (r ∷ rs) k g = nothing-read r rs g
+
+  -- a record ends where the next one starts
+  pub starts-next : (i : ℕ) → i + 1 < n → Spans page (getD starts i 0) (getD starts (i + 1) 0)
+  starts-next i h =
+      starts-spans i (getD starts (i + 1) 0) (omega arith) (omega (arith, starts-inside (i + 1) h))
+      (held .stands (i + 1) h ∙ ap (λ (k : ℕ). fromRecord k page) (add-one i))
+
+  -- the last one ends where the page ends
+  pub starts-last : (i : ℕ) → i < n → n ≤ i + 1 → Spans page (getD starts i 0) (length page)
+  starts-last i h l = starts-spans i (length page) h (omega arith) (drop-length page ∙ sym (none (drop (suc i) (readPage page .records)) (drop-of-length-le (readPage page .records) {i = suc i} (omega (arith, held .count))) (reads-at (suc i) (omega arith))))
+    where
+      none : (rs : List Record) → rs ≡ [] → ReadsTo (fromRecord (suc i) page) rs → fromRecord (suc i) page ≡ []
+      none [] e g = g
+      none (r ∷ rs) e g = absurd (let z : _≡_ {A = ℕ} 0 1 = cc in omega arith)

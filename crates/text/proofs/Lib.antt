@@ -1,0 +1,11 @@
+pub mod DisplayLaws
+pub mod OperandLaws
+pub mod TrimLaws
+pub mod PrettyLaws
+pub mod TreeLaws
+pub mod EntryLaws
+pub mod SeenLaws
+pub mod ChainLaws
+pub mod ValueLaws
+pub mod SoundLaws
+pub mod NodeLaws

@@ -1,0 +1,41 @@
+-- The text of the tree that a record ends, from its layout and its operands on the stack: what the recursive functions go by.
+use Prim.Native.Nat.{ℕ, suc, _≤_, _<_}
+use native.Mathlib.Omega.{arith}
+use mathlib.Core.Path.{_≡_, ap, ap₂, _∙_}
+use mathlib.Core.Bool.{Bool, true}
+use mathlib.Core.List.{List, _++_}
+use lib.ListN.{length}
+use Rattle.records.specs.Stack.{operandsOf}
+use Rattle.ast.specs.Expr.{Expr}
+use Rattle.ast.specs.Tables.{stackAt, treeAt, Tables}
+use Rattle.text.specs.Display.{display}
+use Rattle.text.specs.Pretty.{maxCharactersPerLine}
+use Rattle.text.specs.Layout.{Layout, layoutOf, children, front, between, rear, indentIf, frontAt, betweenAt, rearAt, innerMark, innerLevel, marked, joined}
+use Rattle.text.specs.Seen.{Seen}
+use Rattle.text.proofs.DisplayLaws.{by-pieces}
+use Rattle.text.proofs.PrettyLaws.{short, long}
+use Rattle.text.proofs.SoundLaws.{tree-sound}
+
+module _ {page : List ℕ} {i : ℕ} {own : Layout} {end count : ℕ} (s : Seen page i own end count) where
+  pub display-pieces : display (treeAt page i) ≡ front own ++ (joined (between own) display display (operandsOf count (stackAt page end)) ++ rear own)
+  display-pieces =
+      by-pieces (treeAt page i)
+      ∙ ap₂ (λ (o : Layout) (es : List Expr). front o ++ (joined (between o) display display es ++ rear o)) (s .layout) (s .operands)
+
+  -- a node longer than a line
+  pub marked-pieces : {starts firsts : List ℕ} → Tables page starts firsts (suc i) → (mark : Bool) (level : ℕ) → maxCharactersPerLine < length (display (treeAt page i))
+      → marked mark level (treeAt page i)
+      ≡ frontAt mark level own
+      ++ (joined (betweenAt level own) (marked (innerMark mark own) (innerLevel level own)) (marked true (innerLevel level own)) (operandsOf count (stackAt page end)) ++ rearAt level own)
+  marked-pieces t mark level h =
+      long (treeAt page i) (tree-sound t i (omega arith)) level h mark
+      ∙ ap₂
+      (λ (o : Layout) (es : List Expr).
+      frontAt mark level o ++ (joined (betweenAt level o) (marked (innerMark mark o) (innerLevel level o)) (marked true (innerLevel level o)) es ++ rearAt level o))
+      (s .layout)
+      (s .operands)
+
+-- one that fits a line
+pub marked-line : {page starts firsts : List ℕ} {i : ℕ} → Tables page starts firsts (suc i) → (mark : Bool) (level : ℕ)
+    → length (display (treeAt page i)) ≤ maxCharactersPerLine → marked mark level (treeAt page i) ≡ indentIf mark level ++ display (treeAt page i)
+marked-line {page} {i = i} t mark level h = short (treeAt page i) (tree-sound t i (omega arith)) level h mark

@@ -1,0 +1,4 @@
+pub mod DecimalLaws
+pub mod EscapeLaws
+pub mod DurationLaws
+pub mod PartLaws

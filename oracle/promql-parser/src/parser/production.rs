@@ -1,0 +1,1 @@
+//! Stub: the grammar's productions are not among the published files.

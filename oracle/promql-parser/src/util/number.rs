@@ -1,0 +1,3 @@
+//! Stub: number parsing is not among the published files.
+
+pub fn parse_str_radix() {}

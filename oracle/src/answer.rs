@@ -1,0 +1,228 @@
+//! What document 01 answers to a page: outcome, label part of 19, copy, canonical text, split text.
+
+use crate::copy;
+use crate::page::read::Reader;
+use crate::page::record::{Kind, Record};
+use crate::page::{write, MAX_PAGE_BYTES, MAX_RECORDS};
+use crate::tree::{self, Pattern, Stop};
+use promql_parser::parser::Expr;
+
+/// A kind, or a refusal number and the index of its record.
+#[derive(Debug, Clone, Copy, PartialEq, Eq)]
+pub enum Outcome {
+    Accepted(Kind),
+    Refused { number: u8, record: usize },
+}
+
+impl Outcome {
+    /// The library's word for an answer that wrote `written` bytes.
+    pub fn word(self, written: usize) -> u64 {
+        match self {
+            Outcome::Accepted(kind) => written as u64 * 4 + kind.number(),
+            Outcome::Refused { number, record } => {
+                (1 << 63) + u64::from(number) * 65_536 + record as u64
+            }
+        }
+    }
+}
+
+/// The label of 19 as a part of the page.
+#[derive(Debug, Clone, Copy, PartialEq, Eq)]
+pub struct Part {
+    pub start: usize,
+    pub length: usize,
+}
+
+impl Part {
+    /// The library's word for the part.
+    pub fn word(self) -> u64 {
+        self.start as u64 * 256 + self.length as u64
+    }
+}
+
+/// Whether document 01 lets the page be compared with the Rust; if not, flags alone decide about patterns.
+#[derive(Debug, Clone, Copy, PartialEq, Eq)]
+pub enum Domain {
+    Inside,
+    FlagUntrue,
+    PatternNotTaken,
+}
+
+/// A page worked through the Rust, record by record.
+#[derive(Debug)]
+pub struct Worked<'a> {
+    pub outcome: Outcome,
+    pub label: Option<Part>,
+    pub domain: Domain,
+    /// The Rust's own words, where it refused.
+    pub message: Option<String>,
+    /// The records read, the refused one included if it was readable.
+    pub records: Vec<Record<'a>>,
+    /// The checked tree and the records of its copy, for an accepted page.
+    pub checked: Option<(Expr, Vec<Record<'a>>)>,
+}
+
+#[derive(Debug, Clone, PartialEq)]
+pub struct Answer {
+    pub outcome: Outcome,
+    pub label: Option<Part>,
+    pub domain: Domain,
+    /// The number of records, which is the index of 5.
+    pub records: usize,
+    pub copy: Vec<u8>,
+    pub canonical: Vec<u8>,
+    pub split: Vec<u8>,
+}
+
+impl Answer {
+    /// The outcome of a call that was lent `lent` bytes and has `wanted` to write; 5 is tested last.
+    pub fn outcome_lent(&self, wanted: &[u8], lent: usize) -> Outcome {
+        match self.outcome {
+            Outcome::Accepted(_) if wanted.len() > lent => Outcome::Refused {
+                number: 5,
+                record: self.records,
+            },
+            outcome => outcome,
+        }
+    }
+}
+
+/// The oracle's own failure: the Rust said something that no row of the refusal table foresees.
+#[derive(Debug, Clone, PartialEq)]
+pub struct Failure(pub String);
+
+pub fn work(page: &[u8]) -> Result<Worked<'_>, Failure> {
+    let mut walk = Walk::default();
+    let stopped = walk.run(page);
+    let (outcome, message) = match stopped {
+        Ok(outcome) => (outcome, None),
+        Err(Stop::Refused { number, message }) => {
+            let record = walk.accepted;
+            let message = (!message.is_empty()).then_some(message);
+            (Outcome::Refused { number, record }, message)
+        }
+        Err(Stop::Unforeseen(words)) => return Err(Failure(words)),
+    };
+    let label = match outcome {
+        Outcome::Refused { number: 19, .. } => walk.records.last().and_then(tree::joint_label),
+        _ => None,
+    };
+    let label = label.map(|label| Part {
+        start: label.start,
+        length: label.text.len(),
+    });
+    let checked = match outcome {
+        Outcome::Accepted(_) => walk.stack.pop().map(|expr| (expr, walk.copied)),
+        Outcome::Refused { .. } => None,
+    };
+    Ok(Worked {
+        outcome,
+        label,
+        domain: domain(&walk.records),
+        message,
+        records: walk.records,
+        checked,
+    })
+}
+
+#[derive(Default)]
+struct Walk<'a> {
+    stack: Vec<Expr>,
+    records: Vec<Record<'a>>,
+    copied: Vec<Record<'a>>,
+    accepted: usize,
+}
+
+/// A refusal by document 01, about which the Rust has nothing to say.
+fn refused(number: u8) -> Stop {
+    Stop::Refused {
+        number,
+        message: String::new(),
+    }
+}
+
+impl<'a> Walk<'a> {
+    fn run(&mut self, page: &'a [u8]) -> Result<Outcome, Stop> {
+        if page.len() > MAX_PAGE_BYTES {
+            return Err(refused(3));
+        }
+        let mut reader = Reader::new(page);
+        while !reader.is_at_end() {
+            if self.accepted == MAX_RECORDS {
+                return Err(refused(3));
+            }
+            self.records.push(reader.record().map_err(refused)?);
+            self.apply_last()?;
+            self.accepted += 1;
+        }
+        match self.stack.as_slice() {
+            [expr] => Ok(Outcome::Accepted(tree::kind(expr))),
+            _ => Err(refused(2)),
+        }
+    }
+
+    fn apply_last(&mut self) -> Result<(), Stop> {
+        let record = self.records.last().expect("a record was just read");
+        let kept = self
+            .stack
+            .len()
+            .checked_sub(record.operands())
+            .ok_or(refused(2))?;
+        let operands = self.stack.split_off(kept);
+        let result = tree::apply(record, operands)?;
+        copy::take_over(&mut self.copied, record, &result);
+        self.stack.push(result);
+        Ok(())
+    }
+}
+
+fn domain(records: &[Record]) -> Domain {
+    let matchers = records.iter().flat_map(|record| match record {
+        Record::Selector { matchers, .. } => matchers.as_slice(),
+        _ => &[],
+    });
+    let mut domain = Domain::Inside;
+    for matcher in matchers {
+        match tree::pattern(matcher) {
+            Pattern::FlagTrue => {}
+            Pattern::FlagUntrue => domain = Domain::FlagUntrue,
+            Pattern::NotTaken => return Domain::PatternNotTaken,
+        }
+    }
+    domain
+}
+
+pub fn answer(page: &[u8]) -> Result<Answer, Failure> {
+    let worked = work(page)?;
+    Ok(of_worked(&worked))
+}
+
+pub fn of_worked(worked: &Worked) -> Answer {
+    let (copy, canonical, split) = match &worked.checked {
+        Some((expr, copied)) => (
+            write::page(copied),
+            expr.to_string().into_bytes(),
+            expr.prettify().into_bytes(),
+        ),
+        None => Default::default(),
+    };
+    Answer {
+        outcome: worked.outcome,
+        label: worked.label,
+        domain: worked.domain,
+        records: worked.records.len(),
+        copy,
+        canonical,
+        split,
+    }
+}
+
+/// What the program writes for a page: split text and a line feed, or the refusal; it lends 65,536 bytes.
+pub fn program_output(answer: &Answer) -> Vec<u8> {
+    match answer.outcome_lent(&answer.split, 65_536) {
+        Outcome::Accepted(_) => [answer.split.as_slice(), b"\n"].concat(),
+        Outcome::Refused { number, record } => {
+            format!("refused {number} at {record}\n").into_bytes()
+        }
+    }
+}

@@ -1,0 +1,68 @@
+//! Command line of the oracle.
+//!
+//!     oracle answer HEX         what document 01 answers to a page
+//!     oracle run SEED ROUNDS    generated pages, and the classes that they reached
+//!     oracle keep               writes the kept list again
+
+use oracle::answer::{self, Outcome};
+use oracle::{hex, kept, run};
+use std::process::ExitCode;
+
+const USAGE: &str = "usage: oracle answer HEX | run SEED ROUNDS | keep";
+
+fn main() -> ExitCode {
+    let arguments: Vec<String> = std::env::args().skip(1).collect();
+    let words: Vec<&str> = arguments.iter().map(String::as_str).collect();
+    let result = match words.as_slice() {
+        ["answer", page] => show(&hex::bytes(page)),
+        ["run", seed, rounds] => report(seed, rounds),
+        ["keep"] => keep(),
+        _ => Err(USAGE.into()),
+    };
+    match result {
+        Ok(()) => ExitCode::SUCCESS,
+        Err(words) => {
+            eprintln!("{words}");
+            ExitCode::FAILURE
+        }
+    }
+}
+
+fn show(page: &[u8]) -> Result<(), String> {
+    let worked = answer::work(page).map_err(|failure| failure.0)?;
+    let answer = answer::of_worked(&worked);
+    println!("{:?} ({:?})", answer.outcome, answer.domain);
+    if let Some(message) = worked.message {
+        println!("the Rust: {message}");
+    }
+    if let Some(part) = answer.label {
+        println!("label: {}, {}", part.start, part.length);
+    }
+    if let Outcome::Accepted(_) = answer.outcome {
+        println!("copy: {}", hex::text(&answer.copy));
+        println!("canonical: {}", String::from_utf8_lossy(&answer.canonical));
+        println!("split:\n{}", String::from_utf8_lossy(&answer.split));
+    }
+    Ok(())
+}
+
+/// Runs generated pages; a class that never occurred is a failure.
+fn report(seed: &str, rounds: &str) -> Result<(), String> {
+    let seed = seed.parse().map_err(|_| USAGE)?;
+    let rounds = rounds.parse().map_err(|_| USAGE)?;
+    let coverage = run::run(seed, rounds)?;
+    print!("{coverage}");
+    match coverage.missing().as_slice() {
+        [] => Ok(()),
+        missing => Err(format!("never occurred: {}", missing.join(", "))),
+    }
+}
+
+fn keep() -> Result<(), String> {
+    let entries = kept::entries().map_err(|failure| failure.0)?;
+    let list = kept::list(&entries);
+    std::fs::write(kept::PATH, &list).map_err(|error| error.to_string())?;
+    let (pages, accepted) = kept::counts(&entries);
+    println!("{pages} pages, {accepted} accepted, {} bytes", list.len());
+    Ok(())
+}

@@ -1,0 +1,86 @@
+//! Which classes of document 01 a run of pages reached: refusals, kinds, the parts of records, the rules of both texts.
+
+mod classes;
+mod records;
+mod split;
+mod texts;
+
+use crate::answer::{Answer, Outcome, Worked};
+use std::collections::BTreeMap;
+use std::fmt;
+
+/// How often each class occurred. A class that is not declared cannot be counted.
+pub struct Coverage {
+    counts: BTreeMap<String, u64>,
+    pub pages: u64,
+    pub accepted: u64,
+}
+
+impl Default for Coverage {
+    fn default() -> Self {
+        Self {
+            counts: classes::all().into_iter().map(|class| (class, 0)).collect(),
+            pages: 0,
+            accepted: 0,
+        }
+    }
+}
+
+impl Coverage {
+    fn hit(&mut self, class: impl AsRef<str>) {
+        let class = class.as_ref();
+        match self.counts.get_mut(class) {
+            Some(count) => *count += 1,
+            None => panic!("the class '{class}' is not declared"),
+        }
+    }
+
+    fn hit_if(&mut self, is_hit: bool, class: &str) {
+        if is_hit {
+            self.hit(class);
+        }
+    }
+
+    pub fn observe(&mut self, worked: &Worked, answer: &Answer) {
+        self.pages += 1;
+        for record in &worked.records {
+            self.record(record);
+        }
+        match worked.outcome {
+            Outcome::Refused { number, .. } => self.hit(format!("refusal {number:02}")),
+            Outcome::Accepted(kind) => {
+                self.accepted += 1;
+                self.hit(format!("kind {kind:?}"));
+                let short = answer.outcome_lent(&answer.split, answer.split.len() - 1);
+                self.hit_if(
+                    matches!(short, Outcome::Refused { number: 5, .. }),
+                    "refusal 05",
+                );
+            }
+        }
+        if let Some((tree, copied)) = &worked.checked {
+            self.texts(&worked.records, copied.len());
+            self.split(tree, 0);
+        }
+    }
+
+    /// The classes that never occurred.
+    pub fn missing(&self) -> Vec<&str> {
+        self.counts
+            .iter()
+            .filter(|(_, count)| **count == 0)
+            .map(|(class, _)| class.as_str())
+            .collect()
+    }
+}
+
+impl fmt::Display for Coverage {
+    fn fmt(&self, f: &mut fmt::Formatter) -> fmt::Result {
+        writeln!(f, "{} pages, {} accepted", self.pages, self.accepted)?;
+        for (class, count) in &self.counts {
+            writeln!(f, "{count:>9}  {class}")?;
+        }
+        let missing = self.missing().len();
+        writeln!(f, "{} classes, {missing} missing", self.counts.len())
+    }
+}

@@ -1,0 +1,93 @@
+//! Pages from a seed: good ones, planted faults, damaged copies, sizes at the limits, deep nesting, short and random bytes.
+
+mod call;
+pub mod codes;
+mod damage;
+mod expression;
+pub mod fault;
+pub mod limits;
+pub mod nesting;
+mod parts;
+pub mod stream;
+mod texts;
+
+pub use damage::damaged;
+
+use crate::page::record::{Kind, Record};
+use crate::page::{write, MAX_PAGE_BYTES, MAX_RECORDS};
+use crate::random::Random;
+
+/// Records under construction; `room` bounds the length of the texts in them.
+pub struct Generator<'r> {
+    pub random: &'r mut Random,
+    pub room: usize,
+}
+
+pub type Records = Vec<Record<'static>>;
+
+impl<'r> Generator<'r> {
+    pub fn new(random: &'r mut Random, room: usize) -> Self {
+        Self { random, room }
+    }
+}
+
+/// A good page of exactly this many records, with the kind that it has.
+pub fn good(random: &mut Random, records: usize) -> (Vec<u8>, Kind) {
+    let kind = *random.pick(&[
+        Kind::Vector,
+        Kind::Vector,
+        Kind::Vector,
+        Kind::Scalar,
+        Kind::Matrix,
+        Kind::String,
+    ]);
+    good_of_kind(random, kind, records)
+}
+
+pub fn good_of_kind(random: &mut Random, kind: Kind, records: usize) -> (Vec<u8>, Kind) {
+    let records = records.clamp(1, MAX_RECORDS);
+    loop {
+        let room = match records {
+            0..=6 if random.chance(5) => 255,
+            0..=40 if random.chance(30) => 40,
+            _ => 8,
+        };
+        let page = write::page(&Generator::new(random, room).expression(kind, records));
+        if page.len() <= MAX_PAGE_BYTES {
+            return (page, kind);
+        }
+    }
+}
+
+/// A page of the size that benchmarks use: a vector of this many records with texts of everyday length.
+pub fn everyday(random: &mut Random, records: usize) -> Vec<u8> {
+    loop {
+        let made = Generator::new(random, 12).expression(Kind::Vector, records);
+        let page = write::page(&made);
+        if page.len() <= MAX_PAGE_BYTES {
+            return page;
+        }
+    }
+}
+
+/// Every byte string of at most two bytes.
+pub fn shortest() -> impl Iterator<Item = Vec<u8>> {
+    let none = std::iter::once(Vec::new());
+    let one = (0..=255u8).map(|byte| vec![byte]);
+    let two = (0..=u16::MAX).map(|both| both.to_be_bytes().to_vec());
+    none.chain(one).chain(two)
+}
+
+/// Random bytes, mostly small ones, since those begin records.
+pub fn bytes(random: &mut Random) -> Vec<u8> {
+    let length = random.below(24);
+    (0..length)
+        .map(|_| {
+            if random.chance(80) {
+                random.byte() % 16
+            } else {
+                random.byte()
+            }
+        })
+        .collect()
+}

@@ -1,0 +1,14 @@
+//! The page of document 01: its records (`record`), how they are read (`read`) and written (`write`).
+
+pub mod read;
+pub mod record;
+pub mod write;
+
+pub const MAX_PAGE_BYTES: usize = 8192;
+pub const MAX_RECORDS: usize = 256;
+pub const MAX_TEXT_BYTES: u64 = 255;
+pub const MAX_LIST: u64 = 16;
+pub const MAX_FUNCTION_NAME_BYTES: u64 = 64;
+pub const MAX_AT_MILLISECONDS: u64 = 1_000_000_000_000_000;
+pub const MAX_NUMBER: u64 = 1 << 53;
+pub const MAX_UPPER: u64 = 16;

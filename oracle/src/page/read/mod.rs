@@ -1,0 +1,216 @@
+//! Reading of records, written from document 01 alone: the fields in order, the first faulty one decides.
+
+mod field;
+
+pub use field::{Fault, Reader};
+
+use super::record::*;
+use super::{MAX_AT_MILLISECONDS, MAX_FUNCTION_NAME_BYTES, MAX_TEXT_BYTES, MAX_UPPER};
+use field::{Read, BAD, LIMIT};
+
+impl<'a> Reader<'a> {
+    fn labels(&mut self) -> Read<Labels<'a>> {
+        self.list(Self::text)
+    }
+
+    fn kind(&mut self) -> Read<Kind> {
+        Ok(Kind::ALL[self.choice(4)? as usize])
+    }
+
+    fn literal(&mut self) -> Read<Number> {
+        Ok(match self.choice(5)? {
+            0 => Number::Whole(self.number()?),
+            1 => Number::NegativeWhole(self.number()?),
+            2 => Number::NaN,
+            3 => Number::Inf,
+            _ => Number::NegativeInf,
+        })
+    }
+
+    fn matcher(&mut self) -> Read<Matcher<'a>> {
+        let operation = self.choice(4)?;
+        let name = self.text()?;
+        let value = self.text()?;
+        let operation = match operation {
+            0 => Operation::Equal,
+            1 => Operation::NotEqual,
+            2 => Operation::Regex(self.flag()?),
+            _ => Operation::NotRegex(self.flag()?),
+        };
+        Ok(Matcher {
+            operation,
+            name,
+            value,
+        })
+    }
+
+    fn selector(&mut self) -> Read<Record<'a>> {
+        Ok(Record::Selector {
+            name: self.text_within(MAX_TEXT_BYTES, is_metric_name_or_empty)?,
+            matchers: self.list(Self::matcher)?,
+        })
+    }
+
+    fn subquery(&mut self) -> Read<Record<'a>> {
+        let range = self.number()?;
+        let step = if self.flag()? {
+            Some(self.number()?)
+        } else {
+            None
+        };
+        Ok(Record::Subquery { range, step })
+    }
+
+    fn at_time(&mut self) -> Read<u64> {
+        let milliseconds = self.number()?;
+        if milliseconds > MAX_AT_MILLISECONDS {
+            return Err(LIMIT);
+        }
+        Ok(milliseconds)
+    }
+
+    fn at_modifier(&mut self) -> Read<At> {
+        match self.choice(4)? {
+            0 => Ok(At::Start),
+            1 => Ok(At::End),
+            2 => Ok(At::After(self.at_time()?)),
+            _ => match self.at_time()? {
+                0 => Err(BAD),
+                milliseconds => Ok(At::Before(milliseconds)),
+            },
+        }
+    }
+
+    fn offset(&mut self) -> Read<Record<'a>> {
+        Ok(Record::Offset {
+            is_minus: self.flag()?,
+            milliseconds: self.number()?,
+        })
+    }
+
+    fn code(&mut self) -> Read<u8> {
+        match self.choice(31)? {
+            0 => Err(BAD),
+            code => Ok(code as u8),
+        }
+    }
+
+    fn matching(&mut self) -> Read<Matching<'a>> {
+        Ok(match self.choice(3)? {
+            0 => Matching::None,
+            1 => Matching::On(self.labels()?),
+            _ => Matching::Ignoring(self.labels()?),
+        })
+    }
+
+    fn cardinality(&mut self) -> Read<Cardinality<'a>> {
+        Ok(match self.choice(4)? {
+            0 => Cardinality::OneToOne,
+            1 => Cardinality::GroupLeft(self.labels()?),
+            2 => Cardinality::GroupRight(self.labels()?),
+            _ => Cardinality::ManyToMany,
+        })
+    }
+
+    fn fill(&mut self) -> Read<Option<Number>> {
+        if self.flag()? {
+            self.literal().map(Some)
+        } else {
+            Ok(None)
+        }
+    }
+
+    fn modifier(&mut self) -> Read<Modifier<'a>> {
+        Ok(Modifier {
+            is_bool: self.flag()?,
+            matching: self.matching()?,
+            cardinality: self.cardinality()?,
+            left_fill: self.fill()?,
+            right_fill: self.fill()?,
+        })
+    }
+
+    fn binary(&mut self) -> Read<Record<'a>> {
+        let code = self.code()?;
+        let modifier = if self.flag()? {
+            Some(self.modifier()?)
+        } else {
+            None
+        };
+        Ok(Record::Binary { code, modifier })
+    }
+
+    fn aggregate(&mut self) -> Read<Record<'a>> {
+        let code = self.code()?;
+        let grouping = match self.choice(3)? {
+            0 => Grouping::None,
+            1 => Grouping::By(self.labels()?),
+            _ => Grouping::Without(self.labels()?),
+        };
+        let arguments = self.count()?;
+        Ok(Record::Aggregate {
+            code,
+            grouping,
+            arguments,
+        })
+    }
+
+    fn extra(&mut self) -> Read<Extra> {
+        match self.choice(3)? {
+            0 => Ok(Extra::Fixed),
+            1 => Ok(Extra::Unlimited),
+            _ => match self.number()? {
+                0 => Err(BAD),
+                upper if upper > MAX_UPPER => Err(LIMIT),
+                upper => Ok(Extra::Upper(upper)),
+            },
+        }
+    }
+
+    fn call(&mut self) -> Read<Record<'a>> {
+        let signature = Signature {
+            name: self.text_within(MAX_FUNCTION_NAME_BYTES, is_function_name)?,
+            kinds: self.list(Self::kind)?,
+            extra: self.extra()?,
+            result: self.kind()?,
+        };
+        let arguments = self.count()?;
+        Ok(Record::Call {
+            signature,
+            arguments,
+        })
+    }
+
+    /// The next record, or the refusal of its first faulty field.
+    pub fn record(&mut self) -> Read<Record<'a>> {
+        match self.choice(12)? {
+            0 => self.literal().map(Record::Number),
+            1 => self.text().map(Record::String),
+            2 => self.selector(),
+            3 => self.number().map(Record::Range),
+            4 => self.subquery(),
+            5 => self.at_modifier().map(Record::At),
+            6 => self.offset(),
+            7 => Ok(Record::Unary),
+            8 => Ok(Record::Paren),
+            9 => self.binary(),
+            10 => self.aggregate(),
+            _ => self.call(),
+        }
+    }
+}
+
+/// A letter, `_` or `:`, then these or digits; length 0 stands for no name.
+fn is_metric_name_or_empty(text: &str) -> bool {
+    let is_start = |c: char| c.is_ascii_alphabetic() || c == '_' || c == ':';
+    text.is_empty() || is_name(text, is_start)
+}
+
+/// Like a metric name without `:`, not empty.
+fn is_function_name(text: &str) -> bool {
+    is_name(text, |c| c.is_ascii_alphabetic() || c == '_')
+}
+
+fn is_name(text: &str, is_start: impl Fn(char) -> bool) -> bool {
+    text.starts_with(&is_start) && text.chars().all(|c| is_start(c) || c.is_ascii_digit())
+}
