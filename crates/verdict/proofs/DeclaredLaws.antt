@@ -22,15 +22,6 @@ use Rattle.verdict.specs.Call.{Next, undeclared, next, nextKind}
 -- ## The kinds from a place of the page on
 
 module _ (n : ℕ) (s : List ℕ) where
-  pub count-more : {k : Kind} {t : List ℕ} → 0 < n → got k t ≡ readKind s → length (listed readKind n s) ≡ suc (length (listed readKind (n - 1) t))
-  count-more h e = ap length (listed-more readKind n s h e)
-
-  pub count-refused : {f : FieldFault} → refused f ≡ readKind s → length (listed readKind n s) ≡ 0
-  count-refused e = ap length (listed-refused readKind n s e)
-
-  pub count-none : n ≤ 0 → length (listed readKind n s) ≡ 0
-  count-none h = ap length (listed-none readKind n s h)
-
   pub next-more : {k : Kind} {t : List ℕ} → 0 < n → got k t ≡ readKind s → true ≡ not (isEmpty (listed readKind (n - 1) t))
       → next k (listed readKind (n - 1) t) ≡ nextKind (listed readKind n s)
   next-more {k} {t} h e more = go (listed readKind (n - 1) t) more ∙ sym (ap nextKind (listed-more readKind n s h e))

@@ -1,2 +1,3 @@
 pub mod Selector
 pub mod Call
+pub mod Judged

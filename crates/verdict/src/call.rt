@@ -1,17 +1,22 @@
 // Calls (ast.rs, `check_call_arity`, `check_args_match_types`, `check_ast_for_call`): refusals 26 to 30.
-use crate::declared::{Declared, count_kinds, next_kind, same_kind};
+use crate::declared::Declared;
+use crate::declared::next_kind;
+use crate::declared::same_kind;
 use crate::exempt::is_exempt;
-use judge::node::{kind_of, node_at};
-use judge::{Node, Refusal, Verdict};
-use records::{Function, Variadic};
+use judge::Node;
+use judge::Refusal;
+use judge::Verdict;
+use judge::node::kind_of;
+use judge::node::node_at;
+use records::Function;
+use records::Variadic;
 ghost use Prim.Native.Nat.{_+_, _-_, _≤_};
 ghost use mathlib.Core.List.{map};
 ghost use mathlib.Core.Path.{_≡_};
 ghost use lib.ListN.{drop};
-ghost use Rattle.page.specs.Answers.{Lies};
 ghost use Rattle.records.specs.Stack.{operandsOf};
 ghost use Rattle.records.specs.Answers.{kindsOn};
-ghost use Rattle.records.specs.SignatureAnswers.{variadicOf, functionOn};
+ghost use Rattle.records.specs.SignatureAnswers.{variadicOf, functionOn, FunctionLies};
 ghost use Rattle.ast.specs.Refusal.{firstFault};
 ghost use Rattle.ast.specs.CheckAst.{arityRows, argsMatch};
 ghost use Rattle.ast.specs.Node.{nodeKind};
@@ -113,15 +118,15 @@ pub fn judge_call(
     count: usize,
 ) -> Verdict
     requires { ⌜ Sized (now forms) (now values) ⌝ }
-    requires { ⌜ Lies (now page) (function .name) ⌝ }
+    requires { ⌜ FunctionLies (now page) function ⌝ }
     requires { ⌜ top + count ≤ 256 ⌝ }
     ensures { λ r. ⌜ verdictMeant r ≡ judgeCall (functionOn (now (page .entry)) function) (operandsOf count (drop top (nodes (now (forms .entry)) (now (values .entry))))) ⌝ }
 {
     let name = function.name;
     let variadic = function.variadic;
     let result = function.result;
-    let known = count_kinds(page, function.kinds, function.declared);
-    match arity(variadic, known, count) {
+    let declared = function.declared;
+    match arity(variadic, declared, count) {
         Finding::Fault(refusal) => Verdict::Refused(refusal),
         Finding::Fine => {
             if count == 0 {
@@ -130,18 +135,10 @@ pub fn judge_call(
             if is_exempt(page, name, node_at(forms, values, top + (count - 1))) {
                 return Verdict::Put(Node::Other(result));
             }
-            if known == 0 {
+            if declared == 0 {
                 return Verdict::Refused(Refusal::NoDeclaredKinds);
             }
-            if arguments_match(
-                page,
-                function.kinds,
-                function.declared,
-                forms,
-                values,
-                top,
-                count,
-            ) {
+            if arguments_match(page, function.kinds, declared, forms, values, top, count) {
                 return Verdict::Put(Node::Other(result));
             }
             Verdict::Refused(Refusal::ArgumentKind)

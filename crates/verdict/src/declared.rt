@@ -1,8 +1,9 @@
 // Declared kinds of a signature, which stay on the page and are read again.
-use records::{Kind, KindField, read_kind};
+use records::Kind;
+use records::KindField;
+use records::read_kind;
 ghost use mathlib.Core.Bool.{not};
 ghost use mathlib.Core.Path.{_≡_};
-ghost use lib.ListN.{length};
 ghost use Rattle.page.specs.Bytes.{isEmpty};
 ghost use Rattle.records.specs.Kind.{kindNumber, equalKind};
 ghost use Rattle.records.specs.Answers.{kindOf, kindsOn};
@@ -23,26 +24,6 @@ pub fn same_kind(a: Kind, b: Kind) -> bool
     ensures { λ r. ⌜ r ≡ equalKind (kindOf a) (kindOf b) ⌝ }
 {
     kind_number(a) == kind_number(b)
-}
-
-// How many kinds there are.
-pub fn count_kinds(page: &[u8], start: usize, count: usize) -> usize
-    ensures { λ r. ⌜ r ≡ length (kindsOn (now (page .entry)) start count) ⌝ }
-{
-    let mut left = count;
-    let mut at = start;
-    while 0 < left {
-        match read_kind(page, at) {
-            KindField::Got(_, next) => {
-                at = next;
-                left = left - 1;
-            }
-            KindField::Bad => {
-                return count - left;
-            }
-        }
-    }
-    count
 }
 
 // Whether there is a kind at all.

@@ -1,12 +1,14 @@
 // The literal exception (ast.rs, `check_ast_for_call`): exp of NaN or an infinity, a logarithm also of a value at or below 0. Names are
 // compared exactly, and only a bare number counts.
+use float::at_or_below_zero;
+use float::is_infinite;
+use float::is_nan;
 use judge::Node;
-use page::{Span, same_text, text_at};
-ghost use mathlib.Core.Bool.{_&&_, _||_};
+use page::Span;
+use page::same_text;
+use page::text_at;
 ghost use mathlib.Core.Path.{_≡_};
-ghost use lib.Ieee as Ieee;
 ghost use Rattle.page.specs.Answers.{spanOn, Lies};
-ghost use Rattle.records.specs.Float.{zeroFloat, isInfiniteFloat};
 ghost use Rattle.records.specs.LiteralException.{isExp, isLogarithm};
 ghost use Rattle.ast.specs.Judge.{isExemptFloat, isExemptNode};
 ghost use Rattle.judge.specs.Answers.{nodeMeant};
@@ -23,24 +25,11 @@ fn is_logarithm(name: &[u8]) -> bool
     same_text(name, b"ln") | same_text(name, b"log2") | same_text(name, b"log10")
 }
 
-// NaN alone differs from itself.
-fn is_special(value: f64) -> bool
-    ensures { λ r. ⌜ r ≡ (Ieee.isNan value || isInfiniteFloat value) ⌝ }
-{
-    (value != value) | (value == 1.0 / 0.0) | (value == -1.0 / 0.0)
-}
-
-fn is_low(value: f64) -> bool
-    ensures { λ r. ⌜ r ≡ Ieee.le value zeroFloat ⌝ }
-{
-    value <= 0.0
-}
-
 fn is_exempt_value(name: &[u8], value: f64) -> bool
     ensures { λ r. ⌜ r ≡ isExemptFloat (now (name .entry)) value ⌝ }
 {
-    let special = is_special(value);
-    is_exp(name) & special | is_logarithm(name) & (special | is_low(value))
+    let special = is_nan(value) | is_infinite(value);
+    is_exp(name) & special | is_logarithm(name) & (special | at_or_below_zero(value))
 }
 
 // Whether a call of this name with this first argument is free of 29 and 30.

@@ -4,4 +4,5 @@ pub mod declared;
 pub mod exempt;
 pub mod label;
 pub mod modifier;
+pub mod record;
 pub mod selector;

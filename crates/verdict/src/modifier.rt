@@ -1,8 +1,14 @@
 // Modifiers of binary expressions, as the check asks of them (ast.rs, `is_matching_on`, `is_labels_joint`, `is_matching_labels_not_empty`).
-use crate::label::{has_joint, has_labels};
+use crate::label::has_joint;
+use crate::label::has_labels;
 use judge::Verdict;
-use judge::binary::{Marks, judge_sides};
-use records::{BinModifier, Cardinality, Kind, LabelModifier, Modifier};
+use judge::binary::Marks;
+use judge::binary::judge_sides;
+use records::BinModifier;
+use records::Cardinality;
+use records::Kind;
+use records::LabelModifier;
+use records::Modifier;
 ghost use Prim.Native.Nat.{ℕ};
 ghost use mathlib.Core.Bool.{not, false};
 ghost use mathlib.Core.List.{List};

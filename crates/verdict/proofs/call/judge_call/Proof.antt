@@ -18,11 +18,7 @@ use Rattle.verdict.proofs.call.judge_call.Lts as lts
 use Rattle.judge.proofs.node.node_at.Reads as node-at-reads
 use Rattle.verdict.proofs.call.arguments_match.Reads as arguments-match-reads
 use Rattle.verdict.proofs.call.arity.Reads as arity-reads
-use Rattle.verdict.proofs.declared.count_kinds.Reads as count-kinds-reads
 use Rattle.verdict.proofs.exempt.is_exempt.Reads as is-exempt-reads
-
-count-kinds-requires : tie.Need-count-kinds-requires
-count-kinds-requires c κs = search needs
 
 arity-requires : tie.Need-arity-requires
 arity-requires c κs = search needs
@@ -34,11 +30,11 @@ enum-told : tie.Need-enum-told
 enum-told c = search needs
 
 returns : tie.Need-returns
-returns c = let f = functionOn (now (c .before .before .before .before .before .before .before .before .before .args .page)) (c .before .before .before .before .before .before .before .before .before .args .function) in
-    let args = operandsOf (c .before .before .before .before .before .before .before .before .before .args .count) (drop (c .before .before .before .before .before .before .before .before .before .args .top) (nodes (now (c .before .before .before .before .before .before .before .before .before .args .forms)) (now (c .before .before .before .before .before .before .before .before .before .args .values)))) in
-    let size = sym (operands-size (now (c .before .before .before .before .before .before .before .before .before .args .forms)) (now (c .before .before .before .before .before .before .before .before .before .args .values)) (c .before .before .before .before .before .before .before .before .before .pre .0) (c .before .before .before .before .before .before .before .before .before .args .top) (c .before .before .before .before .before .before .before .before .before .args .count) (c .before .before .before .before .before .before .before .before .before .pre .1 .1)) in
+returns c = let f = functionOn (now (c .before .before .before .before .before .before .before .before .args .page)) (c .before .before .before .before .before .before .before .before .args .function) in
+    let args = operandsOf (c .before .before .before .before .before .before .before .before .args .count) (drop (c .before .before .before .before .before .before .before .before .args .top) (nodes (now (c .before .before .before .before .before .before .before .before .args .forms)) (now (c .before .before .before .before .before .before .before .before .args .values)))) in
+    let size = sym (operands-size (now (c .before .before .before .before .before .before .before .before .args .forms)) (now (c .before .before .before .before .before .before .before .before .args .values)) (c .before .before .before .before .before .before .before .before .pre .0) (c .before .before .before .before .before .before .before .before .args .top) (c .before .before .before .before .before .before .before .before .args .count) (c .before .before .before .before .before .before .before .before .pre .1 .1)) in
     let fine = rw (c .before .enum-told .given .1) at (c .before .before .before .arity .ensures) in
-    call-empty f args (c .before .before .before .before .count-kinds .ensures) size fine (c .if1 .taken)
+    call-empty f args (sym (c .before .before .before .before .before .before .before .before .pre .1 .0 .kinds)) size fine (c .if1 .taken)
 
 sub-node-at : tie.Need-sub-node-at
 sub-node-at c = search needs
@@ -47,61 +43,60 @@ add-node-at : tie.Need-add-node-at
 add-node-at c = search needs
 
 node-at-requires : tie.Need-node-at-requires
-node-at-requires c κs = (c .before .before .before .before .before .before .before .before .before .pre .0, omega (arith, c .if1 .left, c .before .before .before .before .before .before .before .before .before .pre .1 .1))
+node-at-requires c κs = (c .before .before .before .before .before .before .before .before .pre .0, omega (arith, c .if1 .left, c .before .before .before .before .before .before .before .before .pre .1 .1))
 
 is-exempt-requires : tie.Need-is-exempt-requires
-is-exempt-requires c κs = c .before .before .before .before .before .before .before .before .before .before .pre .1 .0
+is-exempt-requires c κs = c .before .before .before .before .before .before .before .before .before .pre .1 .0 .name
 
 returns-2 : tie.Need-returns-2
-returns-2 c = let f = functionOn (now (c .before .before .before .before .before .before .before .before .before .before .before .before .args .page)) (c .before .before .before .before .before .before .before .before .before .before .before .before .args .function) in
-    let args = operandsOf (c .before .before .before .before .before .before .before .before .before .before .before .before .args .count) (drop (c .before .before .before .before .before .before .before .before .before .before .before .before .args .top) (nodes (now (c .before .before .before .before .before .before .before .before .before .before .before .before .args .forms)) (now (c .before .before .before .before .before .before .before .before .before .before .before .before .args .values)))) in
-    let size = sym (operands-size (now (c .before .before .before .before .before .before .before .before .before .before .before .before .args .forms)) (now (c .before .before .before .before .before .before .before .before .before .before .before .before .args .values)) (c .before .before .before .before .before .before .before .before .before .before .before .before .pre .0) (c .before .before .before .before .before .before .before .before .before .before .before .before .args .top) (c .before .before .before .before .before .before .before .before .before .before .before .before .args .count) (c .before .before .before .before .before .before .before .before .before .before .before .before .pre .1 .1)) in
+returns-2 c = let f = functionOn (now (c .before .before .before .before .before .before .before .before .before .before .before .args .page)) (c .before .before .before .before .before .before .before .before .before .before .before .args .function) in
+    let args = operandsOf (c .before .before .before .before .before .before .before .before .before .before .before .args .count) (drop (c .before .before .before .before .before .before .before .before .before .before .before .args .top) (nodes (now (c .before .before .before .before .before .before .before .before .before .before .before .args .forms)) (now (c .before .before .before .before .before .before .before .before .before .before .before .args .values)))) in
+    let size = sym (operands-size (now (c .before .before .before .before .before .before .before .before .before .before .before .args .forms)) (now (c .before .before .before .before .before .before .before .before .before .before .before .args .values)) (c .before .before .before .before .before .before .before .before .before .before .before .pre .0) (c .before .before .before .before .before .before .before .before .before .before .before .args .top) (c .before .before .before .before .before .before .before .before .before .before .before .args .count) (c .before .before .before .before .before .before .before .before .before .before .before .pre .1 .1)) in
     let fine = rw (c .before .before .before .before .enum-told .given .1) at (c .before .before .before .before .before .before .arity .ensures) in
-    let first = exempt-first (c .before .before .before .before .before .before .before .before .before .before .before .before .pre .0) (spanOn (now (c .before .before .before .before .before .before .before .before .before .before .before .before .args .page)) (c .before .before .before .before .before .before .before .before .before .before .before .before .args .function .name)) (c .before .before .before .before .before .before .before .before .before .before .before .before .args .top) (c .before .before .before .before .before .before .before .before .before .before .before .before .args .count) (c .before .before .before .if1 .left) (c .before .before .before .before .before .before .before .before .before .before .before .before .pre .1 .1) in
-    let exempt = c .before .is-exempt .ensures ∙ ap (isExemptNode (spanOn (now (c .before .before .before .before .before .before .before .before .before .before .before .before .args .page)) (c .before .before .before .before .before .before .before .before .before .before .before .before .args .function .name))) (c .before .before .node-at .ensures) ∙ first in
-    call-exempt f args (c .before .before .before .before .before .before .before .count-kinds .ensures) size fine (sym (c .if2 .taken) ∙ exempt)
+    let first = exempt-first (c .before .before .before .before .before .before .before .before .before .before .before .pre .0) (spanOn (now (c .before .before .before .before .before .before .before .before .before .before .before .args .page)) (c .before .before .before .before .before .before .before .before .before .before .before .args .function .name)) (c .before .before .before .before .before .before .before .before .before .before .before .args .top) (c .before .before .before .before .before .before .before .before .before .before .before .args .count) (c .before .before .before .if1 .left) (c .before .before .before .before .before .before .before .before .before .before .before .pre .1 .1) in
+    let exempt = c .before .is-exempt .ensures ∙ ap (isExemptNode (spanOn (now (c .before .before .before .before .before .before .before .before .before .before .before .args .page)) (c .before .before .before .before .before .before .before .before .before .before .before .args .function .name))) (c .before .before .node-at .ensures) ∙ first in
+    call-exempt f args (sym (c .before .before .before .before .before .before .before .before .before .before .before .pre .1 .0 .kinds)) size fine (sym (c .if2 .taken) ∙ exempt)
 
 returns-3 : tie.Need-returns-3
-returns-3 c = let f = functionOn (now (c .before .before .before .before .before .before .before .before .before .before .before .before .before .args .page)) (c .before .before .before .before .before .before .before .before .before .before .before .before .before .args .function) in
-    let args = operandsOf (c .before .before .before .before .before .before .before .before .before .before .before .before .before .args .count) (drop (c .before .before .before .before .before .before .before .before .before .before .before .before .before .args .top) (nodes (now (c .before .before .before .before .before .before .before .before .before .before .before .before .before .args .forms)) (now (c .before .before .before .before .before .before .before .before .before .before .before .before .before .args .values)))) in
-    let size = sym (operands-size (now (c .before .before .before .before .before .before .before .before .before .before .before .before .before .args .forms)) (now (c .before .before .before .before .before .before .before .before .before .before .before .before .before .args .values)) (c .before .before .before .before .before .before .before .before .before .before .before .before .before .pre .0) (c .before .before .before .before .before .before .before .before .before .before .before .before .before .args .top) (c .before .before .before .before .before .before .before .before .before .before .before .before .before .args .count) (c .before .before .before .before .before .before .before .before .before .before .before .before .before .pre .1 .1)) in
+returns-3 c = let f = functionOn (now (c .before .before .before .before .before .before .before .before .before .before .before .before .args .page)) (c .before .before .before .before .before .before .before .before .before .before .before .before .args .function) in
+    let args = operandsOf (c .before .before .before .before .before .before .before .before .before .before .before .before .args .count) (drop (c .before .before .before .before .before .before .before .before .before .before .before .before .args .top) (nodes (now (c .before .before .before .before .before .before .before .before .before .before .before .before .args .forms)) (now (c .before .before .before .before .before .before .before .before .before .before .before .before .args .values)))) in
+    let size = sym (operands-size (now (c .before .before .before .before .before .before .before .before .before .before .before .before .args .forms)) (now (c .before .before .before .before .before .before .before .before .before .before .before .before .args .values)) (c .before .before .before .before .before .before .before .before .before .before .before .before .pre .0) (c .before .before .before .before .before .before .before .before .before .before .before .before .args .top) (c .before .before .before .before .before .before .before .before .before .before .before .before .args .count) (c .before .before .before .before .before .before .before .before .before .before .before .before .pre .1 .1)) in
     let fine = rw (c .before .before .before .before .before .enum-told .given .1) at (c .before .before .before .before .before .before .before .arity .ensures) in
-    let first = exempt-first (c .before .before .before .before .before .before .before .before .before .before .before .before .before .pre .0) (spanOn (now (c .before .before .before .before .before .before .before .before .before .before .before .before .before .args .page)) (c .before .before .before .before .before .before .before .before .before .before .before .before .before .args .function .name)) (c .before .before .before .before .before .before .before .before .before .before .before .before .before .args .top) (c .before .before .before .before .before .before .before .before .before .before .before .before .before .args .count) (c .before .before .before .before .if1 .left) (c .before .before .before .before .before .before .before .before .before .before .before .before .before .pre .1 .1) in
-    let exempt = c .before .before .is-exempt .ensures ∙ ap (isExemptNode (spanOn (now (c .before .before .before .before .before .before .before .before .before .before .before .before .before .args .page)) (c .before .before .before .before .before .before .before .before .before .before .before .before .before .args .function .name))) (c .before .before .before .node-at .ensures) ∙ first in
-    call-undeclared f args (c .before .before .before .before .before .before .before .before .count-kinds .ensures) size fine (sym (c .before .if2 .left) ∙ exempt) (c .if3 .taken) (c .before .before .before .before .if1 .left)
+    let first = exempt-first (c .before .before .before .before .before .before .before .before .before .before .before .before .pre .0) (spanOn (now (c .before .before .before .before .before .before .before .before .before .before .before .before .args .page)) (c .before .before .before .before .before .before .before .before .before .before .before .before .args .function .name)) (c .before .before .before .before .before .before .before .before .before .before .before .before .args .top) (c .before .before .before .before .before .before .before .before .before .before .before .before .args .count) (c .before .before .before .before .if1 .left) (c .before .before .before .before .before .before .before .before .before .before .before .before .pre .1 .1) in
+    let exempt = c .before .before .is-exempt .ensures ∙ ap (isExemptNode (spanOn (now (c .before .before .before .before .before .before .before .before .before .before .before .before .args .page)) (c .before .before .before .before .before .before .before .before .before .before .before .before .args .function .name))) (c .before .before .before .node-at .ensures) ∙ first in
+    call-undeclared f args (sym (c .before .before .before .before .before .before .before .before .before .before .before .before .pre .1 .0 .kinds)) size fine (sym (c .before .if2 .left) ∙ exempt) (c .if3 .taken) (c .before .before .before .before .if1 .left)
 
 arguments-match-requires : tie.Need-arguments-match-requires
-arguments-match-requires c κs = (c .before .before .before .before .before .before .before .before .before .before .before .before .before .pre .0, c .before .before .before .before .before .before .before .before .before .before .before .before .before .pre .1 .1)
+arguments-match-requires c κs = (c .before .before .before .before .before .before .before .before .before .before .before .before .pre .0, c .before .before .before .before .before .before .before .before .before .before .before .before .pre .1 .1)
 
 returns-4 : tie.Need-returns-4
-returns-4 c = let f = functionOn (now (c .before .before .before .before .before .before .before .before .before .before .before .before .before .before .before .args .page)) (c .before .before .before .before .before .before .before .before .before .before .before .before .before .before .before .args .function) in
-    let args = operandsOf (c .before .before .before .before .before .before .before .before .before .before .before .before .before .before .before .args .count) (drop (c .before .before .before .before .before .before .before .before .before .before .before .before .before .before .before .args .top) (nodes (now (c .before .before .before .before .before .before .before .before .before .before .before .before .before .before .before .args .forms)) (now (c .before .before .before .before .before .before .before .before .before .before .before .before .before .before .before .args .values)))) in
-    let size = sym (operands-size (now (c .before .before .before .before .before .before .before .before .before .before .before .before .before .before .before .args .forms)) (now (c .before .before .before .before .before .before .before .before .before .before .before .before .before .before .before .args .values)) (c .before .before .before .before .before .before .before .before .before .before .before .before .before .before .before .pre .0) (c .before .before .before .before .before .before .before .before .before .before .before .before .before .before .before .args .top) (c .before .before .before .before .before .before .before .before .before .before .before .before .before .before .before .args .count) (c .before .before .before .before .before .before .before .before .before .before .before .before .before .before .before .pre .1 .1)) in
+returns-4 c = let f = functionOn (now (c .before .before .before .before .before .before .before .before .before .before .before .before .before .before .args .page)) (c .before .before .before .before .before .before .before .before .before .before .before .before .before .before .args .function) in
+    let args = operandsOf (c .before .before .before .before .before .before .before .before .before .before .before .before .before .before .args .count) (drop (c .before .before .before .before .before .before .before .before .before .before .before .before .before .before .args .top) (nodes (now (c .before .before .before .before .before .before .before .before .before .before .before .before .before .before .args .forms)) (now (c .before .before .before .before .before .before .before .before .before .before .before .before .before .before .args .values)))) in
+    let size = sym (operands-size (now (c .before .before .before .before .before .before .before .before .before .before .before .before .before .before .args .forms)) (now (c .before .before .before .before .before .before .before .before .before .before .before .before .before .before .args .values)) (c .before .before .before .before .before .before .before .before .before .before .before .before .before .before .pre .0) (c .before .before .before .before .before .before .before .before .before .before .before .before .before .before .args .top) (c .before .before .before .before .before .before .before .before .before .before .before .before .before .before .args .count) (c .before .before .before .before .before .before .before .before .before .before .before .before .before .before .pre .1 .1)) in
     let fine = rw (c .before .before .before .before .before .before .before .enum-told .given .1) at (c .before .before .before .before .before .before .before .before .before .arity .ensures) in
-    let first = exempt-first (c .before .before .before .before .before .before .before .before .before .before .before .before .before .before .before .pre .0) (spanOn (now (c .before .before .before .before .before .before .before .before .before .before .before .before .before .before .before .args .page)) (c .before .before .before .before .before .before .before .before .before .before .before .before .before .before .before .args .function .name)) (c .before .before .before .before .before .before .before .before .before .before .before .before .before .before .before .args .top) (c .before .before .before .before .before .before .before .before .before .before .before .before .before .before .before .args .count) (c .before .before .before .before .before .before .if1 .left) (c .before .before .before .before .before .before .before .before .before .before .before .before .before .before .before .pre .1 .1) in
-    let exempt = c .before .before .before .before .is-exempt .ensures ∙ ap (isExemptNode (spanOn (now (c .before .before .before .before .before .before .before .before .before .before .before .before .before .before .before .args .page)) (c .before .before .before .before .before .before .before .before .before .before .before .before .before .before .before .args .function .name))) (c .before .before .before .before .before .node-at .ensures) ∙ first in
-    sym (call-match f args (c .before .before .before .before .before .before .before .before .before .before .count-kinds .ensures) size fine (sym (c .before .before .before .if2 .left) ∙ exempt) (c .before .before .if3 .left) (sym (c .if4 .taken) ∙ c .before .arguments-match .ensures))
+    let first = exempt-first (c .before .before .before .before .before .before .before .before .before .before .before .before .before .before .pre .0) (spanOn (now (c .before .before .before .before .before .before .before .before .before .before .before .before .before .before .args .page)) (c .before .before .before .before .before .before .before .before .before .before .before .before .before .before .args .function .name)) (c .before .before .before .before .before .before .before .before .before .before .before .before .before .before .args .top) (c .before .before .before .before .before .before .before .before .before .before .before .before .before .before .args .count) (c .before .before .before .before .before .before .if1 .left) (c .before .before .before .before .before .before .before .before .before .before .before .before .before .before .pre .1 .1) in
+    let exempt = c .before .before .before .before .is-exempt .ensures ∙ ap (isExemptNode (spanOn (now (c .before .before .before .before .before .before .before .before .before .before .before .before .before .before .args .page)) (c .before .before .before .before .before .before .before .before .before .before .before .before .before .before .args .function .name))) (c .before .before .before .before .before .node-at .ensures) ∙ first in
+    sym (call-match f args (sym (c .before .before .before .before .before .before .before .before .before .before .before .before .before .before .pre .1 .0 .kinds)) size fine (sym (c .before .before .before .if2 .left) ∙ exempt) (c .before .before .if3 .left) (sym (c .if4 .taken) ∙ c .before .arguments-match .ensures))
 
 returns-5 : tie.Need-returns-5
-returns-5 c = let f = functionOn (now (c .before .before .before .before .before .before .before .before .before .args .page)) (c .before .before .before .before .before .before .before .before .before .args .function) in
-    let args = operandsOf (c .before .before .before .before .before .before .before .before .before .args .count) (drop (c .before .before .before .before .before .before .before .before .before .args .top) (nodes (now (c .before .before .before .before .before .before .before .before .before .args .forms)) (now (c .before .before .before .before .before .before .before .before .before .args .values)))) in
-    let size = sym (operands-size (now (c .before .before .before .before .before .before .before .before .before .args .forms)) (now (c .before .before .before .before .before .before .before .before .before .args .values)) (c .before .before .before .before .before .before .before .before .before .pre .0) (c .before .before .before .before .before .before .before .before .before .args .top) (c .before .before .before .before .before .before .before .before .before .args .count) (c .before .before .before .before .before .before .before .before .before .pre .1 .1)) in
-    call-arity f args (c .before .before .before .before .count-kinds .ensures) size (rw (c .before .refusal .given .1) at (c .before .before .before .arity .ensures))
+returns-5 c = let f = functionOn (now (c .before .before .before .before .before .before .before .before .args .page)) (c .before .before .before .before .before .before .before .before .args .function) in
+    let args = operandsOf (c .before .before .before .before .before .before .before .before .args .count) (drop (c .before .before .before .before .before .before .before .before .args .top) (nodes (now (c .before .before .before .before .before .before .before .before .args .forms)) (now (c .before .before .before .before .before .before .before .before .args .values)))) in
+    let size = sym (operands-size (now (c .before .before .before .before .before .before .before .before .args .forms)) (now (c .before .before .before .before .before .before .before .before .args .values)) (c .before .before .before .before .before .before .before .before .pre .0) (c .before .before .before .before .before .before .before .before .args .top) (c .before .before .before .before .before .before .before .before .args .count) (c .before .before .before .before .before .before .before .before .pre .1 .1)) in
+    call-arity f args (sym (c .before .before .before .before .before .before .before .before .pre .1 .0 .kinds)) size (rw (c .before .refusal .given .1) at (c .before .before .before .arity .ensures))
 
 returns-6 : tie.Need-returns-6
-returns-6 c = let f = functionOn (now (c .before .before .before .before .before .before .before .before .before .before .before .before .before .before .before .args .page)) (c .before .before .before .before .before .before .before .before .before .before .before .before .before .before .before .args .function) in
-    let args = operandsOf (c .before .before .before .before .before .before .before .before .before .before .before .before .before .before .before .args .count) (drop (c .before .before .before .before .before .before .before .before .before .before .before .before .before .before .before .args .top) (nodes (now (c .before .before .before .before .before .before .before .before .before .before .before .before .before .before .before .args .forms)) (now (c .before .before .before .before .before .before .before .before .before .before .before .before .before .before .before .args .values)))) in
-    let size = sym (operands-size (now (c .before .before .before .before .before .before .before .before .before .before .before .before .before .before .before .args .forms)) (now (c .before .before .before .before .before .before .before .before .before .before .before .before .before .before .before .args .values)) (c .before .before .before .before .before .before .before .before .before .before .before .before .before .before .before .pre .0) (c .before .before .before .before .before .before .before .before .before .before .before .before .before .before .before .args .top) (c .before .before .before .before .before .before .before .before .before .before .before .before .before .before .before .args .count) (c .before .before .before .before .before .before .before .before .before .before .before .before .before .before .before .pre .1 .1)) in
+returns-6 c = let f = functionOn (now (c .before .before .before .before .before .before .before .before .before .before .before .before .before .before .args .page)) (c .before .before .before .before .before .before .before .before .before .before .before .before .before .before .args .function) in
+    let args = operandsOf (c .before .before .before .before .before .before .before .before .before .before .before .before .before .before .args .count) (drop (c .before .before .before .before .before .before .before .before .before .before .before .before .before .before .args .top) (nodes (now (c .before .before .before .before .before .before .before .before .before .before .before .before .before .before .args .forms)) (now (c .before .before .before .before .before .before .before .before .before .before .before .before .before .before .args .values)))) in
+    let size = sym (operands-size (now (c .before .before .before .before .before .before .before .before .before .before .before .before .before .before .args .forms)) (now (c .before .before .before .before .before .before .before .before .before .before .before .before .before .before .args .values)) (c .before .before .before .before .before .before .before .before .before .before .before .before .before .before .pre .0) (c .before .before .before .before .before .before .before .before .before .before .before .before .before .before .args .top) (c .before .before .before .before .before .before .before .before .before .before .before .before .before .before .args .count) (c .before .before .before .before .before .before .before .before .before .before .before .before .before .before .pre .1 .1)) in
     let fine = rw (c .before .before .before .before .before .before .before .enum-told .given .1) at (c .before .before .before .before .before .before .before .before .before .arity .ensures) in
-    let first = exempt-first (c .before .before .before .before .before .before .before .before .before .before .before .before .before .before .before .pre .0) (spanOn (now (c .before .before .before .before .before .before .before .before .before .before .before .before .before .before .before .args .page)) (c .before .before .before .before .before .before .before .before .before .before .before .before .before .before .before .args .function .name)) (c .before .before .before .before .before .before .before .before .before .before .before .before .before .before .before .args .top) (c .before .before .before .before .before .before .before .before .before .before .before .before .before .before .before .args .count) (c .before .before .before .before .before .before .if1 .left) (c .before .before .before .before .before .before .before .before .before .before .before .before .before .before .before .pre .1 .1) in
-    let exempt = c .before .before .before .before .is-exempt .ensures ∙ ap (isExemptNode (spanOn (now (c .before .before .before .before .before .before .before .before .before .before .before .before .before .before .before .args .page)) (c .before .before .before .before .before .before .before .before .before .before .before .before .before .before .before .args .function .name))) (c .before .before .before .before .before .node-at .ensures) ∙ first in
-    sym (call-match f args (c .before .before .before .before .before .before .before .before .before .before .count-kinds .ensures) size fine (sym (c .before .before .before .if2 .left) ∙ exempt) (c .before .before .if3 .left) (sym (c .if4 .left) ∙ c .before .arguments-match .ensures))
+    let first = exempt-first (c .before .before .before .before .before .before .before .before .before .before .before .before .before .before .pre .0) (spanOn (now (c .before .before .before .before .before .before .before .before .before .before .before .before .before .before .args .page)) (c .before .before .before .before .before .before .before .before .before .before .before .before .before .before .args .function .name)) (c .before .before .before .before .before .before .before .before .before .before .before .before .before .before .args .top) (c .before .before .before .before .before .before .before .before .before .before .before .before .before .before .args .count) (c .before .before .before .before .before .before .if1 .left) (c .before .before .before .before .before .before .before .before .before .before .before .before .before .before .pre .1 .1) in
+    let exempt = c .before .before .before .before .is-exempt .ensures ∙ ap (isExemptNode (spanOn (now (c .before .before .before .before .before .before .before .before .before .before .before .before .before .before .args .page)) (c .before .before .before .before .before .before .before .before .before .before .before .before .before .before .args .function .name))) (c .before .before .before .before .before .node-at .ensures) ∙ first in
+    sym (call-match f args (sym (c .before .before .before .before .before .before .before .before .before .before .before .before .before .before .pre .1 .0 .kinds)) size fine (sym (c .before .before .before .if2 .left) ∙ exempt) (c .before .before .if3 .left) (sym (c .if4 .left) ∙ c .before .arguments-match .ensures))
 
 pub judge-call-spec : {M : Type 1} → statement M
 judge-call-spec =
     tie.close
     (tie.spec
-    count-kinds-requires
     arity-requires
     enum-known-refusal
     enum-told
