@@ -2,10 +2,9 @@
 use Prim.Native.Nat.{ℕ, _<_}
 use mathlib.Core.Path.{_≡_, refl}
 use mathlib.Core.Bool.{Bool, true, false, _||_, Bool·beq}
-use mathlib.Core.List.{List}
 use lib.ListN.{replicate}
 use lib.Dec.{T, eqb}
-use Rattle.base.specs.Table.{every, at}
+use Rattle.base.specs.Table.{at}
 use Rattle.records.specs.Code.{isSetOperator}
 
 abbrev isSetByte : ℕ → Bool

@@ -1,17 +1,16 @@
 -- The three ends of a call that writes, for any text of the tree: refused by the check, too short a buffer, written. Assumes nothing.
-use Prim.Native.Nat.{ℕ, _+_, _≤_}
-use mathlib.Core.Path.{_≡_, refl, sym, ap, _∙_, subst}
-use mathlib.Core.Bool.{Bool, true, false}
-use mathlib.Core.List.{List, [], _++_}
+use Prim.Native.Nat.{ℕ, _+_}
+use mathlib.Core.Path.{_≡_, refl, ap, _∙_}
+use mathlib.Core.Bool.{true, false}
+use mathlib.Core.List.{List, _++_}
 use native.Mathlib.Nat.{zero-add}
 use lib.ListN.{length, drop}
 use lib.Dec.{leb}
 use Rattle.base.specs.Splice.{splice, Wrote}
-use Rattle.page.specs.Bytes.{pick}
-use Rattle.records.specs.Outcome.{Outcome, answer, refusal}
+use Rattle.records.specs.Outcome.{answer, refusal}
 use Rattle.ast.specs.Expr.{Expr, valueType}
 use Rattle.ast.specs.Walk.{Checked, accepted, refusedAt}
-use Rattle.sandzguli.specs.Calls.{Called, tooShort, written, writing, Does}
+use Rattle.sandzguli.specs.Calls.{tooShort, writing, Does}
 
 -- the start of a buffer written anew
 splice-start : (buffer text : List ℕ) → splice buffer 0 text ≡ text ++ drop (length text) buffer
