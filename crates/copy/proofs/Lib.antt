@@ -1,4 +1,3 @@
-pub mod CodeLaws
 pub mod CopyRecordsLaws
 pub mod CopyLaws
 pub mod LengthLaws
