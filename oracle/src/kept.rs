@@ -1,4 +1,4 @@
-//! The kept list: pages with the Rust's answers, for programs that replay them (`kept/README.md` has the format).
+//! The kept list: pages with the Rust's answers, for programs that replay them (`KEPT.md` has the format).
 
 use crate::answer::{self, Answer, Domain, Failure, Outcome};
 use crate::generate::stream::{self, Sample};
@@ -6,8 +6,8 @@ use crate::generate::{bytes, damaged, fault, good};
 use crate::random::Random;
 use std::collections::HashSet;
 
-/// Where the list lies.
-pub const PATH: &str = concat!(env!("CARGO_MANIFEST_DIR"), "/kept/pages.bin");
+/// Where the list lies: it is the input of the program that replays it.
+pub const PATH: &str = concat!(env!("CARGO_MANIFEST_DIR"), "/../crates/vectors/stdin");
 
 const SEED: u64 = 20_261_115;
 

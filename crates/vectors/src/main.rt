@@ -1,0 +1,101 @@
+// Replays the kept list: pages with the answers of the Rust (oracle/KEPT.md has the format), read from standard input.
+//
+// Each page is checked; its outcome and the part of 19's label are compared with the entry's words. An accepted page is copied and printed
+// into a buffer of exactly the entry's size, and then into one a byte shorter, which is refused with 5 and stays as it was.
+// Written is `N pages equal`, or `entry N differs` at the first one that is not equal, counted from 0.
+mod compare;
+mod input;
+
+use compare::Call;
+use compare::check_equal;
+use compare::writes_equal;
+use input::Word;
+use input::read_part;
+use input::read_word;
+
+enum Replayed {
+    Equal,
+    Different,
+    End,
+}
+
+// The next text of the entry, and whether the call writes it.
+fn replay_text(call: Call, page: &[u8], outcome: u64, text: &mut [u8], out: &mut [u8]) -> bool {
+    let size = read_part(text);
+    if text.len() < size {
+        return false;
+    }
+    writes_equal(call, page, outcome, &text[..size], out)
+}
+
+// A text whose call is not there yet.
+fn skip_text(text: &mut [u8]) -> bool {
+    let size = read_part(text);
+    size <= text.len()
+}
+
+fn replay_entry(page: &[u8], text: &mut [u8], out: &mut [u8]) -> Replayed {
+    match read_word() {
+        Word::Got(outcome) => match read_word() {
+            Word::Got(label) => {
+                let checked = check_equal(page, outcome, label);
+                let copied = replay_text(Call::Copy, page, outcome, text, out);
+                let texts = skip_text(text) & skip_text(text);
+                if checked & copied & texts {
+                    return Replayed::Equal;
+                }
+                Replayed::Different
+            }
+            Word::End => Replayed::Different,
+        },
+        Word::End => Replayed::Different,
+    }
+}
+
+fn replay_next(page: &mut [u8], text: &mut [u8], out: &mut [u8]) -> Replayed {
+    let size = read_part(page);
+    if page.len() < size {
+        return Replayed::End;
+    }
+    replay_entry(&page[..size], text, out)
+}
+
+fn report_equal(count: u64) {
+    io::print_decimal(1, count);
+    io::write_all(1, b" pages equal\n");
+}
+
+fn report_different(entry: u64) {
+    io::write_all(1, b"entry ");
+    io::print_decimal(1, entry);
+    io::write_all(1, b" differs\n");
+}
+
+// Nothing says that the input ends, so the loop counts its turns down from a number that no run uses up.
+const TURNS: u64 = 4294967296;
+
+fn replay_all(page: &mut [u8], text: &mut [u8], out: &mut [u8]) {
+    let mut turns = TURNS;
+    while turns > 0 {
+        match replay_next(page, text, out) {
+            Replayed::Equal => {
+                turns -= 1;
+            }
+            Replayed::Different => {
+                report_different(TURNS - turns);
+                return;
+            }
+            Replayed::End => {
+                report_equal(TURNS - turns);
+                return;
+            }
+        }
+    }
+}
+
+fn main() {
+    let mut page = io::large_buffer();
+    let mut text = io::large_buffer();
+    let mut out = io::large_buffer();
+    replay_all(&mut page, &mut text, &mut out);
+}
