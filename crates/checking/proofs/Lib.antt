@@ -5,3 +5,4 @@ pub mod BasesLaws
 pub mod TableLaws
 pub mod HeldLaws
 pub mod WalkHeld
+pub mod CheckLaws

@@ -7,13 +7,13 @@ use native.Mathlib.Numerals.{add-one}
 use lib.ListN.{length, getD, set, drop}
 use lib.Ieee.{Float}
 use Rattle.page.specs.Read.{FieldFault, faultNumber, refused as refusedField, got}
-use Rattle.records.specs.Outcome.{Outcome, answer, refusal}
+use Rattle.records.specs.Kind.{Kind}
 use Rattle.records.specs.Record.{Record, operands, readRecord}
 use Rattle.records.specs.Record as records
 use Rattle.ast.specs.Refusal.{refused, ok}
 use Rattle.ast.specs.Expr.{Expr, valueType}
 use Rattle.ast.specs.Walk.{Checked, accepted, refusedAt, atEnd}
-use Rattle.ast.specs.CheckPage.{apply, checkPage, outcomeOf, check}
+use Rattle.ast.specs.CheckPage.{apply, checkPage}
 use Rattle.ast.specs.Node.{Node, stringNode, nodeKind, nodeOf}
 use Rattle.ast.specs.Judge.{judgement}
 use Rattle.ast.specs.Tables.{stackAt, newest, treeAt, Tables}
@@ -76,14 +76,14 @@ module _ {page starts firsts forms : List ℕ} {values : List Float} {bases : Li
 
   -- ## The page's end
 
-  not-one : (s : List Expr) → (length s ≡ 1 → ⊥) → outcomeOf (atEnd records.end count s) ≡ refusal 2 count
+  not-one : (s : List Expr) → (length s ≡ 1 → ⊥) → atEnd records.end count s ≡ refusedAt 2 count
   not-one [] h = refl
   not-one (e ∷ []) h = absurd (h refl)
   not-one (e ∷ f ∷ s) h = refl
 
-  pub ends-refused : length page ≤ at → (top ≡ 255 → ⊥) → refusal 2 count ≡ check page
+  pub ends-refused : length page ≤ at → (top ≡ 255 → ⊥) → checkPage page ≡ refusedAt 2 count
   ends-refused h other =
-      sym (ap outcomeOf (progress-end (held .progress) h) ∙ not-one trees (λ e. other (omega (arith, e, stack-length (held .arrays), held .arrays .top-range))))
+      progress-end (held .progress) h ∙ not-one trees (λ e. other (omega (arith, e, stack-length (held .arrays), held .arrays .top-range)))
 
   -- one tree is left, and its node lies on top
   pub record Left : Type 0 where
@@ -103,35 +103,36 @@ module _ {page starts firsts forms : List ℕ} {values : List Float} {bases : Li
     left-tree : checkPage page ≡ accepted (left-one one .tree) count
     left-tree = progress-end (held .progress) over ∙ ap (atEnd records.end count) (left-one one .is)
 
-    pub ends-accepted : answer (nodeKind (getD (nodes forms values) 255 stringNode)) 0 ≡ check page
-    ends-accepted =
-        ap {B = Outcome} (λ k. answer k 0) (ap nodeKind (left-one one .node) ∙ nodeOf-kind (left-one one .tree)) ∙ sym (ap outcomeOf left-tree)
-
-    pub ends-tables : Accepts page starts firsts count
+    pub ends-accepted : {k : Kind} → k ≡ nodeKind (getD (nodes forms values) 255 stringNode) → Accepts page starts firsts k count
     unfolding treeAt
-    ends-tables =
+    ends-accepted {k} is =
         let last : suc (count - 1) ≡ count = omega (arith, one, held .arrays .depth-range) in
-        let top-tree : newest (stackAt page (suc (count - 1))) ≡ left-one one .tree = ap (λ (n : ℕ). newest (stackAt page n)) last ∙ ap newest (at-stack (held .progress) ∙ left-one one .is) in
-        record { tables = held .tables; tree = left-tree ∙ ap {B = Checked Expr} (λ t. accepted t count) (sym top-tree) }
+        let tree-is : newest (stackAt page (suc (count - 1))) ≡ left-one one .tree = ap (λ (n : ℕ). newest (stackAt page n)) last ∙ ap newest (at-stack (held .progress) ∙ left-one one .is) in
+        let kind-is : k ≡ valueType (left-one one .tree) = is ∙ ap nodeKind (left-one one .node) ∙ nodeOf-kind (left-one one .tree) in
+        record {
+          tables = held .tables;
+          tree = left-tree ∙ ap {B = Checked Expr} (λ t. accepted t count) (sym tree-is);
+          kind = ap valueType tree-is ∙ sym kind-is;
+        }
 
   -- ## A record is left
 
   module _ (more : at < length page) where
-    pub too-many : count ≡ 256 → refusal 3 count ≡ check page
-    too-many e = sym (ap outcomeOf (progress-over (held .progress) more e))
+    pub too-many : count ≡ 256 → checkPage page ≡ refusedAt 3 count
+    too-many e = progress-over (held .progress) more e
 
     module _ (few : count ≡ 256 → ⊥) where
-      pub unreadable : (f : FieldFault) → refusedField f ≡ readRecord (drop at page) → refusal (faultNumber f) count ≡ check page
-      unreadable f e = sym (ap outcomeOf (progress-bad (held .progress) more few f e))
+      pub unreadable : (f : FieldFault) → refusedField f ≡ readRecord (drop at page) → checkPage page ≡ refusedAt (faultNumber f) count
+      unreadable f e = progress-bad (held .progress) more few f e
 
       module _ {r : Record} (next : ℕ) (read : got r (drop next page) ≡ readRecord (drop at page)) where
         pub readable : HasExact r
         readable = has-exact r (exact (held .progress) more few next read)
 
-        pub unfit : {n : ℕ} → refused n ≡ judgement r (drop top (nodes forms values)) → refusal n count ≡ check page
+        pub unfit : {n : ℕ} → refused n ≡ judgement r (drop top (nodes forms values)) → checkPage page ≡ refusedAt n count
         unfit e =
-            sym (ap outcomeOf (progress-refused (held .progress) more few next read
-            (unapplied r trees (held .progress .sound) (e ∙ ap (judgement r) (held .arrays .summaries)))))
+            progress-refused (held .progress) more few next read
+            (unapplied r trees (held .progress .sound) (e ∙ ap (judgement r) (held .arrays .summaries)))
 
         module _ (inside : next ≤ length page) {x : Node} (put : ok x ≡ judgement r (drop top (nodes forms values))) (n : ℕ) (takes : n ≡ operands r) where
           done : Applied r trees x

@@ -20,10 +20,9 @@ ghost use lib.ListN.{length, drop};
 ghost use Rattle.records.specs.Record.{operands};
 ghost use Rattle.reader.specs.Answers.{recordOn};
 ghost use Rattle.ast.specs.Judge.{judgement};
-ghost use Rattle.ast.specs.CheckPage.{check};
 ghost use Rattle.judge.specs.Answers.{verdictMeant};
 ghost use Rattle.judge.specs.Stack.{nodes, Sized};
-ghost use Rattle.checking.specs.Answers.{walkedOutcome, Leaves};
+ghost use Rattle.checking.specs.Answers.{WalkSays};
 ghost use Rattle.checking.specs.Walk.{Item, firstOf};
 
 // The kind and the number of records, or a refusal and the index of its record.
@@ -66,8 +65,7 @@ fn first_record(bases: &[u8], top: usize, needed: usize, count: usize) -> u8
 
 pub fn walk(page: &[u8], starts: &mut [u16], firsts: &mut [u8]) -> Walked
     requires { ⌜ (length (now starts) ≡ 256) × (length (now firsts) ≡ 256) ⌝ }
-    ensures outcome { λ r. ⌜ walkedOutcome r ≡ check (now (page .entry)) ⌝ }
-    ensures tables { λ r. ⌜ Leaves (now (page .entry)) (now (starts .exit)) (now (firsts .exit)) r ⌝ }
+    ensures { λ r. ⌜ WalkSays (now (page .entry)) (now (starts .exit)) (now (firsts .exit)) r ⌝ }
 {
     if 8192 < page.len() {
         return Walked::Refused(Refusal::PastLimit, 0);

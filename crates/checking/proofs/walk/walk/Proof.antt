@@ -1,14 +1,14 @@
+use Rattle.ast.specs.Expr.{Expr}
+use Rattle.ast.specs.Walk.{Checked, refusedAt}
 use mathlib.Core.Path.{refl, sym, ap, _∙_}
 use denote.Ref.{now}
 use Prim.Native.Nat.{ℕ, _-_}
 use native.Mathlib.Omega.{arith}
-use Rattle.judge.specs.Answers.{nodeMeant, refusalNumber}
+use Rattle.judge.specs.Answers.{nodeMeant}
 use Rattle.ast.specs.Node.{nodeKind}
-use Rattle.ast.specs.CheckPage.{outcomeOf}
 use Rattle.page.specs.Answers.{faultOf}
-use Rattle.records.specs.Outcome.{Outcome, answer, refusal}
 use Rattle.checking.proofs.ProgressLaws.{too-long}
-use Rattle.checking.proofs.WalkHeld.{Held, Next, held-start, readable, unfit, stepped, too-many, unreadable, ends-refused, ends-accepted, ends-tables}
+use Rattle.checking.proofs.WalkHeld.{Held, Next, held-start, readable, unfit, stepped, too-many, unreadable, ends-refused, ends-accepted}
 -- answer here hands the values over. The measure is the records that a page may still have.
 -- `checking::walk::walk` meets its contract. The invariant, and what each way through the loop's body makes of it, stand in `WalkHeld`; each
 use borrow.Author.Needs.{needs}
@@ -45,7 +45,7 @@ step c =
     (rw (c .before .before .node .given .1) at (c .before .before .before .before .judge-next .ensures)) (c .before .before .before .before .before .before .before .operand-count .result) (c .before .before .before .before .before .before .before .operand-count .ensures (now (k .before .before .before .before .before .args .page)))
 
 returns : tie.Need-returns Inv-loop μ-loop
-returns c = (sym (ap outcomeOf (too-long (now (c .before .before .before .before .args .page)) (c .if1 .taken))), tt)
+returns c = too-long (now (c .before .before .before .before .args .page)) (c .if1 .taken)
 
 loop-holds : tie.Need-loop-holds Inv-loop μ-loop
 loop-holds c = held-start (c .if1 .left) (record { forms-size = refl; values-size = refl }) refl (c .before .before .before .before .pre .0) (c .before .before .before .before .pre .1)
@@ -57,7 +57,7 @@ same-length-2 : tie.Need-same-length-2 Inv-loop μ-loop
 same-length-2 c = omega (arith, c .before .before .loop .inv .tables .firsts-size, c .before .before .before .before .before .before .before .pre .1)
 
 returns-2 : tie.Need-returns-2 Inv-loop μ-loop
-returns-2 c = (too-many (c .before .before .loop .inv) (c .before .loop-test .taken) (c .if2 .taken), tt)
+returns-2 c = too-many (c .before .before .loop .inv) (c .before .loop-test .taken) (c .if2 .taken)
 
 read-record-requires : tie.Need-read-record-requires Inv-loop μ-loop
 read-record-requires c κs = search needs
@@ -75,7 +75,7 @@ same-length-4 : tie.Need-same-length-4 Inv-loop μ-loop
 same-length-4 c = omega (arith, c .before .before .before .before .before .before .before .loop .inv .tables .firsts-size, c .before .before .before .before .before .before .before .before .before .before .before .before .pre .1)
 
 returns-3 : tie.Need-returns-3 Inv-loop μ-loop
-returns-3 c = (ap {B = Outcome} (λ n. refusal n (c .before .before .before .before .before .before .before .loop .count)) (c .field-refusal .ensures) ∙ unreadable (c .before .before .before .before .before .before .before .loop .inv) (c .before .before .before .before .before .before .loop-test .taken) (c .before .before .before .before .before .if2 .left) (faultOf (c .before .before .fault .given .0 .0)) (rw (c .before .before .fault .given .1) at (c .before .before .before .before .read-record .ensures .0)), tt)
+returns-3 c = unreadable (c .before .before .before .before .before .before .before .loop .inv) (c .before .before .before .before .before .before .loop-test .taken) (c .before .before .before .before .before .if2 .left) (faultOf (c .before .before .fault .given .0 .0)) (rw (c .before .before .fault .given .1) at (c .before .before .before .before .read-record .ensures .0)) ∙ ap {B = Checked Expr} (λ n. refusedAt n (c .before .before .before .before .before .before .before .loop .count)) (sym (c .field-refusal .ensures))
 
 enum-known-item : tie.Need-enum-known-item Inv-loop μ-loop
 enum-known-item c = search needs
@@ -105,7 +105,7 @@ same-length-6 c = omega (arith, c .before .before .before .before .before .befor
 
 returns-4 : tie.Need-returns-4 Inv-loop μ-loop
 returns-4 c = let read = rw (c .before .before .before .before .before .before .before .before .item .given .1) at (c .before .before .before .before .before .before .before .before .before .before .read-record .ensures .0) in
-    (unfit (c .before .before .before .before .before .before .before .before .before .before .before .before .before .loop .inv) (c .before .before .before .before .before .before .before .before .before .before .before .before .loop-test .taken) (c .before .before .before .before .before .before .before .before .before .before .before .if2 .left) (c .before .before .before .before .before .before .before .before .item .given .0 .1 .0) read (rw (c .before .refusal .given .1) at (c .before .before .before .judge-next .ensures)), tt)
+    unfit (c .before .before .before .before .before .before .before .before .before .before .before .before .before .loop .inv) (c .before .before .before .before .before .before .before .before .before .before .before .before .loop-test .taken) (c .before .before .before .before .before .before .before .before .before .before .before .if2 .left) (c .before .before .before .before .before .before .before .before .item .given .0 .1 .0) read (rw (c .before .refusal .given .1) at (c .before .before .before .judge-next .ensures))
 
 enum-known-node : tie.Need-enum-known-node Inv-loop μ-loop
 enum-known-node c = search needs
@@ -168,7 +168,7 @@ same-length-8 : tie.Need-same-length-8 Inv-loop μ-loop
 same-length-8 c = omega (arith, c .before .before .loop .inv .tables .firsts-size, c .before .before .before .before .before .before .before .pre .1)
 
 returns-5 : tie.Need-returns-5 Inv-loop μ-loop
-returns-5 c = (ends-refused (c .before .before .loop .inv) (c .before .loop-test .left) (c .if3 .taken), tt)
+returns-5 c = ends-refused (c .before .before .loop .inv) (c .before .loop-test .left) (c .if3 .taken)
 
 slice-aggregate-node-at : tie.Need-slice-aggregate-node-at Inv-loop μ-loop
 slice-aggregate-node-at c = omega (arith, c .before .before .before .loop .inv .arrays .sized)
@@ -189,7 +189,7 @@ same-length-10 : tie.Need-same-length-10 Inv-loop μ-loop
 same-length-10 c = omega (arith, c .before .before .before .before .before .before .loop .inv .tables .firsts-size, c .before .before .before .before .before .before .before .before .before .before .before .pre .1)
 
 returns-6 : tie.Need-returns-6 Inv-loop μ-loop
-returns-6 c = (ap {B = Outcome} (λ k. answer k 0) (c .kind-of .ensures ∙ ap nodeKind (c .before .node-at .ensures)) ∙ ends-accepted (c .before .before .before .before .before .before .loop .inv) (c .before .before .before .before .before .loop-test .left) (c .before .before .before .before .if3 .left), ends-tables (c .before .before .before .before .before .before .loop .inv) (c .before .before .before .before .before .loop-test .left) (c .before .before .before .before .if3 .left))
+returns-6 c = ends-accepted (c .before .before .before .before .before .before .loop .inv) (c .before .before .before .before .before .loop-test .left) (c .before .before .before .before .if3 .left) (c .kind-of .ensures ∙ ap nodeKind (c .before .node-at .ensures))
 
 pub walk-spec : {M : Type 1} → statement M
 walk-spec =
