@@ -13,6 +13,8 @@ pub mod hex;
 pub mod kept;
 pub mod page;
 pub mod random;
+pub mod reading;
 pub mod refusal;
 pub mod run;
+pub mod show;
 pub mod tree;

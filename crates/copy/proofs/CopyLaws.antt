@@ -117,10 +117,10 @@ copyRecords-walk (r ∷ rs) i s t e =
 -- ## The copy of an accepted page
 
 -- an accepted page can be read to its end, and its walk leaves the tree
-abbrev WalksTo : Records → Expr → Type 0
+abbrev pub WalksTo : Records → Expr → Type 0
 WalksTo page e = (page .ending ≡ end) × (walk apply 0 [] (page .records) ≡ stack (e ∷ []))
 
-accepted-walks : (page : Records) (e : Expr) (n : ℕ) → walkPage apply page ≡ accepted e n → WalksTo page e
+pub accepted-walks : (page : Records) (e : Expr) (n : ℕ) → walkPage apply page ≡ accepted e n → WalksTo page e
 accepted-walks page e n = by (walk apply 0 [] (page .records)) refl
   where
     refused-never : {B : Type 0} (k j : ℕ) → refusedAt k j ≡ accepted e n → B

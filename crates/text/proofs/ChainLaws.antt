@@ -13,16 +13,10 @@ use Rattle.ast.specs.Expr.{Expr, Aggregate, AggregateParam, Unary, Binary, Pare
 use Rattle.ast.specs.Construct.{rangeAfter, newMatrixSelector, setAt, atExpr, setOffset, offsetExpr, noTimes}
 use Rattle.ast.specs.CheckPage.{wrap}
 use Rattle.ast.specs.Tables.{treeAt, Tables}
-use Rattle.text.specs.Chain.{orElse, overlaid, ranged, settled}
+use Rattle.text.specs.Chain.{orElse, overlaid, withAt, withOffset, ranged, settled}
 use Rattle.text.specs.Seen.{Reads}
 use Rattle.text.proofs.TreeLaws.{checkedExpr}
 use Rattle.text.proofs.EntryLaws.{tree-of, wrapped}
-
-abbrev pub withAt : AtModifier → Times → Times
-withAt a u = record { at = some a; offset = u .offset }
-
-abbrev pub withOffset : Offset → Times → Times
-withOffset o u = record { at = u .at; offset = some o }
 
 overlaid-nothing : (t : Times) → overlaid t noTimes ≡ t
 overlaid-nothing t = by (t .at) (t .offset)

@@ -9,3 +9,4 @@ pub mod ChainLaws
 pub mod ValueLaws
 pub mod SoundLaws
 pub mod NodeLaws
+pub mod CappedLaws

@@ -31,12 +31,12 @@ use Rattle.ast.specs.CheckAst.{selectorRows, checkAst}
 use Rattle.ast.specs.CheckPage.{leafExpr, wrap, apply}
 use Rattle.ast.specs.Tables.{stackAt, treeAt, Entry, Tables}
 use Rattle.text.specs.Display.{displaySelector}
-use Rattle.text.specs.Chain.{settled}
+use Rattle.text.specs.Chain.{withAt, withOffset, settled}
 use Rattle.text.proofs.TrimLaws.{Begins, begins, begins-append, Sound}
 use Rattle.text.proofs.TreeLaws.{checkedExpr, Pushed, leaf-ok, wrapper-ok, binary-ok, aggregate-ok, call-ok}
 use Rattle.text.proofs.EntryLaws.{negated, UnaryOf, unary-of}
 use Rattle.text.proofs.SeenLaws.{number-is}
-use Rattle.text.proofs.ChainLaws.{withAt, withOffset, settled-nothing, range-settled, at-settled, offset-settled}
+use Rattle.text.proofs.ChainLaws.{settled-nothing, range-settled, at-settled, offset-settled}
 
 stackAt-none : (page : List ℕ) → stackAt page 0 ≡ []
 unfolding stackAt

@@ -15,11 +15,11 @@ use Rattle.ast.specs.Construct.{noTimes}
 use Rattle.ast.specs.CheckPage.{wrap}
 use Rattle.ast.specs.Tables.{treeAt, Tables}
 use Rattle.text.specs.Layout.{Layout, whole, negation, suffixed, enclosed, infixed, layoutOf}
-use Rattle.text.specs.Chain.{settled}
+use Rattle.text.specs.Chain.{withAt, withOffset, settled}
 use Rattle.text.specs.Seen.{Reads, Seen}
 use Rattle.text.proofs.EntryLaws.{leaf-tree, wrapped, negated, unary-value}
 use Rattle.text.proofs.SeenLaws.{number-is, seen-subquery, seen-paren, seen-binary, seen-aggregate, seen-call}
-use Rattle.text.proofs.ChainLaws.{withAt, withOffset, settled-nothing, chain-range, chain-at, chain-offset}
+use Rattle.text.proofs.ChainLaws.{settled-nothing, chain-range, chain-at, chain-offset}
 
 -- ## The sign
 
@@ -70,7 +70,7 @@ Joins (infixed operator) = Unit {0}
 joins-unvalued : (e : Expr) {own : Layout} → layoutOf e ≡ own → Joins own → scalarValue e ≡ none
 joins-unvalued e is j = unvalued e (λ l k. rw (← is, k) at j)
 
-settled-value : (n : Option ℕ) (u : Times) (e : Expr) → scalarValue (settled n u e) ≡ scalarValue e
+pub settled-value : (n : Option ℕ) (u : Times) (e : Expr) → scalarValue (settled n u e) ≡ scalarValue e
 unfolding settled
 settled-value n u (Aggregate c m e) = refl
 settled-value n u (AggregateParam c m p e) = refl

@@ -3,7 +3,7 @@
 use Prim.Native.Nat.{ℕ}
 use mathlib.Core.Option.{Option, none, some}
 use Rattle.records.specs.Matcher.{Selector}
-use Rattle.records.specs.Time.{Times}
+use Rattle.records.specs.Time.{Times, AtModifier, Offset}
 use Rattle.ast.specs.Expr.{Expr, Aggregate, AggregateParam, Unary, Binary, Paren, Subquery, NumberLiteral, StringLiteral, VectorSelector, MatrixSelector, Call}
 
 -- the first, where it is set
@@ -15,6 +15,12 @@ module _ {A : Type 0} where
 -- what the lower records set, and where they set nothing what the upper ones set
 abbrev pub overlaid : Times → Times → Times
 overlaid t u = record { at = orElse (t .at) (u .at); offset = orElse (t .offset) (u .offset) }
+
+abbrev pub withAt : AtModifier → Times → Times
+withAt a u = record { at = some a; offset = u .offset }
+
+abbrev pub withOffset : Offset → Times → Times
+withOffset o u = record { at = u .at; offset = some o }
 
 -- a selector with its range, if it has one
 abbrev pub ranged : Option ℕ → Selector → Times → Expr

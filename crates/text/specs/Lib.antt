@@ -3,3 +3,4 @@ pub mod Pretty
 pub mod Layout
 pub mod Chain
 pub mod Seen
+pub mod Answers

@@ -1,1 +1,15 @@
-// Canonical text and split text: the definitions stand in specs/.
+// @ and offset of a selector, a range or a subquery, as the functions that print them take them (ast.rs, `at` and `offset`).
+pub enum At {
+    None,
+    Some(records::AtModifier),
+}
+
+pub enum Shift {
+    None,
+    Some(records::Offset),
+}
+
+pub struct Times {
+    pub at: At,
+    pub offset: Shift,
+}

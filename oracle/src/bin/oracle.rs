@@ -3,12 +3,17 @@
 //!     oracle answer HEX         what document 01 answers to a page
 //!     oracle run SEED ROUNDS    generated pages, and the classes that they reached
 //!     oracle keep               writes the kept list again
+//!     oracle show               prints the records of framed pages from standard input, as the reading program does
+//!     oracle compare-reading SEED ROUNDS PROGRAM
+//!                               sends generated pages through the reading program and compares its lines
 
 use oracle::answer::{self, Outcome};
-use oracle::{hex, kept, run};
-use std::process::ExitCode;
+use oracle::{hex, kept, reading, run};
+use std::io::{stdin, stdout, BufReader, BufWriter};
+use std::process::{Command, ExitCode};
 
-const USAGE: &str = "usage: oracle answer HEX | run SEED ROUNDS | keep";
+const USAGE: &str =
+    "usage: oracle answer HEX | run SEED ROUNDS | keep | show | compare-reading SEED ROUNDS PROGRAM";
 
 fn main() -> ExitCode {
     let arguments: Vec<String> = std::env::args().skip(1).collect();
@@ -17,6 +22,8 @@ fn main() -> ExitCode {
         ["answer", page] => show(&hex::bytes(page)),
         ["run", seed, rounds] => report(seed, rounds),
         ["keep"] => keep(),
+        ["show"] => show_records(),
+        ["compare-reading", seed, rounds, program] => compare_reading(seed, rounds, program),
         _ => Err(USAGE.into()),
     };
     match result {
@@ -65,4 +72,21 @@ fn keep() -> Result<(), String> {
     let (pages, accepted) = kept::counts(&entries);
     println!("{pages} pages, {accepted} accepted, {} bytes", list.len());
     Ok(())
+}
+
+fn compare_reading(seed: &str, rounds: &str, program: &str) -> Result<(), String> {
+    let seed = seed.parse().map_err(|_| USAGE)?;
+    let rounds = rounds.parse().map_err(|_| USAGE)?;
+    let tally = reading::compare(seed, rounds, &mut Command::new(program))?;
+    println!(
+        "{} pages, {} lines: no difference",
+        tally.pages, tally.lines
+    );
+    Ok(())
+}
+
+fn show_records() -> Result<(), String> {
+    let input = BufReader::new(stdin().lock());
+    let output = BufWriter::new(stdout().lock());
+    reading::show(input, output).map_err(|error| error.to_string())
 }

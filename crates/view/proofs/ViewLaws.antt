@@ -1,0 +1,62 @@
+-- What was read at a record's start, and what that says of the tree that the record ends.
+use Prim.Native.Nat.{ℕ, suc, _-_, _≤_, _<_}
+use native.Mathlib.Omega.{arith}
+use mathlib.Core.Path.{_≡_, refl, sym, ap, _∙_}
+use mathlib.Core.Bool.{Bool, true, false, not}
+use mathlib.Core.List.{List}
+use mathlib.Core.Option.{Option, none, some}
+use lib.ListN.{length, drop, getD}
+use Rattle.page.specs.Read.{FieldFault, refused, got}
+use Rattle.records.specs.Literal as literal
+use Rattle.records.specs.Record as spec
+use Rattle.records.specs.Answers.{literalOf}
+use Rattle.reader.specs.Answers.{recordOn, TextsLie}
+use Rattle.reader.specs.declared.Record.{Record}
+use Rattle.reader.specs.declared.Record.the-variants as code
+use Rattle.ast.specs.Expr.{scalarValue}
+use Rattle.ast.specs.Tables.{treeAt}
+use Rattle.text.specs.Seen.{Reads}
+use Rattle.text.proofs.OperandLaws.{fewer}
+use Rattle.text.proofs.EntryLaws.{wrapped}
+use Rattle.text.proofs.ValueLaws.{signed, signed-none, signed-unary, signed-number, Unsigned, valueless}
+use Rattle.view.specs.View.{Starts, Standing}
+
+pub starts-fewer : {page starts : List ℕ} {n m : ℕ} → Starts page starts n → m ≤ n → Starts page starts m
+starts-fewer s h = record { firsts = s .firsts; tables = fewer (s .tables) h }
+
+pub standing : (page starts : List ℕ) (i next : ℕ) {item : Record} → got (recordOn page item) (drop next page) ≡ spec.readRecord (drop (getD starts i 0) page)
+    → TextsLie page item → Standing page starts i item
+standing page starts i next e l = record { reads = record { rest = _; reads = e }; lies = l }
+
+-- a record of the tables can be read
+pub unreadable : {page starts : List ℕ} {i : ℕ} (f : FieldFault) → Starts page starts (suc i) → refused f ≡ spec.readRecord (drop (getD starts i 0) page) → ⊥
+unreadable {page} {starts} {i} f s e = never (s .tables .entry i (omega arith) .reads ∙ sym e)
+  where
+    never : {a : spec.Record} {r : List ℕ} → got a r ≡ refused f → ⊥
+    never h = let z : _≡_ {A = ℕ} 0 1 = cc in omega arith
+
+-- ## Down a chain of unary records
+
+-- the value of the tree that record i ends is that of record j's, with this sign
+pub record Descends (page : List ℕ) (i j : ℕ) (odd : Bool) : Type 0 where
+  pub low : j ≤ i
+  pub value : scalarValue (treeAt page i) ≡ signed odd (scalarValue (treeAt page j))
+
+pub descends-start : (page : List ℕ) (i : ℕ) → Descends page i i false
+descends-start page i = record { low = omega arith; value = refl }
+
+module _ {page starts : List ℕ} {i j : ℕ} {odd : Bool} (s : Starts page starts (suc i)) (d : Descends page i j odd) where
+  here : Starts page starts (suc j)
+  here = starts-fewer s (omega (arith, d .low))
+
+  pub unary-some : Standing page starts j code.Unary → 0 < j
+  unary-some r = wrapped (here .tables) spec.unary (r .reads) .last .some
+
+  pub descends-unary : Standing page starts j code.Unary → Descends page i (j - 1) (not odd)
+  descends-unary r = record { low = omega (arith, d .low); value = d .value ∙ signed-unary (here .tables) odd (r .reads) }
+
+  pub value-number : (l : _) → Standing page starts j (code.Number l) → signed odd (some (literalOf l)) ≡ scalarValue (treeAt page i)
+  value-number l r = sym (d .value ∙ signed-number (here .tables) odd (literalOf l) (r .reads))
+
+  pub value-other : (item : Record) → Unsigned (recordOn page item) → Standing page starts j item → none ≡ scalarValue (treeAt page i)
+  value-other item u r = sym (d .value ∙ ap (signed odd) (valueless (here .tables) (recordOn page item) u (r .reads)) ∙ signed-none odd)
