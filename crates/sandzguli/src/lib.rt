@@ -2,4 +2,5 @@
 // starred examples.
 pub mod calls;
 pub mod face;
+pub mod part;
 pub mod word;

@@ -1,21 +1,16 @@
 -- `joint::group::first_joint` meets its contract. The loop's invariant: what is left of the group labels decides. Assumes nothing.
-use Rattle.joint.proofs.PlacedLaws.{nowhere, place-found, place-next, place-refused, place-none}
-use Rattle.joint.specs.Answers.{placedPart, firstOn}
+use mathlib.Core.Path.{_≡_, refl, sym, ap, _∙_}
+use lib.ListN.{length, drop}
+use denote.Ref.{now}
+use borrow.Author.Needs.{needs}
 use Rattle.ast.specs.Part.{readPlaced}
 use Rattle.ast.specs.CheckAst.{hasLabel}
 use Rattle.records.specs.Answers.{labelsOn}
 use Rattle.page.specs.Listed.{listed}
-use denote.Ref.{now}
-use lib.ListN.{length, drop}
-use mathlib.Core.Path.{_≡_, refl, sym, ap, _∙_}
-use borrow.Author.Needs.{needs}
+use Rattle.joint.specs.Answers.{placedPart, firstOn}
+use Rattle.joint.proofs.PlacedLaws.{nowhere, place-found, place-next, place-refused, place-none}
 use Rattle.joint.proofs.group.first_joint.Statement.{statement}
 use Rattle.joint.proofs.group.first_joint.Tie as tie
-use Rattle.joint.proofs.group.first_joint.Reads as reads
-use Rattle.joint.proofs.group.first_joint.Lts as lts
-use Rattle.page.proofs.read_text.Reads as read-text-reads
-use Rattle.page.proofs.text_at.Reads as text-at-reads
-use Rattle.verdict.proofs.label.has_label.Reads as has-label-reads
 
 abbrev Inv-loop : tie.InvT-loop
 Inv-loop page start count on ons left₀ at₀ left at = firstOn page (labelsOn page on ons) start count ≡ firstOn page (labelsOn page on ons) at left

@@ -1,17 +1,12 @@
 -- `joint::group::joint_behind` meets its contract, field by field. Assumes nothing.
-use Rattle.joint.proofs.PlacedLaws.{nowhere, part-as, no-on}
+use lib.ListN.{drop}
+use denote.Ref.{now}
+use borrow.Author.Needs.{needs}
 use Rattle.ast.specs.Part.{placedForms}
 use Rattle.page.specs.Number.{readChoice}
-use denote.Ref.{now}
-use lib.ListN.{drop}
-use borrow.Author.Needs.{needs}
+use Rattle.joint.proofs.PlacedLaws.{nowhere, part-as, no-on}
 use Rattle.joint.proofs.group.joint_behind.Statement.{statement}
 use Rattle.joint.proofs.group.joint_behind.Tie as tie
-use Rattle.joint.proofs.group.joint_behind.Reads as reads
-use Rattle.joint.proofs.group.joint_behind.Lts as lts
-use Rattle.joint.proofs.group.joint_of.Reads as joint-of-reads
-use Rattle.records.proofs.read_flag.Reads as read-flag-reads
-use Rattle.records.proofs.read_label_modifier.Reads as read-label-modifier-reads
 
 read-flag-requires : tie.Need-read-flag-requires
 read-flag-requires c κs = search needs

@@ -1,16 +1,11 @@
 -- `joint::group::joint_in` meets its contract: the list is read before its labels are looked at. Assumes nothing.
-use Rattle.joint.proofs.PlacedLaws.{nowhere, part-as, list-got, list-refused}
-use Rattle.records.specs.Answers.{labelsOn}
-use denote.Ref.{now}
 use lib.ListN.{drop}
+use denote.Ref.{now}
 use borrow.Author.Needs.{needs}
+use Rattle.records.specs.Answers.{labelsOn}
+use Rattle.joint.proofs.PlacedLaws.{nowhere, part-as, list-got, list-refused}
 use Rattle.joint.proofs.group.joint_in.Statement.{statement}
 use Rattle.joint.proofs.group.joint_in.Tie as tie
-use Rattle.joint.proofs.group.joint_in.Reads as reads
-use Rattle.joint.proofs.group.joint_in.Lts as lts
-use Rattle.joint.proofs.group.first_joint.Reads as first-joint-reads
-use Rattle.page.proofs.read_count.Reads as read-count-reads
-use Rattle.records.proofs.labels_from.Reads as labels-from-reads
 
 read-count-requires : tie.Need-read-count-requires
 read-count-requires c κs = search needs

@@ -1,16 +1,12 @@
 -- `joint::group::joint_of` meets its contract, form by form. Assumes nothing.
-use Rattle.joint.proofs.PlacedLaws.{nowhere, part-as, no-group}
-use Rattle.records.specs.Answers.{labelsOn}
-use denote.Ref.{now}
-use lib.ListN.{drop}
 use native.Mathlib.Omega.{arith}
+use lib.ListN.{drop}
+use denote.Ref.{now}
 use borrow.Author.Needs.{needs}
+use Rattle.records.specs.Answers.{labelsOn}
+use Rattle.joint.proofs.PlacedLaws.{nowhere, part-as, no-group}
 use Rattle.joint.proofs.group.joint_of.Statement.{statement}
 use Rattle.joint.proofs.group.joint_of.Tie as tie
-use Rattle.joint.proofs.group.joint_of.Reads as reads
-use Rattle.joint.proofs.group.joint_of.Lts as lts
-use Rattle.joint.proofs.group.joint_in.Reads as joint-in-reads
-use Rattle.page.proofs.read_number.Reads as read-number-reads
 
 read-number-requires : tie.Need-read-number-requires
 read-number-requires c κs = search needs

@@ -1,13 +1,8 @@
 -- `joint::place::joint_at` meets its contract, field by field. Assumes nothing.
-use Rattle.joint.proofs.PlacedLaws.{nowhere, part-as}
 use borrow.Author.Needs.{needs}
+use Rattle.joint.proofs.PlacedLaws.{nowhere, part-as}
 use Rattle.joint.proofs.place.joint_at.Statement.{statement}
 use Rattle.joint.proofs.place.joint_at.Tie as tie
-use Rattle.joint.proofs.place.joint_at.Reads as reads
-use Rattle.joint.proofs.place.joint_at.Lts as lts
-use Rattle.joint.proofs.group.joint_behind.Reads as joint-behind-reads
-use Rattle.page.proofs.read_number.Reads as read-number-reads
-use Rattle.reader.proofs.read_code.Reads as read-code-reads
 
 read-number-requires : tie.Need-read-number-requires
 read-number-requires c κs = search needs

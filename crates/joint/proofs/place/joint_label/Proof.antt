@@ -1,14 +1,10 @@
 -- `joint::place::joint_label` meets its contract. Assumes nothing.
-use Rattle.joint.proofs.PlacedLaws.{nowhere, part-as, part-joint}
-use Rattle.ast.proofs.LabelLaws.{labelPart-otherwise}
 use denote.Ref.{now}
 use borrow.Author.Needs.{needs}
+use Rattle.ast.proofs.LabelLaws.{labelPart-otherwise}
+use Rattle.joint.proofs.PlacedLaws.{nowhere, part-as, part-joint}
 use Rattle.joint.proofs.place.joint_label.Statement.{statement}
 use Rattle.joint.proofs.place.joint_label.Tie as tie
-use Rattle.joint.proofs.place.joint_label.Reads as reads
-use Rattle.joint.proofs.place.joint_label.Lts as lts
-use Rattle.joint.proofs.place.joint_at.Reads as joint-at-reads
-use Rattle.joint.proofs.place.record_start.Reads as record-start-reads
 
 record-start-requires : tie.Need-record-start-requires
 record-start-requires c κs = search needs

@@ -1,15 +1,12 @@
 -- `joint::place::record_start` meets its contract. The loop's invariant: `left` records are still to be read from `at` on. Assumes nothing.
-use Rattle.joint.proofs.PlacedLaws.{from-next, from-refused, from-none, past-end}
-use Rattle.ast.specs.Part.{fromRecord}
-use denote.Ref.{now}
-use lib.ListN.{drop}
 use mathlib.Core.Path.{_≡_, refl, sym, _∙_}
+use lib.ListN.{drop}
+use denote.Ref.{now}
 use borrow.Author.Needs.{needs}
+use Rattle.ast.specs.Part.{fromRecord}
+use Rattle.joint.proofs.PlacedLaws.{from-next, from-refused, from-none, past-end}
 use Rattle.joint.proofs.place.record_start.Statement.{statement}
 use Rattle.joint.proofs.place.record_start.Tie as tie
-use Rattle.joint.proofs.place.record_start.Reads as reads
-use Rattle.joint.proofs.place.record_start.Lts as lts
-use Rattle.reader.proofs.read_record.Reads as read-record-reads
 
 abbrev Inv-loop : tie.InvT-loop
 Inv-loop page index left₀ at₀ left at = fromRecord index page ≡ fromRecord left (drop at page)
