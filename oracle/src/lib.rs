@@ -12,6 +12,7 @@ pub mod generate;
 pub mod hex;
 pub mod kept;
 pub mod page;
+pub mod program;
 pub mod random;
 pub mod reading;
 pub mod refusal;

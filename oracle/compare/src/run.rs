@@ -4,7 +4,7 @@ use crate::judge::Judge;
 use crate::library::Library;
 use oracle::answer;
 use oracle::coverage::Coverage;
-use oracle::generate::stream::{self, Sample};
+use oracle::generate::stream;
 use oracle::hex;
 use oracle::random::Random;
 use std::ops::RangeInclusive;
@@ -25,11 +25,15 @@ impl Tally {
     }
 }
 
-/// The chosen pages, the limits, every byte string of at most two bytes.
+/// A page far beyond the limit.
+const OVERLONG: &str = "(0202757000)*20000;";
+
+/// The chosen pages, the limits, every byte string of at most two bytes, one page of 100,000 bytes.
 pub fn fixed(library: Library) -> Result<Tally, String> {
     let mut worker = Worker::new(library, 0);
+    worker.compare(&hex::bytes(OVERLONG))?;
     for sample in stream::fixed().chain(stream::short()) {
-        worker.compare(&sample)?;
+        worker.compare(&sample.page)?;
     }
     Ok(worker.tally())
 }
@@ -86,11 +90,10 @@ impl Worker {
     fn round(&mut self, seed: u64) -> Result<(), String> {
         stream::round(&mut Random::new(seed))
             .iter()
-            .try_for_each(|sample| self.compare(sample))
+            .try_for_each(|sample| self.compare(&sample.page))
     }
 
-    fn compare(&mut self, sample: &Sample) -> Result<(), String> {
-        let page = &sample.page;
+    fn compare(&mut self, page: &[u8]) -> Result<(), String> {
         let worked = answer::work(page)
             .map_err(|failure| format!("{}\npage: {}", failure.0, hex::text(page)))?;
         let answer = answer::of_worked(&worked);
