@@ -17,12 +17,10 @@ use Rattle.records.specs.LiteralException.{isExp, isLogarithm}
 use Rattle.records.specs.Modifier.{BinModifier}
 use Rattle.records.specs.Signature.{Function}
 use Rattle.records.specs.Stack.{operandsOf}
-use Rattle.records.specs.Record.{Leaf, number, string, selector, Wrapper, range, subquery, at, offset, unary, paren, Record, leaf, wrapper, binary, aggregate, call, operands, readPage}
-use Rattle.records.specs.Outcome.{Outcome, answer, refusal}
+use Rattle.records.specs.Record.{Leaf, number, string, selector, Wrapper, range, subquery, at, offset, unary, paren, Record, leaf, wrapper, binary, aggregate, call, operands}
 use Rattle.ast.specs.Refusal.{Row, firstFault, Result, refused, ok, unless, andThen}
 use Rattle.ast.specs.Expr.{binaryKind}
 use Rattle.ast.specs.CheckAst.{binaryRows, aggregateRows, arityRows, argsRows, unaryRows, subqueryRows, selectorRows}
-use Rattle.ast.specs.Walk.{Checked, accepted, refusedAt, walkPage}
 use Rattle.ast.specs.Node.{Node, numberNode, stringNode, selectorNode, rangeNode, subqueryNode, otherNode, nodeKind}
 
 -- the node, unless a row applies
@@ -153,13 +151,3 @@ judgement (call f n) stack = pick (leb n (length stack)) (judgeCall f (operandsO
 -- the stack after a record
 abbrev pub judged : Record → List Node → Result (List Node)
 judged r stack = andThen (judgement r stack) (λ x. ok (x ∷ drop (operands r) stack))
-
--- ## A page
-
-unfoldable pub checkNodes : List ℕ → Checked Node
-checkNodes page = walkPage judged (readPage page)
-
--- check: writes nothing
-abbrev pub nodeOutcome : Checked Node → Outcome
-nodeOutcome (accepted x n) = answer (nodeKind x) 0
-nodeOutcome (refusedAt n i) = refusal n i

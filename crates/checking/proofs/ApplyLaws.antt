@@ -1,5 +1,5 @@
 -- What a record does to a stack of trees, seen from the verdict on its nodes. Assumes nothing.
-use Prim.Native.Nat.{ℕ, _≤_, _<_}
+use Prim.Native.Nat.{ℕ, _≤_}
 use mathlib.Core.Path.{_≡_, refl, sym, ap, _∙_}
 use mathlib.Core.Bool.{Bool, true, false}
 use mathlib.Core.List.{List, [], _∷_, map}
@@ -16,7 +16,7 @@ use Rattle.ast.specs.Construct.{newAggregate}
 use Rattle.ast.specs.CheckAst.{checkAst}
 use Rattle.ast.specs.CheckPage.{leafExpr, wrap, push, apply}
 use Rattle.ast.specs.Node.{Node, nodeOf}
-use Rattle.ast.specs.Judge.{judgement, judged}
+use Rattle.ast.specs.Judge.{judgement}
 use Rattle.ast.proofs.SoundLaws.{AllSound}
 use Rattle.ast.proofs.NodeLaws.{mapResult, judged-node}
 use Rattle.verdict.proofs.RecordLaws.{judgement-short}

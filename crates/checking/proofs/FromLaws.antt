@@ -1,15 +1,15 @@
 -- The check of a page from a record on: what is left to read and to do, with the stack so far. One law for each way that a record can go.
-use Prim.Native.Nat.{ℕ, zero, suc, _+_, _-_, _≤_, _<_}
-use mathlib.Core.Path.{_≡_, refl, sym, ap, ap₂, _∙_}
+use Prim.Native.Nat.{ℕ, zero, suc, _+_, _-_, _<_}
+use mathlib.Core.Path.{_≡_, sym, ap, _∙_}
 use mathlib.Core.List.{List, [], _∷_, _++_}
 use native.Mathlib.Omega.{arith}
 use native.Mathlib.Nat.{add-zero}
 use lib.ListN.{length, take, drop}
 use Rattle.page.specs.Read.{FieldFault, faultNumber, Read, refused as refusedField, got}
 use Rattle.records.specs.Record.{Record, Records, followed, readRecord, readRecords}
-use Rattle.ast.specs.Refusal.{Result, refused, ok}
+use Rattle.ast.specs.Refusal.{refused, ok}
 use Rattle.ast.specs.Expr.{Expr}
-use Rattle.ast.specs.Walk.{Walked, stack, stopped, Checked, accepted, refusedAt, atEnd, finished, walk}
+use Rattle.ast.specs.Walk.{stack, Checked, refusedAt, atEnd, finished, walk}
 use Rattle.ast.specs.Walk as ast
 use Rattle.ast.specs.CheckPage.{apply}
 use Rattle.records.specs.Record as records

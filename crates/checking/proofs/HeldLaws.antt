@@ -4,31 +4,18 @@ use Prim.Native.Nat.{ℕ, zero, suc, _+_, _-_, _≤_, _<_}
 use mathlib.Core.Path.{_≡_, refl, sym, ap, ap₂, subst, _∙_}
 use mathlib.Core.List.{List, [], _∷_, map}
 use native.Mathlib.Omega.{arith}
-use native.Mathlib.Numerals.{add-one}
-use lib.ListN.{length, getD, set, drop, length-map, length-set, length-drop, drop-of-length-le}
-use lib.Seq.{drop-cons, drop-drop, getD-set-same, getD-set-other}
+use lib.ListN.{length, set, drop, length-map, length-set}
+use lib.Seq.{drop-drop}
 use lib.Ieee.{Float}
-use Rattle.base.specs.Cases.{by-eq}
-use Rattle.page.specs.Read.{FieldFault, faultNumber, refused as refusedField, got}
-use Rattle.records.specs.Outcome.{Outcome, answer, refusal}
-use Rattle.records.specs.Record.{Record, operands, readRecord}
 use Rattle.records.specs.Record as records
-use Rattle.ast.specs.Refusal.{refused, ok}
-use Rattle.ast.specs.Expr.{Expr, valueType}
-use Rattle.ast.specs.Walk.{Checked, accepted, refusedAt, atEnd}
-use Rattle.ast.specs.CheckPage.{apply, checkPage, outcomeOf, check}
-use Rattle.ast.specs.Node.{Node, stringNode, nodeKind, nodeOf}
-use Rattle.ast.specs.Judge.{judgement}
-use Rattle.ast.specs.Tables.{stackAt, newest, treeAt, Entry, Tables}
-use Rattle.ast.proofs.NodeLaws.{nodeOf-kind}
+use Rattle.ast.specs.Expr.{Expr}
+use Rattle.ast.specs.Node.{Node, nodeOf}
+use Rattle.ast.specs.Tables.{stackAt}
 use Rattle.ast.proofs.StackLaws.{map-drop}
 use Rattle.judge.specs.Stack.{formOf, valueOf, nodes, Sized}
-use Rattle.judge.proofs.StackLaws.{nodeFrom-formOf, nodes-set, nodes-size, stack-size, stack-empty, stack-top}
-use Rattle.checking.specs.Answers.{Accepts}
-use Rattle.checking.specs.Walk.{firstOf}
-use Rattle.checking.proofs.ApplyLaws.{Pushed, apply-pushes, operands-there, Applied, applied, unapplied}
-use Rattle.checking.proofs.BasesLaws.{Bases, bases-drop, bases-more, first-right}
-use Rattle.checking.proofs.ProgressLaws.{Progress, progress-start, at-stack, progress-end, progress-over, progress-bad, progress-refused, progress-next}
+use Rattle.judge.proofs.StackLaws.{nodeFrom-formOf, nodes-set, nodes-size, stack-size}
+use Rattle.checking.proofs.BasesLaws.{Bases, bases-drop, bases-more}
+use Rattle.checking.proofs.ProgressLaws.{Progress}
 
 -- ## The arrays
 

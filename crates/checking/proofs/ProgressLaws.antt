@@ -1,22 +1,19 @@
 -- How far the walk has come on a page, in terms of trees: the records passed made this stack, and what is left decides the outcome.
-use Prim.Native.Nat.{ℕ, zero, suc, _+_, _-_, _≤_, _<_}
+use Prim.Native.Nat.{ℕ, suc, _+_, _-_, _≤_, _<_}
 use mathlib.Core.Path.{_≡_, refl, sym, ap, subst, _∙_}
-use mathlib.Core.Bool.{true}
-use mathlib.Core.List.{List, [], _∷_, _++_}
+use mathlib.Core.List.{List, [], _∷_}
 use native.Mathlib.Omega.{arith}
 use native.Mathlib.Nat.{zero-add}
 use borrow.Author.Tests.{le-leb, lt-leb}
-use lib.Dec.{leb}
 use lib.ListN.{length, take, drop, length-drop, drop-of-length-le}
-use Rattle.page.specs.Bytes.{pick}
-use Rattle.page.specs.Read.{FieldFault, faultNumber, Read, refused as refusedField, got}
-use Rattle.page.proofs.ReadBackLaws.{Got}
-use Rattle.page.specs.Limits.{pageLimit, recordLimit}
+use Rattle.page.specs.Read.{FieldFault, faultNumber, refused as refusedField, got}
+use Rattle.float.proofs.ExactLaws.{of-got}
+use Rattle.page.specs.Limits.{pageLimit}
 use Rattle.records.specs.Record.{Record, Records, readRecord, readRecords, readPage}
 use Rattle.records.specs.Record as records
-use Rattle.ast.specs.Refusal.{Result, refused, ok}
+use Rattle.ast.specs.Refusal.{refused, ok}
 use Rattle.ast.specs.Expr.{Expr}
-use Rattle.ast.specs.Walk.{Walked, Checked, accepted, refusedAt, proceed, atEnd, finished, walk, stackAfter}
+use Rattle.ast.specs.Walk.{Walked, refusedAt, proceed, atEnd, finished, walk, stackAfter}
 use Rattle.ast.specs.Walk as ast
 use Rattle.ast.specs.CheckPage.{apply, checkPage}
 use Rattle.ast.specs.Part.{fromRecord}
@@ -94,13 +91,6 @@ module _ {page : List ℕ} {at count : ℕ} {stack : List Expr} (progress : Prog
         pub progress-refused : {n : ℕ} → apply r stack ≡ refused n → checkPage page ≡ refusedAt n count
         progress-refused {n} e = progress .rest ∙ rw fuel (from-refused (256 - suc count) count stack (drop at page) n some-bytes read e)
 
-        pub exact : IsExactRecord r
-        exact = go (readRecord (drop at page)) read (readRecord-exact (drop at page))
-          where
-            go : (m : Read Record) → got r (drop next page) ≡ m → Got IsExactRecord m → IsExactRecord r
-            go (refusedField f) e g = absurd (let z : _≡_ {A = ℕ} 0 1 = cc in omega arith)
-            go (got q t) e g = let same : q ≡ r = cc in subst IsExactRecord same g
-
         module _ (inside : next ≤ length page) (after : List Expr) (applies : apply r stack ≡ ok after) where
           one : drop count (readPage page .records) ≡ r ∷ readRecords (256 - suc count) (drop next page) .records
           one = progress .left ∙ rw fuel (records-next (256 - suc count) (drop at page) some-bytes read)
@@ -116,7 +106,7 @@ module _ {page : List ℕ} {at count : ℕ} {stack : List Expr} (progress : Prog
           progress-next = record {
             count-range = omega (arith, progress .count-range, few);
             at-range = inside;
-            sound = subst SoundStack applies (apply-sound r stack exact (progress .sound));
+            sound = subst SoundStack applies (apply-sound r stack (of-got IsExactRecord (readRecord (drop at page)) read (readRecord-exact (drop at page))) (progress .sound));
             left = drop-next (readPage page .records) count one;
             rest = progress .rest ∙ rw fuel (from-next (256 - suc count) count stack (drop at page) after some-bytes read applies);
             walked = walked-next;

@@ -13,31 +13,20 @@ use Rattle.records.specs.Record as records
 use Rattle.ast.specs.Refusal.{refused, ok}
 use Rattle.ast.specs.Expr.{Expr, valueType}
 use Rattle.ast.specs.Walk.{Checked, accepted, refusedAt, atEnd}
-use Rattle.ast.specs.CheckPage.{apply, checkPage}
+use Rattle.ast.specs.CheckPage.{checkPage}
 use Rattle.ast.specs.Node.{Node, stringNode, nodeKind, nodeOf}
 use Rattle.ast.specs.Judge.{judgement}
 use Rattle.ast.specs.Tables.{stackAt, newest, treeAt, Tables}
-use Rattle.ast.proofs.ExactLaws.{IsExactRecord}
 use Rattle.ast.proofs.NodeLaws.{nodeOf-kind}
 use Rattle.judge.specs.Stack.{formOf, valueOf, nodes, Sized}
 use Rattle.judge.proofs.StackLaws.{stack-size, stack-empty, stack-top}
-use Rattle.verdict.specs.Judged.{HasExact}
 use Rattle.checking.specs.Answers.{Accepts}
 use Rattle.checking.specs.Walk.{firstOf}
 use Rattle.checking.proofs.ApplyLaws.{Pushed, apply-pushes, operands-there, Applied, applied, unapplied}
 use Rattle.checking.proofs.BasesLaws.{first-right}
-use Rattle.checking.proofs.ProgressLaws.{Progress, progress-start, at-stack, progress-end, progress-over, progress-bad, progress-refused, exact, progress-next}
+use Rattle.checking.proofs.ProgressLaws.{Progress, progress-start, at-stack, progress-end, progress-over, progress-bad, progress-refused, progress-next}
 use Rattle.checking.proofs.TableLaws.{tables-start, tables-next, entry-of}
 use Rattle.checking.proofs.HeldLaws.{Arrays, stack-length, arrays-next}
-
-has-exact : (r : Record) → IsExactRecord r → HasExact r
-has-exact (records.leaf (records.number l)) h = h
-has-exact (records.leaf (records.string t)) h = tt
-has-exact (records.leaf (records.selector s)) h = tt
-has-exact (records.wrapper w) h = tt
-has-exact (records.binary c m) h = tt
-has-exact (records.aggregate c m n) h = tt
-has-exact (records.call f n) h = tt
 
 pub record Held (page starts firsts forms : List ℕ) (values : List Float) (bases : List ℕ) (top at count : ℕ) : Type 0 where
   -- the trees of which the arrays hold the nodes
@@ -126,9 +115,6 @@ module _ {page starts firsts forms : List ℕ} {values : List Float} {bases : Li
       unreadable f e = progress-bad (held .progress) more few f e
 
       module _ {r : Record} (next : ℕ) (read : got r (drop next page) ≡ readRecord (drop at page)) where
-        pub readable : HasExact r
-        readable = has-exact r (exact (held .progress) more few next read)
-
         pub unfit : {n : ℕ} → refused n ≡ judgement r (drop top (nodes forms values)) → checkPage page ≡ refusedAt n count
         unfit e =
             progress-refused (held .progress) more few next read

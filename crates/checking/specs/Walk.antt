@@ -6,12 +6,12 @@ use lib.ListN.{getD}
 use Rattle.records.specs.Record.{operands}
 use Rattle.reader.specs.declared.Record.{Record}
 use Rattle.reader.specs.Answers.{recordOn, TextsLie}
-use Rattle.verdict.specs.Judged.{HasExact}
+use Rattle.float.specs.Exact.{RecordExact}
 
 -- a record that was read: its texts lie on the page, its number is exact, and it takes so many operands
 pub record Item (page : List ℕ) (item : Record) (needed : ℕ) : Type 0 where
   pub lies : TextsLie page item
-  pub exact : HasExact (recordOn page item)
+  pub exact : RecordExact (recordOn page item)
   pub takes : needed ≡ operands (recordOn page item)
 
 -- the first record of the expression that record `count` ends, from the first records of the entries of the stack

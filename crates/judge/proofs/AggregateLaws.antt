@@ -1,6 +1,6 @@
 -- The arguments of an aggregate: how many there are, and which one is the operand.
 use Prim.Native.Nat.{ℕ, _+_, _≤_}
-use mathlib.Core.Path.{_≡_, refl, sym, ap, _∙_}
+use mathlib.Core.Path.{_≡_, refl, sym, _∙_}
 use mathlib.Core.Bool.{true, false}
 use mathlib.Core.List.{List, [], _∷_, map}
 use native.Mathlib.Omega.{arith}
@@ -13,7 +13,7 @@ use Rattle.records.specs.Code.{hasParameter}
 use Rattle.records.specs.Stack.{operandsOf}
 use Rattle.ast.specs.Refusal.{refused}
 use Rattle.ast.specs.CheckAst.{aggregateRows}
-use Rattle.ast.specs.Node.{Node, stringNode, otherNode, nodeKind}
+use Rattle.ast.specs.Node.{stringNode, otherNode, nodeKind}
 use Rattle.ast.specs.Judge.{put, judgeArguments, judgeAggregate}
 use Rattle.judge.specs.Stack.{nodes, Sized}
 use Rattle.judge.proofs.StackLaws.{operands-size, operands-first}

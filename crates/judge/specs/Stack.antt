@@ -6,7 +6,6 @@ use mathlib.Core.List.{List, [], _∷_}
 use mathlib.Core.Path.{_≡_}
 use lib.ListN.{length, getD}
 use lib.Ieee.{Float}
-use Rattle.page.specs.Limits.{recordLimit}
 use Rattle.records.specs.Kind.{vector, scalar, matrix, string, kindNumber}
 use Rattle.records.specs.Float.{zeroFloat}
 use Rattle.ast.specs.Node.{Node, numberNode, stringNode, selectorNode, rangeNode, subqueryNode, otherNode}

@@ -1,13 +1,13 @@
 -- Declared kinds read again from the page, and arguments matched against them one by one. Assumes nothing.
-use Prim.Native.Nat.{ℕ, suc, _+_, _-_, _≤_, _<_}
+use Prim.Native.Nat.{ℕ, _+_, _-_, _≤_, _<_}
 use mathlib.Core.Path.{_≡_, refl, sym, ap, _∙_}
 use mathlib.Core.Bool.{Bool, true, false, _&&_, not}
 use mathlib.Core.List.{List, [], _∷_, map}
 use native.Mathlib.Omega.{arith}
-use lib.ListN.{length, getD, drop}
+use lib.ListN.{getD, drop}
 use lib.Ieee.{Float}
 use Rattle.page.specs.Bytes.{isEmpty}
-use Rattle.page.specs.Read.{FieldFault, Read, refused, got}
+use Rattle.page.specs.Read.{FieldFault, refused, got}
 use Rattle.page.specs.Listed.{listed}
 use Rattle.page.proofs.ListLaws.{listed-more, listed-refused, listed-none}
 use Rattle.records.specs.Kind.{Kind, equalKind}
@@ -17,7 +17,7 @@ use Rattle.ast.specs.CheckAst.{argsMatch}
 use Rattle.ast.specs.Node.{stringNode, nodeKind}
 use Rattle.judge.specs.Stack.{nodes, Sized}
 use Rattle.judge.proofs.StackLaws.{operands-first}
-use Rattle.verdict.specs.Call.{Next, undeclared, next, nextKind}
+use Rattle.verdict.specs.Call.{undeclared, next, nextKind}
 
 -- ## The kinds from a place of the page on
 

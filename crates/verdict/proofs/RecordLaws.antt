@@ -13,7 +13,7 @@ use Rattle.records.specs.Modifier.{BinModifier, LabelModifier}
 use Rattle.records.specs.Signature.{Function}
 use Rattle.records.specs.Stack.{operandsOf}
 use Rattle.records.specs.Record.{Leaf, number, Wrapper, Record, leaf, wrapper, binary, aggregate, call, operands}
-use Rattle.ast.specs.Refusal.{Result, refused, ok}
+use Rattle.ast.specs.Refusal.{refused, ok}
 use Rattle.ast.specs.Node.{Node, numberNode, stringNode, nodeKind}
 use Rattle.ast.specs.Judge.{judgeLeaf, judgeWrapper, judgeBinary, judgeAggregate, judgeCall, judgement}
 use Rattle.judge.specs.Stack.{nodes, Sized}

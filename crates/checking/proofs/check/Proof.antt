@@ -1,11 +1,8 @@
-use Rattle.checking.proofs.CheckLaws.{accepts-contract, refused-contract}
 -- `checking::check` meets its contract: the outcome is what the walk says. Assumes nothing.
+use Rattle.checking.proofs.CheckLaws.{accepts-contract, refused-contract}
 use borrow.Author.Needs.{needs}
 use Rattle.checking.proofs.check.Statement.{statement}
 use Rattle.checking.proofs.check.Tie as tie
-use Rattle.checking.proofs.check.Reads as reads
-use Rattle.checking.proofs.check.Lts as lts
-use Rattle.checking.proofs.walk.walk.Reads as walk-reads
 
 slice-aggregate-walk : tie.Need-slice-aggregate-walk
 slice-aggregate-walk c = search needs

@@ -1,11 +1,9 @@
+-- `checking::walk::first_record` meets its contract. Assumes nothing.
 use denote.Ref.{now}
 use Rattle.checking.proofs.BasesLaws.{firstOf-some}
--- `checking::walk::first_record` meets its contract. Assumes nothing.
 use borrow.Author.Needs.{needs}
 use Rattle.checking.proofs.walk.first_record.Statement.{statement}
 use Rattle.checking.proofs.walk.first_record.Tie as tie
-use Rattle.checking.proofs.walk.first_record.Reads as reads
-use Rattle.checking.proofs.walk.first_record.Lts as lts
 
 cast-result : tie.Need-cast-result
 cast-result c = search needs

@@ -1,3 +1,4 @@
+-- `checking::walk::judge_next` meets its contract: 2 where the stack is too short. Assumes nothing.
 use lib.ListN.{drop}
 use denote.Ref.{now}
 use native.Mathlib.Omega.{arith}
@@ -5,13 +6,9 @@ use Rattle.reader.specs.Answers.{recordOn}
 use Rattle.judge.specs.Stack.{nodes}
 use Rattle.judge.proofs.StackLaws.{stack-size}
 use Rattle.verdict.proofs.RecordLaws.{judgement-short}
--- `checking::walk::judge_next` meets its contract: 2 where the stack is too short. Assumes nothing.
 use borrow.Author.Needs.{needs}
 use Rattle.checking.proofs.walk.judge_next.Statement.{statement}
 use Rattle.checking.proofs.walk.judge_next.Tie as tie
-use Rattle.checking.proofs.walk.judge_next.Reads as reads
-use Rattle.checking.proofs.walk.judge_next.Lts as lts
-use Rattle.verdict.proofs.record.judge_record.Reads as judge-record-reads
 
 sub-if1 : tie.Need-sub-if1
 sub-if1 c = search needs

@@ -1,30 +1,23 @@
+-- `checking::walk::walk` meets its contract. The invariant, and what each way through the loop's body makes of it, stand in `WalkHeld`; each
+-- answer here hands the values over. The measure is the records that a page may still have.
+use Prim.Native.Nat.{_-_}
 use Rattle.ast.specs.Expr.{Expr}
 use Rattle.ast.specs.Walk.{Checked, refusedAt}
 use mathlib.Core.Path.{refl, sym, ap, _∙_}
 use denote.Ref.{now}
-use Prim.Native.Nat.{ℕ, _-_}
+use Rattle.float.specs.Exact.{RecordExact}
+use Rattle.float.proofs.ExactLaws.{of-got, readRecord-exact}
+use Rattle.records.specs.Record.{readRecord}
+use lib.ListN.{drop}
 use native.Mathlib.Omega.{arith}
 use Rattle.judge.specs.Answers.{nodeMeant}
 use Rattle.ast.specs.Node.{nodeKind}
 use Rattle.page.specs.Answers.{faultOf}
 use Rattle.checking.proofs.ProgressLaws.{too-long}
-use Rattle.checking.proofs.WalkHeld.{Held, Next, held-start, readable, unfit, stepped, too-many, unreadable, ends-refused, ends-accepted}
--- answer here hands the values over. The measure is the records that a page may still have.
--- `checking::walk::walk` meets its contract. The invariant, and what each way through the loop's body makes of it, stand in `WalkHeld`; each
+use Rattle.checking.proofs.WalkHeld.{Held, Next, held-start, unfit, stepped, too-many, unreadable, ends-refused, ends-accepted}
 use borrow.Author.Needs.{needs}
 use Rattle.checking.proofs.walk.walk.Statement.{statement}
 use Rattle.checking.proofs.walk.walk.Tie as tie
-use Rattle.checking.proofs.walk.walk.Reads as reads
-use Rattle.checking.proofs.walk.walk.Lts as lts
-use Rattle.checking.proofs.answer.field_refusal.Reads as field-refusal-reads
-use Rattle.checking.proofs.walk.first_record.Reads as first-record-reads
-use Rattle.checking.proofs.walk.judge_next.Reads as judge-next-reads
-use Rattle.judge.proofs.node.form_of.Reads as form-of-reads
-use Rattle.judge.proofs.node.kind_of.Reads as kind-of-reads
-use Rattle.judge.proofs.node.node_at.Reads as node-at-reads
-use Rattle.judge.proofs.node.value_of.Reads as value-of-reads
-use Rattle.reader.proofs.read_record.Reads as read-record-reads
-use Rattle.verdict.proofs.record.operand_count.Reads as operand-count-reads
 
 abbrev Inv-loop : tie.InvT-loop
 Inv-loop page starts₀ firsts₀ forms₀ values₀ bases₀ top₀ at₀ count₀ starts firsts forms values bases top at count = Held page starts firsts forms values bases top at count
@@ -92,7 +85,7 @@ slice-aggregate-judge-next-2 c = omega (arith, c .before .before .before .before
 judge-next-requires : tie.Need-judge-next-requires Inv-loop μ-loop
 judge-next-requires c κs = let read = rw (c .before .before .before .before .item .given .1) at (c .before .before .before .before .before .before .read-record .ensures .0) in
     let also = rw (c .before .before .before .before .item .given .1) at (c .before .before .before .before .before .before .read-record .ensures .1) in
-    (c .before .before .before .before .before .before .before .before .before .loop .inv .arrays .sized, (record { lies = also .lies; exact = readable (c .before .before .before .before .before .before .before .before .before .loop .inv) (c .before .before .before .before .before .before .before .before .loop-test .taken) (c .before .before .before .before .before .before .before .if2 .left) (c .before .before .before .before .item .given .0 .1 .0) read; takes = c .before .before .operand-count .ensures (now (c .before .before .before .before .before .before .before .before .before .before .before .before .before .before .args .page)) }, c .before .before .before .before .before .before .before .before .before .loop .inv .arrays .top-range))
+    (c .before .before .before .before .before .before .before .before .before .loop .inv .arrays .sized, (record { lies = also .lies; exact = of-got RecordExact (readRecord (drop (c .before .before .before .before .before .before .before .before .before .loop .at) (now (c .before .before .before .before .before .before .before .before .before .before .before .before .before .before .args .page)))) read (readRecord-exact (drop (c .before .before .before .before .before .before .before .before .before .loop .at) (now (c .before .before .before .before .before .before .before .before .before .before .before .before .before .before .args .page)))); takes = c .before .before .operand-count .ensures (now (c .before .before .before .before .before .before .before .before .before .before .before .before .before .before .args .page)) }, c .before .before .before .before .before .before .before .before .before .loop .inv .arrays .top-range))
 
 enum-known-refusal : tie.Need-enum-known-refusal Inv-loop μ-loop
 enum-known-refusal c = search needs

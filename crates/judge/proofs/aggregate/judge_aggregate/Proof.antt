@@ -1,15 +1,10 @@
+-- `judge::aggregate::judge_aggregate` meets its contract: the count of arguments, then the kinds at the top of the stack (`AggregateLaws`). Assumes nothing.
 use mathlib.Core.Path.{sym, ap, _∙_}
 use Rattle.ast.specs.Node.{nodeKind}
 use Rattle.judge.proofs.AggregateLaws.{aggregate-none, parameter-other, parameter-two, plain-other, plain-one}
 use borrow.Author.Needs.{needs}
 use Rattle.judge.proofs.aggregate.judge_aggregate.Statement.{statement}
 use Rattle.judge.proofs.aggregate.judge_aggregate.Tie as tie
-use Rattle.judge.proofs.aggregate.judge_aggregate.Reads as reads
-use Rattle.judge.proofs.aggregate.judge_aggregate.Lts as lts
-use Rattle.judge.proofs.aggregate.judge_operand.Reads as judge-operand-reads
-use Rattle.judge.proofs.code.has_parameter.Reads as has-parameter-reads
-use Rattle.judge.proofs.node.kind_of.Reads as kind-of-reads
-use Rattle.judge.proofs.node.node_at.Reads as node-at-reads
 
 returns : tie.Need-returns
 returns c = aggregate-none (c .before .before .before .pre .0) (c .before .before .before .args .code) (c .before .before .before .args .top) (c .before .before .before .args .count) (c .if1 .taken)

@@ -1,14 +1,7 @@
+-- `judge::aggregate::judge_operand` meets its contract: at each return the tests before it say which row of the table is the first that applies. Assumes nothing.
 use borrow.Author.Needs.{needs}
 use Rattle.judge.proofs.aggregate.judge_operand.Statement.{statement}
 use Rattle.judge.proofs.aggregate.judge_operand.Tie as tie
-use Rattle.judge.proofs.aggregate.judge_operand.Reads as reads
-use Rattle.judge.proofs.aggregate.judge_operand.Lts as lts
-use Rattle.judge.proofs.aggregate.parameter_is_scalar.Reads as parameter-is-scalar-reads
-use Rattle.judge.proofs.aggregate.parameter_is_string.Reads as parameter-is-string-reads
-use Rattle.judge.proofs.code.asks_scalar.Reads as asks-scalar-reads
-use Rattle.judge.proofs.code.is_aggregator.Reads as is-aggregator-reads
-use Rattle.judge.proofs.code.is_count_values.Reads as is-count-values-reads
-use Rattle.judge.proofs.kind.is_vector.Reads as is-vector-reads
 
 is-aggregator-requires : tie.Need-is-aggregator-requires
 is-aggregator-requires c κs = search needs

@@ -1,9 +1,7 @@
+-- `judge::aggregate::parameter_is_string` meets its contract: case by case. Assumes nothing.
 use borrow.Author.Needs.{needs}
 use Rattle.judge.proofs.aggregate.parameter_is_string.Statement.{statement}
 use Rattle.judge.proofs.aggregate.parameter_is_string.Tie as tie
-use Rattle.judge.proofs.aggregate.parameter_is_string.Reads as reads
-use Rattle.judge.proofs.aggregate.parameter_is_string.Lts as lts
-use Rattle.judge.proofs.kind.is_string.Reads as is-string-reads
 
 enum-told : tie.Need-enum-told
 enum-told c = search needs

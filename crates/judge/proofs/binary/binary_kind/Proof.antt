@@ -1,9 +1,7 @@
+-- `judge::binary::binary_kind` meets its contract: by the test of both sides. Assumes nothing.
 use borrow.Author.Needs.{needs}
 use Rattle.judge.proofs.binary.binary_kind.Statement.{statement}
 use Rattle.judge.proofs.binary.binary_kind.Tie as tie
-use Rattle.judge.proofs.binary.binary_kind.Reads as reads
-use Rattle.judge.proofs.binary.binary_kind.Lts as lts
-use Rattle.judge.proofs.kind.is_scalar.Reads as is-scalar-reads
 
 is-scalar-requires : tie.Need-is-scalar-requires
 is-scalar-requires c κs = search needs

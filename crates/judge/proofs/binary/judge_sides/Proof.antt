@@ -1,14 +1,7 @@
+-- `judge::binary::judge_sides` meets its contract: at each return the tests before it say which row of the table is the first that applies. Assumes nothing.
 use borrow.Author.Needs.{needs}
 use Rattle.judge.proofs.binary.judge_sides.Statement.{statement}
 use Rattle.judge.proofs.binary.judge_sides.Tie as tie
-use Rattle.judge.proofs.binary.judge_sides.Reads as reads
-use Rattle.judge.proofs.binary.judge_sides.Lts as lts
-use Rattle.judge.proofs.binary.binary_kind.Reads as binary-kind-reads
-use Rattle.judge.proofs.code.is_comparison.Reads as is-comparison-reads
-use Rattle.judge.proofs.code.is_operator.Reads as is-operator-reads
-use Rattle.judge.proofs.code.is_set_operator.Reads as is-set-operator-reads
-use Rattle.judge.proofs.kind.is_scalar.Reads as is-scalar-reads
-use Rattle.judge.proofs.kind.is_vector.Reads as is-vector-reads
 
 is-comparison-requires : tie.Need-is-comparison-requires
 is-comparison-requires c κs = search needs

@@ -1,14 +1,12 @@
+-- `judge::code::asks_scalar` meets its contract: the class is a list of codes, tested once over all of them. Assumes nothing.
 use mathlib.Core.Path.{refl}
 use lib.Dec.{eqb}
 use mathlib.Core.List.{[], _∷_}
 use mathlib.Core.Bool.{_||_}
 use native.Mathlib.Omega.{arith}
 use Rattle.judge.proofs.CodeLaws.{isOneOf-test, is-not}
-use borrow.Author.Needs.{needs}
 use Rattle.judge.proofs.code.asks_scalar.Statement.{statement}
 use Rattle.judge.proofs.code.asks_scalar.Tie as tie
-use Rattle.judge.proofs.code.asks_scalar.Reads as reads
-use Rattle.judge.proofs.code.asks_scalar.Lts as lts
 
 returns : tie.Need-returns
 returns c = isOneOf-test ("topk" ∷ "bottomk" ∷ "quantile" ∷ []) (λ c. (eqb c 18 || eqb c 24) || eqb c 28) tt refl (c .args .code) (λ h. rw (is-not (c .args .code) 18 h (omega arith), is-not (c .args .code) 24 h (omega arith), is-not (c .args .code) 28 h (omega arith)))

@@ -1,11 +1,7 @@
+-- `judge::code::has_parameter` meets its contract: the three classes together. Assumes nothing.
 use borrow.Author.Needs.{needs}
 use Rattle.judge.proofs.code.has_parameter.Statement.{statement}
 use Rattle.judge.proofs.code.has_parameter.Tie as tie
-use Rattle.judge.proofs.code.has_parameter.Reads as reads
-use Rattle.judge.proofs.code.has_parameter.Lts as lts
-use Rattle.judge.proofs.code.asks_scalar.Reads as asks-scalar-reads
-use Rattle.judge.proofs.code.is_count_values.Reads as is-count-values-reads
-use Rattle.judge.proofs.code.is_limit.Reads as is-limit-reads
 
 is-count-values-requires : tie.Need-is-count-values-requires
 is-count-values-requires c κs = search needs

@@ -1,14 +1,11 @@
+-- `judge::code::is_count_values` meets its contract: the class is one code, tested once over all of them. Assumes nothing.
 use mathlib.Core.Path.{refl}
 use lib.Dec.{eqb}
 use mathlib.Core.List.{[], _∷_}
-use mathlib.Core.Bool.{_||_}
 use native.Mathlib.Omega.{arith}
 use Rattle.judge.proofs.CodeLaws.{isOneOf-test, is-not}
-use borrow.Author.Needs.{needs}
 use Rattle.judge.proofs.code.is_count_values.Statement.{statement}
 use Rattle.judge.proofs.code.is_count_values.Tie as tie
-use Rattle.judge.proofs.code.is_count_values.Reads as reads
-use Rattle.judge.proofs.code.is_count_values.Lts as lts
 
 returns : tie.Need-returns
 returns c = isOneOf-test ("count_values" ∷ []) (λ c. eqb c 20) tt refl (c .args .code) (λ h. rw (is-not (c .args .code) 20 h (omega arith)))

@@ -1,10 +1,7 @@
+-- `judge::kind::is_operand` meets its contract: case by case. Assumes nothing.
 use borrow.Author.Needs.{needs}
 use Rattle.judge.proofs.kind.is_operand.Statement.{statement}
 use Rattle.judge.proofs.kind.is_operand.Tie as tie
-use Rattle.judge.proofs.kind.is_operand.Reads as reads
-use Rattle.judge.proofs.kind.is_operand.Lts as lts
-use Rattle.judge.proofs.kind.is_scalar.Reads as is-scalar-reads
-use Rattle.judge.proofs.kind.is_vector.Reads as is-vector-reads
 
 is-scalar-requires : tie.Need-is-scalar-requires
 is-scalar-requires c κs = search needs

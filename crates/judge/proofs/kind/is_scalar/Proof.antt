@@ -1,8 +1,7 @@
+-- `judge::kind::is_scalar` meets its contract: case by case. Assumes nothing.
 use borrow.Author.Needs.{needs}
 use Rattle.judge.proofs.kind.is_scalar.Statement.{statement}
 use Rattle.judge.proofs.kind.is_scalar.Tie as tie
-use Rattle.judge.proofs.kind.is_scalar.Reads as reads
-use Rattle.judge.proofs.kind.is_scalar.Lts as lts
 
 enum-told : tie.Need-enum-told
 enum-told c = search needs

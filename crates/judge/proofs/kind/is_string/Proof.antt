@@ -1,8 +1,7 @@
+-- `judge::kind::is_string` meets its contract: case by case. Assumes nothing.
 use borrow.Author.Needs.{needs}
 use Rattle.judge.proofs.kind.is_string.Statement.{statement}
 use Rattle.judge.proofs.kind.is_string.Tie as tie
-use Rattle.judge.proofs.kind.is_string.Reads as reads
-use Rattle.judge.proofs.kind.is_string.Lts as lts
 
 enum-told : tie.Need-enum-told
 enum-told c = search needs

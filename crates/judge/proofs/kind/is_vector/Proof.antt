@@ -1,8 +1,7 @@
+-- `judge::kind::is_vector` meets its contract: case by case. Assumes nothing.
 use borrow.Author.Needs.{needs}
 use Rattle.judge.proofs.kind.is_vector.Statement.{statement}
 use Rattle.judge.proofs.kind.is_vector.Tie as tie
-use Rattle.judge.proofs.kind.is_vector.Reads as reads
-use Rattle.judge.proofs.kind.is_vector.Lts as lts
 
 enum-told : tie.Need-enum-told
 enum-told c = search needs

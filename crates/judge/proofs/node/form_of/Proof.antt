@@ -1,10 +1,7 @@
+-- `judge::node::form_of` meets its contract: case by case. Assumes nothing.
 use borrow.Author.Needs.{needs}
 use Rattle.judge.proofs.node.form_of.Statement.{statement}
 use Rattle.judge.proofs.node.form_of.Tie as tie
-use Rattle.judge.proofs.node.form_of.Reads as reads
-use Rattle.judge.proofs.node.form_of.Lts as lts
-use Rattle.judge.proofs.node.kind_form.Reads as kind-form-reads
-use Rattle.judge.proofs.node.marked.Reads as marked-reads
 
 enum-told : tie.Need-enum-told
 enum-told c = search needs

@@ -1,8 +1,7 @@
+-- `judge::node::kind_form` meets its contract: case by case. Assumes nothing.
 use borrow.Author.Needs.{needs}
 use Rattle.judge.proofs.node.kind_form.Statement.{statement}
 use Rattle.judge.proofs.node.kind_form.Tie as tie
-use Rattle.judge.proofs.node.kind_form.Reads as reads
-use Rattle.judge.proofs.node.kind_form.Lts as lts
 
 enum-told : tie.Need-enum-told
 enum-told c = search needs

@@ -1,8 +1,7 @@
+-- `judge::node::marked` meets its contract: case by case. Assumes nothing.
 use borrow.Author.Needs.{needs}
 use Rattle.judge.proofs.node.marked.Statement.{statement}
 use Rattle.judge.proofs.node.marked.Tie as tie
-use Rattle.judge.proofs.node.marked.Reads as reads
-use Rattle.judge.proofs.node.marked.Lts as lts
 
 add-result : tie.Need-add-result
 add-result c = search needs

@@ -1,3 +1,4 @@
+-- `judge::node::node_at` meets its contract: the two arrays are one list of nodes (`StackLaws`). Assumes nothing.
 use mathlib.Core.Path.{sym, _∙_}
 use denote.Ref.{now}
 use native.Mathlib.Omega.{arith}
@@ -5,9 +6,6 @@ use Rattle.judge.proofs.StackLaws.{nodes-getD}
 use borrow.Author.Needs.{needs}
 use Rattle.judge.proofs.node.node_at.Statement.{statement}
 use Rattle.judge.proofs.node.node_at.Tie as tie
-use Rattle.judge.proofs.node.node_at.Reads as reads
-use Rattle.judge.proofs.node.node_at.Lts as lts
-use Rattle.judge.proofs.node.node_of.Reads as node-of-reads
 
 shared-slice-read-node-of : tie.Need-shared-slice-read-node-of
 shared-slice-read-node-of c = search needs

@@ -1,13 +1,11 @@
+-- `judge::node::node_of` meets its contract: form by form; the last arm is past every form of the table. Assumes nothing.
 use Prim.Native.Nat.{zero-le}
 use Rattle.judge.proofs.StackLaws.{further}
 use mathlib.Core.Path.{sym}
-use native.Mathlib.Omega.{arith}
 use Rattle.judge.proofs.StackLaws.{nodeFrom-last}
 use borrow.Author.Needs.{needs}
 use Rattle.judge.proofs.node.node_of.Statement.{statement}
 use Rattle.judge.proofs.node.node_of.Tie as tie
-use Rattle.judge.proofs.node.node_of.Reads as reads
-use Rattle.judge.proofs.node.node_of.Lts as lts
 
 returns : tie.Need-returns
 returns c = rw (c .match .keys1)

@@ -1,9 +1,8 @@
+-- `judge::node::value_of` meets its contract: case by case. Assumes nothing.
 use lib.Ieee.{ofBits}
 use borrow.Author.Needs.{needs}
 use Rattle.judge.proofs.node.value_of.Statement.{statement}
 use Rattle.judge.proofs.node.value_of.Tie as tie
-use Rattle.judge.proofs.node.value_of.Reads as reads
-use Rattle.judge.proofs.node.value_of.Lts as lts
 
 enum-known-node : tie.Need-enum-known-node
 enum-known-node c = search needs

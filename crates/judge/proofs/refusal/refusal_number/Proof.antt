@@ -1,8 +1,7 @@
+-- `judge::refusal::refusal_number` meets its contract: refusal by refusal. Assumes nothing.
 use borrow.Author.Needs.{needs}
 use Rattle.judge.proofs.refusal.refusal_number.Statement.{statement}
 use Rattle.judge.proofs.refusal.refusal_number.Tie as tie
-use Rattle.judge.proofs.refusal.refusal_number.Reads as reads
-use Rattle.judge.proofs.refusal.refusal_number.Lts as lts
 
 enum-told : tie.Need-enum-told
 enum-told c = search needs

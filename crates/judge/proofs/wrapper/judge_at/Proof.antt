@@ -1,8 +1,7 @@
+-- `judge::wrapper::judge_at` meets its contract: case by case. Assumes nothing.
 use borrow.Author.Needs.{needs}
 use Rattle.judge.proofs.wrapper.judge_at.Statement.{statement}
 use Rattle.judge.proofs.wrapper.judge_at.Tie as tie
-use Rattle.judge.proofs.wrapper.judge_at.Reads as reads
-use Rattle.judge.proofs.wrapper.judge_at.Lts as lts
 
 enum-told : tie.Need-enum-told
 enum-told c = search needs

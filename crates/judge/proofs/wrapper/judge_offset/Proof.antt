@@ -1,8 +1,7 @@
+-- `judge::wrapper::judge_offset` meets its contract: case by case. Assumes nothing.
 use borrow.Author.Needs.{needs}
 use Rattle.judge.proofs.wrapper.judge_offset.Statement.{statement}
 use Rattle.judge.proofs.wrapper.judge_offset.Tie as tie
-use Rattle.judge.proofs.wrapper.judge_offset.Reads as reads
-use Rattle.judge.proofs.wrapper.judge_offset.Lts as lts
 
 enum-told : tie.Need-enum-told
 enum-told c = search needs

@@ -1,8 +1,7 @@
+-- `judge::wrapper::judge_range` meets its contract: case by case. Assumes nothing.
 use borrow.Author.Needs.{needs}
 use Rattle.judge.proofs.wrapper.judge_range.Statement.{statement}
 use Rattle.judge.proofs.wrapper.judge_range.Tie as tie
-use Rattle.judge.proofs.wrapper.judge_range.Reads as reads
-use Rattle.judge.proofs.wrapper.judge_range.Lts as lts
 
 enum-told : tie.Need-enum-told
 enum-told c = search needs

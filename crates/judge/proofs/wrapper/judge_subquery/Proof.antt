@@ -1,10 +1,7 @@
+-- `judge::wrapper::judge_subquery` meets its contract: case by case. Assumes nothing.
 use borrow.Author.Needs.{needs}
 use Rattle.judge.proofs.wrapper.judge_subquery.Statement.{statement}
 use Rattle.judge.proofs.wrapper.judge_subquery.Tie as tie
-use Rattle.judge.proofs.wrapper.judge_subquery.Reads as reads
-use Rattle.judge.proofs.wrapper.judge_subquery.Lts as lts
-use Rattle.judge.proofs.kind.is_vector.Reads as is-vector-reads
-use Rattle.judge.proofs.node.kind_of.Reads as kind-of-reads
 
 kind-of-requires : tie.Need-kind-of-requires
 kind-of-requires c κs = search needs

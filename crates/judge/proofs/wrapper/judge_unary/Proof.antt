@@ -1,9 +1,7 @@
+-- `judge::wrapper::judge_unary` meets its contract: case by case. Assumes nothing.
 use borrow.Author.Needs.{needs}
 use Rattle.judge.proofs.wrapper.judge_unary.Statement.{statement}
 use Rattle.judge.proofs.wrapper.judge_unary.Tie as tie
-use Rattle.judge.proofs.wrapper.judge_unary.Reads as reads
-use Rattle.judge.proofs.wrapper.judge_unary.Lts as lts
-use Rattle.judge.proofs.kind.is_operand.Reads as is-operand-reads
 
 enum-known-operand : tie.Need-enum-known-operand
 enum-known-operand c = search needs

@@ -1,28 +1,21 @@
+-- `verdict::call::arguments_match` meets its contract. The loop's invariant: the arguments left, matched against the kinds left, decide.
 use mathlib.Core.Path.{_≡_, refl, sym, ap, _∙_}
 use mathlib.Core.List.{map}
 use lib.ListN.{drop}
 use denote.Ref.{now}
 use native.Mathlib.Omega.{arith}
-use Prim.Native.Nat.{_+_, _≤_}
+use Prim.Native.Nat.{_≤_}
 use borrow.Author.Tests.{not-true, not-false}
 use Rattle.judge.specs.Stack.{nodes}
 use Rattle.ast.specs.Node.{nodeKind}
 use Rattle.ast.specs.CheckAst.{argsMatch}
 use Rattle.records.specs.Answers.{kindOf, kindsOn}
 use Rattle.records.specs.Stack.{operandsOf}
-use Rattle.records.specs.Kind.{Kind, equalKind}
-use Rattle.page.specs.Listed.{listed}
+use Rattle.records.specs.Kind.{equalKind}
 use Rattle.verdict.proofs.DeclaredLaws.{match-other, match-more, match-none, match-end}
--- `verdict::call::arguments_match` meets its contract. The loop's invariant: the arguments left, matched against the kinds left, decide.
 use borrow.Author.Needs.{needs}
 use Rattle.verdict.proofs.call.arguments_match.Statement.{statement}
 use Rattle.verdict.proofs.call.arguments_match.Tie as tie
-use Rattle.verdict.proofs.call.arguments_match.Reads as reads
-use Rattle.verdict.proofs.call.arguments_match.Lts as lts
-use Rattle.judge.proofs.node.kind_of.Reads as kind-of-reads
-use Rattle.judge.proofs.node.node_at.Reads as node-at-reads
-use Rattle.verdict.proofs.declared.next_kind.Reads as next-kind-reads
-use Rattle.verdict.proofs.declared.same_kind.Reads as same-kind-reads
 
 abbrev Inv-loop : tie.InvT-loop
 Inv-loop page kinds declared forms values top count left₀ at₀ more₀ left at more = (left ≤ count) × (argsMatch (kindsOn page kinds declared) (map nodeKind (operandsOf count (drop top (nodes forms values)))) ≡ argsMatch (kindsOn page at more) (map nodeKind (operandsOf left (drop top (nodes forms values)))))

@@ -1,13 +1,8 @@
-use mathlib.Core.Path.{_≡_}
-use borrow.Author.Tests.{lt-ltb, le-ltb, eq-eqb, ne-eqb}
 -- `verdict::call::arity` meets its contract, case by case. Assumes nothing.
+use borrow.Author.Tests.{lt-ltb, le-ltb, eq-eqb, ne-eqb}
 use borrow.Author.Needs.{needs}
 use Rattle.verdict.proofs.call.arity.Statement.{statement}
 use Rattle.verdict.proofs.call.arity.Tie as tie
-use Rattle.verdict.proofs.call.arity.Reads as reads
-use Rattle.verdict.proofs.call.arity.Lts as lts
-use Rattle.verdict.proofs.call.bounded.Reads as bounded-reads
-use Rattle.verdict.proofs.call.less_one.Reads as less-one-reads
 
 enum-told : tie.Need-enum-told
 enum-told c = search needs

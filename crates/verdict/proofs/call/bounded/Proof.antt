@@ -1,10 +1,7 @@
-use Rattle.verdict.proofs.CallLaws.{bounded-few, bounded-many, bounded-fine}
 -- `verdict::call::bounded` meets its contract. Assumes nothing.
-use borrow.Author.Needs.{needs}
+use Rattle.verdict.proofs.CallLaws.{bounded-few, bounded-many, bounded-fine}
 use Rattle.verdict.proofs.call.bounded.Statement.{statement}
 use Rattle.verdict.proofs.call.bounded.Tie as tie
-use Rattle.verdict.proofs.call.bounded.Reads as reads
-use Rattle.verdict.proofs.call.bounded.Lts as lts
 
 returns : tie.Need-returns
 returns c = bounded-few (c .before .args .least) (c .before .args .extra) (c .before .args .count) (c .if1 .taken)

@@ -1,3 +1,4 @@
+-- `verdict::call::judge_call` meets its contract: each return is a case of `judgeCall` by the tests before it. Assumes nothing.
 use mathlib.Core.Path.{sym, ap, _∙_}
 use lib.ListN.{drop}
 use denote.Ref.{now}
@@ -9,16 +10,9 @@ use Rattle.page.specs.Answers.{spanOn}
 use Rattle.judge.specs.Stack.{nodes}
 use Rattle.judge.proofs.StackLaws.{operands-size}
 use Rattle.verdict.proofs.CallLaws.{call-arity, call-empty, call-exempt, call-undeclared, call-match, exempt-first}
--- `verdict::call::judge_call` meets its contract: each return is a case of `judgeCall` by the tests before it. Assumes nothing.
 use borrow.Author.Needs.{needs}
 use Rattle.verdict.proofs.call.judge_call.Statement.{statement}
 use Rattle.verdict.proofs.call.judge_call.Tie as tie
-use Rattle.verdict.proofs.call.judge_call.Reads as reads
-use Rattle.verdict.proofs.call.judge_call.Lts as lts
-use Rattle.judge.proofs.node.node_at.Reads as node-at-reads
-use Rattle.verdict.proofs.call.arguments_match.Reads as arguments-match-reads
-use Rattle.verdict.proofs.call.arity.Reads as arity-reads
-use Rattle.verdict.proofs.exempt.is_exempt.Reads as is-exempt-reads
 
 arity-requires : tie.Need-arity-requires
 arity-requires c κs = search needs

@@ -1,5 +1,6 @@
+-- `verdict::declared::has_kinds` meets its contract: a list is not empty where its first element can be read. Assumes nothing.
 use mathlib.Core.Path.{sym, ap}
-use mathlib.Core.Bool.{Bool, not}
+use mathlib.Core.Bool.{not}
 use mathlib.Core.List.{List}
 use native.Mathlib.Omega.{arith}
 use Prim.Native.Nat.{_<_}
@@ -9,13 +10,9 @@ use Rattle.records.specs.Field.{readKind}
 use Rattle.records.specs.Kind.{Kind}
 use Rattle.page.specs.Bytes.{isEmpty}
 use Rattle.page.proofs.ListLaws.{listed-more, listed-refused, listed-none}
--- `verdict::declared::has_kinds` meets its contract: a list is not empty where its first element can be read. Assumes nothing.
 use borrow.Author.Needs.{needs}
 use Rattle.verdict.proofs.declared.has_kinds.Statement.{statement}
 use Rattle.verdict.proofs.declared.has_kinds.Tie as tie
-use Rattle.verdict.proofs.declared.has_kinds.Reads as reads
-use Rattle.verdict.proofs.declared.has_kinds.Lts as lts
-use Rattle.records.proofs.read_kind.Reads as read-kind-reads
 
 returns : tie.Need-returns
 returns c = sym (ap (λ (l : List Kind). not (isEmpty l)) (listed-none readKind (c .before .before .args .count) (drop (c .before .before .args .start) (now (c .before .before .args .page))) (omega arith)))

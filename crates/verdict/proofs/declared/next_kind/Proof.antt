@@ -1,17 +1,13 @@
+-- `verdict::declared::next_kind` meets its contract: the kinds behind the first, or the first again where there is none. Assumes nothing.
 use mathlib.Core.Path.{sym, _∙_}
 use native.Mathlib.Omega.{arith}
 use Prim.Native.Nat.{_<_}
 use lib.ListN.{drop}
 use denote.Ref.{now}
 use Rattle.verdict.proofs.DeclaredLaws.{next-more, next-last, next-refused, next-none}
--- `verdict::declared::next_kind` meets its contract: the kinds behind the first, or the first again where there is none. Assumes nothing.
 use borrow.Author.Needs.{needs}
 use Rattle.verdict.proofs.declared.next_kind.Statement.{statement}
 use Rattle.verdict.proofs.declared.next_kind.Tie as tie
-use Rattle.verdict.proofs.declared.next_kind.Reads as reads
-use Rattle.verdict.proofs.declared.next_kind.Lts as lts
-use Rattle.records.proofs.read_kind.Reads as read-kind-reads
-use Rattle.verdict.proofs.declared.has_kinds.Reads as has-kinds-reads
 
 returns : tie.Need-returns
 returns c = next-none (c .before .before .args .count) (drop (c .before .before .args .start) (now (c .before .before .args .page))) (omega arith)

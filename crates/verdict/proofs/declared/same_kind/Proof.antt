@@ -2,9 +2,6 @@
 use borrow.Author.Needs.{needs}
 use Rattle.verdict.proofs.declared.same_kind.Statement.{statement}
 use Rattle.verdict.proofs.declared.same_kind.Tie as tie
-use Rattle.verdict.proofs.declared.same_kind.Reads as reads
-use Rattle.verdict.proofs.declared.same_kind.Lts as lts
-use Rattle.verdict.proofs.declared.kind_number.Reads as kind-number-reads
 
 kind-number-requires : tie.Need-kind-number-requires
 kind-number-requires c κs = search needs

@@ -1,14 +1,10 @@
+-- `verdict::exempt::is_exempt` meets its contract, case by case. Assumes nothing.
 use mathlib.Core.Path.{ap, _∙_}
 use Rattle.ast.specs.Judge.{isExemptFloat}
 use Rattle.page.specs.Text.{Text}
--- `verdict::exempt::is_exempt` meets its contract, case by case. Assumes nothing.
 use borrow.Author.Needs.{needs}
 use Rattle.verdict.proofs.exempt.is_exempt.Statement.{statement}
 use Rattle.verdict.proofs.exempt.is_exempt.Tie as tie
-use Rattle.verdict.proofs.exempt.is_exempt.Reads as reads
-use Rattle.verdict.proofs.exempt.is_exempt.Lts as lts
-use Rattle.page.proofs.text_at.Reads as text-at-reads
-use Rattle.verdict.proofs.exempt.is_exempt_value.Reads as is-exempt-value-reads
 
 enum-known-first : tie.Need-enum-known-first
 enum-known-first c = search needs

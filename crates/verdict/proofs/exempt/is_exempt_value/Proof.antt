@@ -2,13 +2,6 @@
 use borrow.Author.Needs.{needs}
 use Rattle.verdict.proofs.exempt.is_exempt_value.Statement.{statement}
 use Rattle.verdict.proofs.exempt.is_exempt_value.Tie as tie
-use Rattle.verdict.proofs.exempt.is_exempt_value.Reads as reads
-use Rattle.verdict.proofs.exempt.is_exempt_value.Lts as lts
-use Rattle.float.proofs.at_or_below_zero.Reads as at-or-below-zero-reads
-use Rattle.float.proofs.is_infinite.Reads as is-infinite-reads
-use Rattle.float.proofs.is_nan.Reads as is-nan-reads
-use Rattle.verdict.proofs.exempt.is_exp.Reads as is-exp-reads
-use Rattle.verdict.proofs.exempt.is_logarithm.Reads as is-logarithm-reads
 
 is-nan-requires : tie.Need-is-nan-requires
 is-nan-requires c κs = search needs

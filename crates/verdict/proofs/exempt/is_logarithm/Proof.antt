@@ -2,9 +2,6 @@
 use borrow.Author.Needs.{needs}
 use Rattle.verdict.proofs.exempt.is_logarithm.Statement.{statement}
 use Rattle.verdict.proofs.exempt.is_logarithm.Tie as tie
-use Rattle.verdict.proofs.exempt.is_logarithm.Reads as reads
-use Rattle.verdict.proofs.exempt.is_logarithm.Lts as lts
-use Rattle.page.proofs.same_text.Reads as same-text-reads
 
 slice-aggregate-same-text : tie.Need-slice-aggregate-same-text
 slice-aggregate-same-text c = search needs

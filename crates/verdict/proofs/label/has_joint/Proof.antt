@@ -11,11 +11,6 @@ use Rattle.ast.specs.CheckAst.{hasLabel}
 use borrow.Author.Needs.{needs}
 use Rattle.verdict.proofs.label.has_joint.Statement.{statement}
 use Rattle.verdict.proofs.label.has_joint.Tie as tie
-use Rattle.verdict.proofs.label.has_joint.Reads as reads
-use Rattle.verdict.proofs.label.has_joint.Lts as lts
-use Rattle.verdict.proofs.label.has_label.Reads as has-label-reads
-use Rattle.page.proofs.read_text.Reads as read-text-reads
-use Rattle.page.proofs.text_at.Reads as text-at-reads
 
 abbrev Inv-loop : tie.InvT-loop
 Inv-loop page group groups on ons left₀ at₀ left at = any (hasLabel (labelsOn page on ons)) (listed readAnyText groups (drop group page)) ≡ any (hasLabel (labelsOn page on ons)) (listed readAnyText left (drop at page))

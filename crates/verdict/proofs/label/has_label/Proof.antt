@@ -10,11 +10,6 @@ use Rattle.ast.specs.CheckAst.{hasLabel}
 use borrow.Author.Needs.{needs}
 use Rattle.verdict.proofs.label.has_label.Statement.{statement}
 use Rattle.verdict.proofs.label.has_label.Tie as tie
-use Rattle.verdict.proofs.label.has_label.Reads as reads
-use Rattle.verdict.proofs.label.has_label.Lts as lts
-use Rattle.page.proofs.read_text.Reads as read-text-reads
-use Rattle.page.proofs.same_text.Reads as same-text-reads
-use Rattle.page.proofs.text_at.Reads as text-at-reads
 
 abbrev Inv-loop : tie.InvT-loop
 Inv-loop page start count text left₀ at₀ left at = hasLabel (listed readAnyText count (drop start page)) text ≡ hasLabel (listed readAnyText left (drop at page)) text

@@ -1,6 +1,6 @@
 -- `verdict::label::has_labels` meets its contract: a list is not empty where its first element can be read. Assumes nothing.
 use mathlib.Core.Path.{sym, ap}
-use mathlib.Core.Bool.{Bool, not}
+use mathlib.Core.Bool.{not}
 use mathlib.Core.List.{List}
 use native.Mathlib.Omega.{arith}
 use Prim.Native.Nat.{_<_}
@@ -12,9 +12,6 @@ use Rattle.page.proofs.ListLaws.{listed-more, listed-refused, listed-none}
 use borrow.Author.Needs.{needs}
 use Rattle.verdict.proofs.label.has_labels.Statement.{statement}
 use Rattle.verdict.proofs.label.has_labels.Tie as tie
-use Rattle.verdict.proofs.label.has_labels.Reads as reads
-use Rattle.verdict.proofs.label.has_labels.Lts as lts
-use Rattle.page.proofs.read_text.Reads as read-text-reads
 
 returns : tie.Need-returns
 returns c = sym (ap (λ (l : List Text). not (isEmpty l)) (listed-none readAnyText (c .before .before .args .count) (drop (c .before .before .args .start) (now (c .before .before .args .page))) (omega arith)))

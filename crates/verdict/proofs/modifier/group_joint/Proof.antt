@@ -2,9 +2,6 @@
 use borrow.Author.Needs.{needs}
 use Rattle.verdict.proofs.modifier.group_joint.Statement.{statement}
 use Rattle.verdict.proofs.modifier.group_joint.Tie as tie
-use Rattle.verdict.proofs.modifier.group_joint.Reads as reads
-use Rattle.verdict.proofs.modifier.group_joint.Lts as lts
-use Rattle.verdict.proofs.label.has_joint.Reads as has-joint-reads
 
 enum-told : tie.Need-enum-told
 enum-told c = search needs

@@ -2,9 +2,6 @@
 use borrow.Author.Needs.{needs}
 use Rattle.verdict.proofs.modifier.has_matching.Statement.{statement}
 use Rattle.verdict.proofs.modifier.has_matching.Tie as tie
-use Rattle.verdict.proofs.modifier.has_matching.Reads as reads
-use Rattle.verdict.proofs.modifier.has_matching.Lts as lts
-use Rattle.verdict.proofs.label.has_labels.Reads as has-labels-reads
 
 enum-told : tie.Need-enum-told
 enum-told c = search needs

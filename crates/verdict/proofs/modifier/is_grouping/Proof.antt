@@ -2,8 +2,6 @@
 use borrow.Author.Needs.{needs}
 use Rattle.verdict.proofs.modifier.is_grouping.Statement.{statement}
 use Rattle.verdict.proofs.modifier.is_grouping.Tie as tie
-use Rattle.verdict.proofs.modifier.is_grouping.Reads as reads
-use Rattle.verdict.proofs.modifier.is_grouping.Lts as lts
 
 enum-told : tie.Need-enum-told
 enum-told c = search needs

@@ -1,14 +1,11 @@
+-- `verdict::modifier::is_joint` meets its contract: without `on` there is no list that a label could be in. Assumes nothing.
 use denote.Ref.{now}
 use Rattle.records.specs.Answers.{cardinalityOn}
 use Rattle.ast.specs.CheckAst.{groupLabels}
 use Rattle.verdict.proofs.ModifierLaws.{none-in}
--- `verdict::modifier::is_joint` meets its contract: without `on` there is no list that a label could be in. Assumes nothing.
 use borrow.Author.Needs.{needs}
 use Rattle.verdict.proofs.modifier.is_joint.Statement.{statement}
 use Rattle.verdict.proofs.modifier.is_joint.Tie as tie
-use Rattle.verdict.proofs.modifier.is_joint.Reads as reads
-use Rattle.verdict.proofs.modifier.is_joint.Lts as lts
-use Rattle.verdict.proofs.modifier.group_joint.Reads as group-joint-reads
 
 enum-told : tie.Need-enum-told
 enum-told c = search needs

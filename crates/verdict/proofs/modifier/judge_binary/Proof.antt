@@ -1,14 +1,10 @@
+-- `verdict::modifier::judge_binary` meets its contract by the marks of the modifier. Assumes nothing.
 use mathlib.Core.Path.{_∙_}
 use Rattle.records.specs.Answers.{kindOf}
 use Rattle.verdict.proofs.ModifierLaws.{judgeSides-marks}
--- `verdict::modifier::judge_binary` meets its contract by the marks of the modifier. Assumes nothing.
 use borrow.Author.Needs.{needs}
 use Rattle.verdict.proofs.modifier.judge_binary.Statement.{statement}
 use Rattle.verdict.proofs.modifier.judge_binary.Tie as tie
-use Rattle.verdict.proofs.modifier.judge_binary.Reads as reads
-use Rattle.verdict.proofs.modifier.judge_binary.Lts as lts
-use Rattle.judge.proofs.binary.judge_sides.Reads as judge-sides-reads
-use Rattle.verdict.proofs.modifier.marks.Reads as marks-reads
 
 marks-requires : tie.Need-marks-requires
 marks-requires c κs = search needs

@@ -1,14 +1,9 @@
+-- `verdict::modifier::marks` meets its contract, mark by mark. Assumes nothing.
 use mathlib.Core.Path.{refl}
 use denote.Ref.{now}
--- `verdict::modifier::marks` meets its contract, mark by mark. Assumes nothing.
 use borrow.Author.Needs.{needs}
 use Rattle.verdict.proofs.modifier.marks.Statement.{statement}
 use Rattle.verdict.proofs.modifier.marks.Tie as tie
-use Rattle.verdict.proofs.modifier.marks.Reads as reads
-use Rattle.verdict.proofs.modifier.marks.Lts as lts
-use Rattle.verdict.proofs.modifier.has_matching.Reads as has-matching-reads
-use Rattle.verdict.proofs.modifier.is_grouping.Reads as is-grouping-reads
-use Rattle.verdict.proofs.modifier.is_joint.Reads as is-joint-reads
 
 enum-told : tie.Need-enum-told
 enum-told c = search needs

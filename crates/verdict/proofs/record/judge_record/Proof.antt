@@ -1,7 +1,9 @@
-use mathlib.Core.Path.{_≡_, sym, ap, ap₂, _∙_}
+-- `verdict::record::judge_record` meets its contract, record by record: the judge's own contract, at the entries where the stack has its
+-- operands. Assumes nothing.
+use mathlib.Core.Path.{ap, ap₂, _∙_}
 use lib.ListN.{drop}
 use denote.Ref.{now}
-use Prim.Native.Nat.{_+_, _≤_, _<_}
+use Prim.Native.Nat.{_+_, _≤_}
 use native.Mathlib.Omega.{arith}
 use Rattle.judge.specs.Stack.{nodes}
 use Rattle.ast.specs.Judge.{judgeRange, judgeSubquery, judgeAt, judgeOffset, judgeUnary, judgeBinary}
@@ -13,26 +15,9 @@ use Rattle.records.specs.SignatureAnswers.{functionOn}
 use Rattle.records.specs.Answers.{literalOf, modifierOn, labelModifierOn, atModifierOf, offsetOf, stepOf}
 use Rattle.records.specs.Record.{range, subquery, at, offset, unary, paren, string, selector}
 use Rattle.verdict.proofs.RecordLaws.{judgement-leaf, judgement-number, judgement-wrapper, judgement-binary, judgement-aggregate, judgement-call}
--- operands. Assumes nothing.
--- `verdict::record::judge_record` meets its contract, record by record: the judge's own contract, at the entries where the stack has its
 use borrow.Author.Needs.{needs}
 use Rattle.verdict.proofs.record.judge_record.Statement.{statement}
 use Rattle.verdict.proofs.record.judge_record.Tie as tie
-use Rattle.verdict.proofs.record.judge_record.Reads as reads
-use Rattle.verdict.proofs.record.judge_record.Lts as lts
-use Rattle.float.proofs.literal_value.Reads as literal-value-reads
-use Rattle.judge.proofs.aggregate.judge_aggregate.Reads as judge-aggregate-reads
-use Rattle.judge.proofs.node.kind_of.Reads as kind-of-reads
-use Rattle.judge.proofs.node.node_at.Reads as node-at-reads
-use Rattle.judge.proofs.wrapper.judge_at.Reads as judge-at-reads
-use Rattle.judge.proofs.wrapper.judge_offset.Reads as judge-offset-reads
-use Rattle.judge.proofs.wrapper.judge_paren.Reads as judge-paren-reads
-use Rattle.judge.proofs.wrapper.judge_range.Reads as judge-range-reads
-use Rattle.judge.proofs.wrapper.judge_subquery.Reads as judge-subquery-reads
-use Rattle.judge.proofs.wrapper.judge_unary.Reads as judge-unary-reads
-use Rattle.verdict.proofs.call.judge_call.Reads as judge-call-reads
-use Rattle.verdict.proofs.modifier.judge_binary.Reads as judge-binary-reads
-use Rattle.verdict.proofs.selector.judge_selector.Reads as judge-selector-reads
 
 enum-known-item : tie.Need-enum-known-item
 enum-known-item c = search needs

@@ -2,8 +2,6 @@
 use borrow.Author.Needs.{needs}
 use Rattle.verdict.proofs.record.operand_count.Statement.{statement}
 use Rattle.verdict.proofs.record.operand_count.Tie as tie
-use Rattle.verdict.proofs.record.operand_count.Reads as reads
-use Rattle.verdict.proofs.record.operand_count.Lts as lts
 
 enum-told : tie.Need-enum-told
 enum-told c = search needs

@@ -1,13 +1,11 @@
+-- `verdict::selector::accepts_empty` meets its contract, case by case: a value is empty where its ends meet. Assumes nothing.
 use denote.Ref.{now}
-use mathlib.Core.Bool.{Bool, not}
+use mathlib.Core.Bool.{not}
 use mathlib.Core.Path.{ap}
 use Rattle.verdict.proofs.SelectorLaws.{span-test}
--- `verdict::selector::accepts_empty` meets its contract, case by case: a value is empty where its ends meet. Assumes nothing.
 use borrow.Author.Needs.{needs}
 use Rattle.verdict.proofs.selector.accepts_empty.Statement.{statement}
 use Rattle.verdict.proofs.selector.accepts_empty.Tie as tie
-use Rattle.verdict.proofs.selector.accepts_empty.Reads as reads
-use Rattle.verdict.proofs.selector.accepts_empty.Lts as lts
 
 enum-told : tie.Need-enum-told
 enum-told c = search needs

@@ -1,3 +1,4 @@
+-- `verdict::selector::all_accept_empty` meets its contract. The loop's invariant: what is left of the list decides. Assumes nothing.
 use mathlib.Core.Path.{_≡_, refl, sym, _∙_}
 use lib.ListN.{drop}
 use denote.Ref.{now}
@@ -7,14 +8,9 @@ use Rattle.records.specs.Matcher.{readMatcher}
 use Rattle.page.specs.Bytes.{all}
 use Rattle.page.specs.Listed.{listed}
 use Rattle.page.proofs.ListLaws.{all-failed, all-next, all-refused, all-none}
--- `verdict::selector::all_accept_empty` meets its contract. The loop's invariant: what is left of the list decides. Assumes nothing.
 use borrow.Author.Needs.{needs}
 use Rattle.verdict.proofs.selector.all_accept_empty.Statement.{statement}
 use Rattle.verdict.proofs.selector.all_accept_empty.Tie as tie
-use Rattle.verdict.proofs.selector.all_accept_empty.Reads as reads
-use Rattle.verdict.proofs.selector.all_accept_empty.Lts as lts
-use Rattle.records.proofs.read_matcher.Reads as read-matcher-reads
-use Rattle.verdict.proofs.selector.accepts_empty.Reads as accepts-empty-reads
 
 abbrev Inv-loop : tie.InvT-loop
 Inv-loop page start count left₀ at₀ left at = all matchesEmpty (listed readMatcher count (drop start page)) ≡ all matchesEmpty (listed readMatcher left (drop at page))

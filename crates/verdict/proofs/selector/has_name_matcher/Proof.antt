@@ -1,3 +1,4 @@
+-- `verdict::selector::has_name_matcher` meets its contract. The loop's invariant: what is left of the list decides. Assumes nothing.
 use mathlib.Core.Path.{_≡_, refl, sym, _∙_}
 use lib.ListN.{drop}
 use denote.Ref.{now}
@@ -6,14 +7,9 @@ use Rattle.records.specs.Matcher.{readMatcher}
 use Rattle.page.specs.Bytes.{any}
 use Rattle.page.specs.Listed.{listed}
 use Rattle.page.proofs.ListLaws.{any-found, any-next, any-refused, any-none}
--- `verdict::selector::has_name_matcher` meets its contract. The loop's invariant: what is left of the list decides. Assumes nothing.
 use borrow.Author.Needs.{needs}
 use Rattle.verdict.proofs.selector.has_name_matcher.Statement.{statement}
 use Rattle.verdict.proofs.selector.has_name_matcher.Tie as tie
-use Rattle.verdict.proofs.selector.has_name_matcher.Reads as reads
-use Rattle.verdict.proofs.selector.has_name_matcher.Lts as lts
-use Rattle.records.proofs.read_matcher.Reads as read-matcher-reads
-use Rattle.verdict.proofs.selector.is_name_matcher.Reads as is-name-matcher-reads
 
 abbrev Inv-loop : tie.InvT-loop
 Inv-loop page start count left₀ at₀ left at = any isNameMatcher (listed readMatcher count (drop start page)) ≡ any isNameMatcher (listed readMatcher left (drop at page))

@@ -1,14 +1,10 @@
+-- `verdict::selector::is_name_matcher` meets its contract. Assumes nothing.
 use mathlib.Core.List.{List}
 use mathlib.Core.Path.{ap, _∙_}
 use Rattle.page.specs.Bytes.{equal, bytes}
--- `verdict::selector::is_name_matcher` meets its contract. Assumes nothing.
 use borrow.Author.Needs.{needs}
 use Rattle.verdict.proofs.selector.is_name_matcher.Statement.{statement}
 use Rattle.verdict.proofs.selector.is_name_matcher.Tie as tie
-use Rattle.verdict.proofs.selector.is_name_matcher.Reads as reads
-use Rattle.verdict.proofs.selector.is_name_matcher.Lts as lts
-use Rattle.page.proofs.same_text.Reads as same-text-reads
-use Rattle.page.proofs.text_at.Reads as text-at-reads
 
 text-at-requires : tie.Need-text-at-requires
 text-at-requires c κs = c .before .before .pre .name

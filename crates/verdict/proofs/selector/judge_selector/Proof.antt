@@ -1,13 +1,9 @@
+-- `verdict::selector::judge_selector` meets its contract: a name is empty where its ends meet. Assumes nothing.
 use denote.Ref.{now}
 use Rattle.verdict.proofs.SelectorLaws.{span-empty, span-full}
--- `verdict::selector::judge_selector` meets its contract: a name is empty where its ends meet. Assumes nothing.
 use borrow.Author.Needs.{needs}
 use Rattle.verdict.proofs.selector.judge_selector.Statement.{statement}
 use Rattle.verdict.proofs.selector.judge_selector.Tie as tie
-use Rattle.verdict.proofs.selector.judge_selector.Reads as reads
-use Rattle.verdict.proofs.selector.judge_selector.Lts as lts
-use Rattle.verdict.proofs.selector.all_accept_empty.Reads as all-accept-empty-reads
-use Rattle.verdict.proofs.selector.has_name_matcher.Reads as has-name-matcher-reads
 
 has-name-matcher-requires : tie.Need-has-name-matcher-requires
 has-name-matcher-requires c κs = search needs
