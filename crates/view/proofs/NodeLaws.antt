@@ -18,7 +18,8 @@ use Rattle.ast.specs.Tables.{treeAt, Tables}
 use Rattle.text.specs.Layout.{negation}
 use Rattle.text.specs.Chain.{withAt, withOffset, settled}
 use Rattle.text.specs.Answers.{timesOf}
-use Rattle.text.proofs.EntryLaws.{wrapped}
+use Rattle.text.proofs.EntryLaws.{wrapped, page-short}
+use Rattle.text.proofs.SoundLaws.{allowed}
 use Rattle.text.proofs.SeenLaws.{seen-number, seen-string, seen-selector, seen-subquery, seen-paren, seen-literal, seen-unary, seen-binary, seen-aggregate, seen-call}
 use Rattle.text.proofs.ChainLaws.{settled-nothing, chain-range, chain-at, chain-offset}
 use Rattle.text.proofs.ValueLaws.{settled-value}
@@ -78,7 +79,11 @@ module _ {page starts : List ℕ} {i j : ℕ} {parts : Parts} (s : Starts page s
   view-string {t} r = record { seen = seen-string tables j (b .low) _ _ (b .tree) (spanOn page t) (r .reads); lies = r .lies }
 
   pub view-selector : {v : _} → Standing page starts j (code.Selector v) → Viewed page i (record { own = own.Selector v parts; end = j; count = 0 })
-  view-selector {v} r = record { seen = seen-selector tables j (b .low) _ _ (b .tree) (selectorOn page v) (r .reads); lies = r .lies }
+  view-selector {v} r =
+      record {
+        seen = seen-selector tables j (b .low) _ _ (b .tree) (selectorOn page v) (r .reads);
+        lies = record { name = r .lies; few = allowed _ (r .reads .reads) .1 .0; short = page-short tables };
+      }
 
   pub view-subquery : {n : ℕ} {t : _} → Standing page starts j (code.Subquery n t) → Viewed page i (record { own = own.Subquery n t parts; end = j; count = 1 })
   view-subquery {n} {t} r = record { seen = seen-subquery tables j (b .low) _ _ (b .tree) n (stepOf t) (r .reads); lies = tt }

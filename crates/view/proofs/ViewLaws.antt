@@ -14,12 +14,19 @@ use Rattle.reader.specs.Answers.{recordOn, TextsLie}
 use Rattle.reader.specs.declared.Record.{Record}
 use Rattle.reader.specs.declared.Record.the-variants as code
 use Rattle.ast.specs.Expr.{scalarValue}
-use Rattle.ast.specs.Tables.{treeAt}
+use Rattle.ast.specs.Tables.{treeAt, Tables}
 use Rattle.text.specs.Seen.{Reads}
 use Rattle.text.proofs.OperandLaws.{fewer}
 use Rattle.text.proofs.EntryLaws.{wrapped}
 use Rattle.text.proofs.ValueLaws.{signed, signed-none, signed-unary, signed-number, Unsigned, valueless}
-use Rattle.view.specs.View.{Starts, Standing}
+use Rattle.view.specs.View.{Starts, Standing, Unvalued}
+
+pub starts-of : {page starts firsts : List ℕ} {n : ℕ} → Tables page starts firsts n → Starts page starts n
+starts-of {firsts = firsts} t = record { firsts = firsts; tables = t }
+
+-- without the mark nothing is said
+pub unmarked : (page : List ℕ) (i : ℕ) → Unvalued page i false
+unmarked page i k = cc
 
 pub starts-fewer : {page starts : List ℕ} {n m : ℕ} → Starts page starts n → m ≤ n → Starts page starts m
 starts-fewer s h = record { firsts = s .firsts; tables = fewer (s .tables) h }

@@ -4,10 +4,13 @@ use mathlib.Core.Path.{_≡_}
 use mathlib.Core.Bool.{Bool, true, false}
 use mathlib.Core.List.{List, [], _++_}
 use mathlib.Core.Option.{Option, none, some}
+use lib.ListN.{length}
+use Rattle.page.specs.Limits.{pageLimit, countLimit}
 use Rattle.page.specs.Answers.{spanOn, Lies}
 use Rattle.records.specs.Literal as literal
-use Rattle.records.specs.Answers.{literalOf, stepOf, modifierOn, labelModifierOn}
+use Rattle.records.specs.Answers.{literalOf, stepOf, matchersOn, modifierOn, labelModifierOn}
 use Rattle.reader.specs.Answers.{selectorOn, recordOn, TextsLie}
+use Rattle.reader.specs.declared.Selector.{Selector}
 use Rattle.reader.specs.declared.Record.{Record}
 use Rattle.util.specs.Numeral.{displayLiteral}
 use Rattle.util.specs.Escape.{quote}
@@ -52,11 +55,17 @@ layoutOn page (own.Binary c m) = infixed (displayOperator c (modifierOn page m))
 layoutOn page (own.Aggregate c m) = enclosed (displayAggregator c (labelModifierOn page m))
 layoutOn page (own.Call f) = enclosed (spanOn page (f .name))
 
+-- a selector's name lies on the page, and its matchers are no more than a page allows
+pub record SelectorLies (page : List ℕ) (s : Selector) : Type 0 where
+  pub name : Lies page (s .name)
+  pub few : length (matchersOn page (s .matchers) (s .count)) ≤ countLimit
+  pub short : length page ≤ pageLimit
+
 -- its texts lie on the page
 abbrev pub OwnLies : List ℕ → Own → Type 0
 OwnLies page (own.Number l) = Unit {0}
 OwnLies page (own.String s) = Lies page s
-OwnLies page (own.Selector s p) = Lies page (s .name)
+OwnLies page (own.Selector s p) = SelectorLies page s
 OwnLies page (own.Subquery n s p) = Unit {0}
 OwnLies page own.Unary = Unit {0}
 OwnLies page own.Paren = Unit {0}
