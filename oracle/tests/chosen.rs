@@ -1,6 +1,7 @@
 //! Every row of the refusal table, every bench example and every page of the readings has its answer.
 
-use oracle::chosen;
+use oracle::answer::{answer, Outcome};
+use oracle::{chosen, hex};
 
 #[test]
 fn every_chosen_page_has_its_answer() {
@@ -15,4 +16,17 @@ fn the_refusal_table_has_34_rows_in_order() {
     for (index, row) in table.iter().enumerate() {
         assert!(row.words.starts_with(&format!("{}: ", index + 1)));
     }
+}
+
+#[test]
+fn a_copy_longer_than_a_page_is_no_page() {
+    let page = hex::bytes("(023b 61*59; 00)*3; (023a 61*58; 00)*125; (090600)*127;");
+    let copy = answer(&page).expect("the Rust is foreseen").copy;
+    assert_eq!((page.len(), copy.len()), (8192, 8827));
+    let outcome = answer(&copy).expect("the Rust is foreseen").outcome;
+    let refused = Outcome::Refused {
+        number: 3,
+        record: 0,
+    };
+    assert_eq!(outcome, refused);
 }

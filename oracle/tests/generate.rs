@@ -3,6 +3,7 @@
 use oracle::answer::{self, Outcome};
 use oracle::generate::{self, fault, limits, nesting};
 use oracle::hex;
+use oracle::page::record::Kind;
 use oracle::random::Random;
 
 fn outcome(page: &[u8]) -> Outcome {
@@ -61,6 +62,19 @@ fn nested_pages_pass() {
                 matches!(outcome(&page), Outcome::Accepted(_)),
                 "{words} {records}"
             );
+        }
+    }
+}
+
+#[test]
+fn everyday_pages_pass() {
+    let random = &mut Random::new(3);
+    for records in [5, 40, 250] {
+        for _ in 0..20 {
+            let page = generate::everyday(random, records);
+            let answer = answer::answer(&page).expect("the Rust is foreseen");
+            assert_eq!(answer.outcome, Outcome::Accepted(Kind::Vector));
+            assert_eq!(answer.records, records);
         }
     }
 }

@@ -4,7 +4,7 @@ use Prim.Native.Nat.{ℕ}
 use mathlib.Core.Path.{_≡_, refl}
 use mathlib.Core.Bool.{Bool, true, false, _&&_, not}
 use mathlib.Core.List.{[], _∷_}
-use mathlib.Core.Option.{Option, none, some}
+use mathlib.Core.Option.{Option, none, some, Option·none-ne-some}
 use lib.Dec.{T}
 use Rattle.page.specs.Bytes.{all, isEmpty, any}
 use Rattle.records.specs.Kind.{vector, matrix, isVector}
@@ -12,8 +12,8 @@ use Rattle.records.specs.Matcher.{Selector}
 use Rattle.records.specs.Time.{Times, AtModifier, Offset}
 use Rattle.ast.specs.Refusal.{unless, when, orElse, firstFault, andThen}
 use Rattle.records.specs.Record.{range, at, offset, unary, wrapper}
-use Rattle.ast.specs.Expr.{Expr, Aggregate, AggregateParam, Unary, Binary, Paren, Subquery, NumberLiteral, StringLiteral, VectorSelector, MatrixSelector, Call, valueType, scalarValue}
-use Rattle.ast.specs.Construct.{setAt, setOffset, rangeAfter}
+use Rattle.ast.specs.Expr.{Expr, Aggregate, AggregateParam, Unary, Binary, Paren, Subquery, NumberLiteral, StringLiteral, VectorSelector, MatrixSelector, Call, valueType, scalarValue, timesOf, withTimes}
+use Rattle.ast.specs.Construct.{atWith, setAt, offsetWith, setOffset, rangeAfter}
 use Rattle.ast.specs.CheckAst.{checkAst, unaryRows, selectorRows, acceptsEmpty, isNameMatcher}
 use Rattle.kinds.specs.Asked.{isNumeric}
 use Rattle.kinds.specs.WorkingOut.{wrapperNumber}
@@ -69,65 +69,42 @@ formedNode false e h q r g = absurd h
 
 -- ## @ and offset
 
-atSelector : (a : AtModifier) (s : Selector) (t : Times) (x : Option AtModifier) → NodeClaim true true true vector none (andThen (setAt a x t (VectorSelector s t)) checkAst)
+-- the nodes that have @ and offset, with others
+timesNode : (u : Times) (e : Expr) (t : Times) → timesOf e ≡ some t → T (isFormed e) → NodeClaim true true true (valueType e) none (checkAst (withTimes u e))
 unfolding checkAst
-atSelector a s t none = selectorNode s _
-atSelector a s t (some b) = λ k. absurd k
-
-atRange : (a : AtModifier) (s : Selector) (t : Times) (n : ℕ) (x : Option AtModifier) → NodeClaim true true true matrix none (andThen (setAt a x t (MatrixSelector s t n)) checkAst)
-unfolding checkAst
-atRange a s t n none = ((λ o. (tt, tt)), refl, refl, tt)
-atRange a s t n (some b) = λ k. absurd k
-
-atSubquery : (a : AtModifier) (e : Expr) (r : ℕ) (s : Option ℕ) (t : Times) (x : Option AtModifier) → T (isVector (valueType e))
-    → NodeClaim true true true matrix none (andThen (setAt a x t (Subquery e r s t)) checkAst)
-unfolding checkAst
-atSubquery a e r s t none h = formedNode (isVector (valueType e)) _ h refl refl h
-atSubquery a e r s t (some b) h = λ k. absurd k
+timesNode u (Aggregate c m e) t q h = absurd (Option·none-ne-some t q)
+timesNode u (AggregateParam c m p e) t q h = absurd (Option·none-ne-some t q)
+timesNode u (Unary e) t q h = absurd (Option·none-ne-some t q)
+timesNode u (Binary c m l r) t q h = absurd (Option·none-ne-some t q)
+timesNode u (Paren e) t q h = absurd (Option·none-ne-some t q)
+timesNode u (Subquery e r s v) t q h = formedNode (isVector (valueType e)) (Subquery e r s u) h refl refl h
+timesNode u (NumberLiteral l) t q h = absurd (Option·none-ne-some t q)
+timesNode u (StringLiteral x) t q h = absurd (Option·none-ne-some t q)
+timesNode u (VectorSelector s v) t q h = selectorNode s u
+timesNode u (MatrixSelector s v r) t q h = ((λ o. (tt, tt)), refl, refl, tt)
+timesNode u (Call f es) t q h = absurd (Option·none-ne-some t q)
 
 pub atOne : (a : AtModifier) (e : Expr) → T (isFormed e) → NodeClaim true true true (valueType e) none (nodeOf (wrapper (at a)) (e ∷ []))
-unfolding checkAst
-atOne a (Aggregate c m e) h = λ k. absurd k
-atOne a (AggregateParam c m p e) h = λ k. absurd k
-atOne a (Unary e) h = λ k. absurd k
-atOne a (Binary c m l r) h = λ k. absurd k
-atOne a (Paren e) h = λ k. absurd k
-atOne a (Subquery e r s t) h = atSubquery a e r s t (t .at) h
-atOne a (NumberLiteral l) h = λ k. absurd k
-atOne a (StringLiteral t) h = λ k. absurd k
-atOne a (VectorSelector s t) h = atSelector a s t (t .at)
-atOne a (MatrixSelector s t r) h = atRange a s t r (t .at)
-atOne a (Call f es) h = λ k. absurd k
+atOne a e h = by (timesOf e) refl
+  where
+    set : (t : Times) → timesOf e ≡ some t → (x : Option AtModifier) → NodeClaim true true true (valueType e) none (andThen (setAt a x t e) checkAst)
+    set t q none = timesNode _ e t q h
+    set t q (some b) = λ k. absurd k
 
-offsetSelector : (o : Offset) (s : Selector) (t : Times) (x : Option Offset) → NodeClaim true true true vector none (andThen (setOffset o x t (VectorSelector s t)) checkAst)
-unfolding checkAst
-offsetSelector o s t none = selectorNode s _
-offsetSelector o s t (some b) = λ k. absurd k
-
-offsetRange : (o : Offset) (s : Selector) (t : Times) (n : ℕ) (x : Option Offset) → NodeClaim true true true matrix none (andThen (setOffset o x t (MatrixSelector s t n)) checkAst)
-unfolding checkAst
-offsetRange o s t n none = ((λ o. (tt, tt)), refl, refl, tt)
-offsetRange o s t n (some b) = λ k. absurd k
-
-offsetSubquery : (o : Offset) (e : Expr) (r : ℕ) (s : Option ℕ) (t : Times) (x : Option Offset) → T (isVector (valueType e))
-    → NodeClaim true true true matrix none (andThen (setOffset o x t (Subquery e r s t)) checkAst)
-unfolding checkAst
-offsetSubquery o e r s t none h = formedNode (isVector (valueType e)) _ h refl refl h
-offsetSubquery o e r s t (some b) h = λ k. absurd k
+    by : (t : Option Times) → timesOf e ≡ t → NodeClaim true true true (valueType e) none (andThen (atWith a t e) checkAst)
+    by none q = λ k. absurd k
+    by (some t) q = set t q (t .at)
 
 pub offsetOne : (o : Offset) (e : Expr) → T (isFormed e) → NodeClaim true true true (valueType e) none (nodeOf (wrapper (offset o)) (e ∷ []))
-unfolding checkAst
-offsetOne o (Aggregate c m e) h = λ k. absurd k
-offsetOne o (AggregateParam c m p e) h = λ k. absurd k
-offsetOne o (Unary e) h = λ k. absurd k
-offsetOne o (Binary c m l r) h = λ k. absurd k
-offsetOne o (Paren e) h = λ k. absurd k
-offsetOne o (Subquery e r s t) h = offsetSubquery o e r s t (t .offset) h
-offsetOne o (NumberLiteral l) h = λ k. absurd k
-offsetOne o (StringLiteral t) h = λ k. absurd k
-offsetOne o (VectorSelector s t) h = offsetSelector o s t (t .offset)
-offsetOne o (MatrixSelector s t r) h = offsetRange o s t r (t .offset)
-offsetOne o (Call f es) h = λ k. absurd k
+offsetOne o e h = by (timesOf e) refl
+  where
+    set : (t : Times) → timesOf e ≡ some t → (x : Option Offset) → NodeClaim true true true (valueType e) none (andThen (setOffset o x t e) checkAst)
+    set t q none = timesNode _ e t q h
+    set t q (some b) = λ k. absurd k
+
+    by : (t : Option Times) → timesOf e ≡ t → NodeClaim true true true (valueType e) none (andThen (offsetWith o t e) checkAst)
+    by none q = λ k. absurd k
+    by (some t) q = set t q (t .offset)
 
 -- ## Unary
 

@@ -8,6 +8,7 @@ use mathlib.Core.Option.{none, some}
 use native.Mathlib.Omega.{arith}
 use lib.ListN.{length, drop}
 use lib.Seq.{drop-nil}
+use borrow.Author.Tests.{ne-eqb}
 use lib.Dec.{T, leb}
 use Rattle.page.specs.Bytes.{pick, any}
 use Rattle.page.specs.Limits.{pageLimit, recordLimit}
@@ -21,7 +22,7 @@ use Rattle.ast.specs.Expr.{Expr}
 use Rattle.ast.specs.CheckAst.{hasLabel, onLabels, groupLabels}
 use Rattle.ast.specs.Walk.{Walked, stack, stopped, atEnd, finished, walk}
 use Rattle.ast.specs.CheckPage.{apply, checkPage, outcomeOf, check}
-use Rattle.ast.specs.Part.{partOf, behind, fromRecord, Placed, firstIn, readJoint, partIn, labelPart, firstShared, HoldsJointLabel}
+use Rattle.ast.specs.Part.{emptyPart, partOf, behind, fromRecord, Placed, firstIn, readJoint, partIn, labelPart, firstShared, HoldsJointLabel}
 use Rattle.ast.proofs.RefusalLaws.{RefusedIn, isOfRecord, apply-refuses}
 use Rattle.ast.proofs.WalkLaws.{StoppedAt, walk-stops}
 use Rattle.ast.proofs.PartLaws.{Holds, labelPart-lies, labelPart-holds}
@@ -149,3 +150,8 @@ module _ (page : List ℕ) (i : ℕ) where
   labelPart-joint e =
       let n = check-named page i e in
       subst (λ (o : Outcome). HoldsJointLabel page i (labelPart page o)) (sym e) (record-found (n .0) (n .1) (n .2) (n .3))
+
+  -- any other outcome has an empty part
+  pub labelPart-otherwise : (n : ℕ) → (n ≡ 19 → ⊥) → labelPart page (refusal n i) ≡ emptyPart
+  unfolding labelPart
+  labelPart-otherwise n h = ap (λ (b : Bool). pick b (partIn (length page) (readJoint (fromRecord i page))) emptyPart) (ne-eqb n 19 h)

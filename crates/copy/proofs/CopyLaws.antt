@@ -10,12 +10,14 @@ use lib.ListN.{length}
 use Rattle.page.specs.Bytes.{pick}
 use Rattle.page.specs.Limits.{pageLimit, recordLimit}
 use Rattle.page.specs.Text.{writeAll}
+use Rattle.page.specs.Allowed.{Each}
 use Rattle.records.specs.Kind.{Kind}
 use Rattle.records.specs.Code.{isSetOperator}
 use Rattle.records.specs.Literal.{Literal, negate}
 use Rattle.records.specs.Modifier.{Cardinality, oneToOne, manyToMany, manyToOne, oneToMany, BinModifier}
 use Rattle.records.specs.Record.{number, string, selector, range, subquery, at, offset, unary, paren, Record, leaf, wrapper, binary, aggregate, call, writeRecord, Ending, end, unreadable, Records, readPage}
-use Rattle.records.proofs.PageLaws.{whole, readPage-back, readPage-allowed}
+use Rattle.records.proofs.PageLaws.{whole, writeRecords-injective, readPage-back, readPage-allowed}
+use Rattle.records.specs.Allowed.{IsAllowed}
 use Rattle.records.specs.Outcome.{answer, refusal}
 use Rattle.ast.specs.Refusal.{Result, ok, Row, firstFault, unless, andThen}
 use Rattle.ast.specs.Expr.{Expr, NumberLiteral, Binary, valueType}
@@ -115,10 +117,10 @@ copyRecords-walk (r ∷ rs) i s t e =
 -- ## The copy of an accepted page
 
 -- an accepted page can be read to its end, and its walk leaves the tree
-abbrev WalksTo : Records → Expr → Type 0
+abbrev pub WalksTo : Records → Expr → Type 0
 WalksTo page e = (page .ending ≡ end) × (walk apply 0 [] (page .records) ≡ stack (e ∷ []))
 
-accepted-walks : (page : Records) (e : Expr) (n : ℕ) → walkPage apply page ≡ accepted e n → WalksTo page e
+pub accepted-walks : (page : Records) (e : Expr) (n : ℕ) → walkPage apply page ≡ accepted e n → WalksTo page e
 accepted-walks page e n = by (walk apply 0 [] (page .records)) refl
   where
     refused-never : {B : Type 0} (k j : ℕ) → refusedAt k j ≡ accepted e n → B
@@ -169,3 +171,20 @@ module _ (page : List ℕ) (short : length (copyPage page) ≤ pageLimit) where
       by : (c : Checked Expr) → checkPage page ≡ c → outcomeOf c ≡ answer k n → check (copyPage page) ≡ check page
       by (refusedAt m j) h q = refused-never m j q
       by (accepted e m) h q = ap outcomeOf (copyPage-checkPage e m h) ∙ sym (ap outcomeOf h)
+
+-- ## Pages with one copy
+
+-- accepted pages with equal copies, of any length, have one tree
+pub copyPage-tree : (p q : List ℕ) (e f : Expr) (m n : ℕ) → checkPage p ≡ accepted e m → checkPage q ≡ accepted f n → copyPage p ≡ copyPage q → e ≡ f
+unfolding checkPage copyPage
+copyPage-tree p q e f m n h k same =
+    let one : walk apply 0 [] (copied p) ≡ stack (e ∷ []) = copyRecords-walk (readPage p .records) 0 [] (e ∷ []) (accepted-walks (readPage p) e m h .1) 0 in
+    let other : walk apply 0 [] (copied q) ≡ stack (f ∷ []) = copyRecords-walk (readPage q .records) 0 [] (f ∷ []) (accepted-walks (readPage q) f n k .1) 0 in
+    let records : copied p ≡ copied q = writeRecords-injective (copied p) (copied q) (allowed p) (allowed q) same in
+    cc (ap (walk apply 0 []) records)
+  where
+    copied : List ℕ → List Record
+    copied page = copyRecords (readPage page .records)
+
+    allowed : (page : List ℕ) → Each IsAllowed (copyRecords (readPage page .records))
+    allowed page = copyRecords-allowed (readPage page .records) (readPage-allowed page)

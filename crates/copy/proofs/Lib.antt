@@ -1,6 +1,8 @@
+pub mod CodeLaws
 pub mod CopyRecordsLaws
 pub mod CopyLaws
 pub mod ModifierLaws
+pub mod NumberPieceLaws
 pub mod OperatorLaws
 pub mod PieceLaws
 pub mod SpanLaws

@@ -24,7 +24,7 @@ use Rattle.records.proofs.AllowedLaws.{readRecord-gives}
 use Rattle.records.proofs.ReadBackLaws.{readLabelModifier-back}
 use Rattle.ast.specs.CheckAst.{setOperatorModifier}
 use Rattle.copy.specs.Piece.{copied, pieceOf, setCardinality, setModifier}
-use Rattle.copy.specs.Starts.{Spans}
+use Rattle.copy.specs.Span.{Spans, SetOperator, IsPresent, CardinalityAt}
 use Rattle.copy.proofs.SpanLaws.{part-is, part-ends, kindByte, span-written, span-kind, span-piece, same-piece}
 use Rattle.copy.proofs.ModifierLaws.{formOf, before, after, binary-written, modifier-written, modifier-set, modifier-absent, modifier-present, flag-byte}
 
@@ -51,7 +51,7 @@ module _ (page : List ℕ) (start next : ℕ) (span : Spans page start next) whe
 
     written : drop start page ≡ (9 ∷ c ∷ writeOption writeBinModifier m) ++ drop next page
     written =
-        span-written page start next span
+        span-written span
         ∙ ap (λ (s : List ℕ). s ++ drop next page) (ap writeRecord is ∙ binary-written c (allowed .0) m)
 
     second-byte : getD page (start + 1) 0 ≡ c
@@ -62,7 +62,7 @@ module _ (page : List ℕ) (start next : ℕ) (span : Spans page start next) whe
 
     piece-set : isSetOperator (getD page (start + 1) 0) ≡ true → pieceOf (drop start page) ≡ writeRecord (binary c (some (setOperatorModifier m)))
     piece-set h =
-        span-piece page start next span ∙ ap (λ (r : Record). writeRecord (copied r (drop next page))) is
+        span-piece span ∙ ap (λ (r : Record). writeRecord (copied r (drop next page))) is
         ∙ ap (λ (b : Bool). writeRecord (binary c (pick b (some (setOperatorModifier m)) m))) (ap isSetOperator (sym second-byte) ∙ h)
 
     piece-plain : isSetOperator (getD page (start + 1) 0) ≡ false → copied (span .item) (drop next page) ≡ span .item
@@ -80,13 +80,10 @@ module _ (page : List ℕ) (start next : ℕ) (span : Spans page start next) whe
         two : (n : ℕ) → n + 2 - n ≡ 2
         two n = omega arith
 
-    none-end : start + 3 ≡ next
-    none-end = part-ends page (9 ∷ c ∷ 0 ∷ []) start next (span .inside) (omega arith) (written c none is)
-
   module _ (c : ℕ) (m : BinModifier) (is : span .item ≡ binary c (some m)) where
     some-written : drop start page ≡ before c m ++ ((formOf (m .card) ∷ after m) ++ drop next page)
     some-written =
-        span-written page start next span
+        span-written span
         ∙ ap (λ (s : List ℕ). s ++ drop next page) (ap writeRecord is ∙ modifier-written c (allowed c (some m) is .0) m)
         ∙ append-assoc (before c m) (formOf (m .card) ∷ after m) (drop next page)
 
@@ -125,72 +122,87 @@ module _ (page : List ℕ) (start next : ℕ) (span : Spans page start next) whe
           piece-set c (some m) is h ∙ modifier-set c (allowed c (some m) is .0) m
           ∙ rw (cut-front, cut-form, cut-rear, append-nil (after m))
 
+    some-end : start + (length (before c m) + length (formOf (m .card) ∷ after m)) ≡ next
+    some-end =
+        ap (λ (k : ℕ). start + k) (sym (length-append (before c m) (formOf (m .card) ∷ after m)))
+        ∙ part-ends page (before c m ++ (formOf (m .card) ∷ after m)) start next (span .inside) (omega arith)
+        (some-written ∙ sym (append-assoc (before c m) (formOf (m .card) ∷ after m) (drop next page)))
+
     some-length : isSetOperator (getD page (start + 1) 0) ≡ true → length (pieceOf (drop start page)) ≡ next - start
     some-length h =
-        ap length (piece-set c (some m) is h ∙ modifier-set c (allowed c (some m) is .0) m) ∙ length-append (before c m) (setCardinality (formOf (m .card)) ∷ after m)
-        ∙ sym (length-append (before c m) (formOf (m .card) ∷ after m))
-        ∙ from (part-ends page (before c m ++ (formOf (m .card) ∷ after m)) start next (span .inside) (omega arith) (some-written ∙ sym (append-assoc (before c m) (formOf (m .card) ∷ after m) (drop next page))))
-      where
-        from : {k : ℕ} → start + k ≡ next → k ≡ next - start
-        from e = omega arith
+        ap length (piece-set c (some m) is h ∙ modifier-set c (allowed c (some m) is .0) m)
+        ∙ length-append (before c m) (setCardinality (formOf (m .card)) ∷ after m)
+        ∙ omega (arith, some-end)
 
--- where the cardinality stands, behind the matching
-pub record CardinalityAt (page : List ℕ) (start next cut : ℕ) : Type 0 where
-  pub behind : start ≤ cut
-  pub inside : cut + 1 ≤ next
-  pub piece : pieceOf (drop start page) ≡ join (take (cut - start) (drop start page) ∷ (setCardinality (getD page cut 0) ∷ []) ∷ take (next - (cut + 1)) (drop (cut + 1) page) ∷ [])
-
-module _ (page : List ℕ) (start next : ℕ) (span : Spans page start next) (kind : getD page start 0 ≡ 9) where
+module _ {page : List ℕ} {start next : ℕ} (span : Spans page start next) (kind : getD page start 0 ≡ 9) where
   operator-at : (c : ℕ) × (m : Option BinModifier) × (span .item ≡ binary c m)
-  operator-at = binary-kind (span .item) (sym (span-kind page start next span) ∙ kind)
+  operator-at = binary-kind (span .item) (sym (span-kind span) ∙ kind)
+
+  -- kind, code and the mark of a modifier
+  pub operator-wide : start + 3 ≤ next
+  operator-wide = wide (operator-at .1) (written page start next span (operator-at .0) (operator-at .1) (operator-at .2))
+    where
+      wide : (m : Option BinModifier) → drop start page ≡ (9 ∷ operator-at .0 ∷ writeOption writeBinModifier m) ++ drop next page → start + 3 ≤ next
+      wide none e = omega (arith, part-ends page (9 ∷ operator-at .0 ∷ writeOption writeBinModifier none) start next (span .inside) (omega arith) e)
+      wide (some m) e = omega (arith, part-ends page (9 ∷ operator-at .0 ∷ writeOption writeBinModifier (some m)) start next (span .inside) (omega arith) e)
 
   -- no set operator: the page's own bytes
   pub plain-piece : isSetOperator (getD page (start + 1) 0) ≡ false → pieceOf (drop start page) ≡ take (next - start) (drop start page)
-  plain-piece h = same-piece page start next span (piece-plain page start next span (operator-at .0) (operator-at .1) (operator-at .2) h)
+  plain-piece h = same-piece span (piece-plain page start next span (operator-at .0) (operator-at .1) (operator-at .2) h)
 
   absent-at : getD page (start + 2) 0 ≡ 0 → span .item ≡ binary (operator-at .0) none
   absent-at h =
       let (c, m, is) = operator-at in
       is ∙ ap (binary c) (modifier-absent m (drop next page) (sym (third-byte page start next span c m is) ∙ h))
 
-  present-at : (getD page (start + 2) 0 ≡ 0 → ⊥) → (m : BinModifier) × (span .item ≡ binary (operator-at .0) (some m))
+  present-at : IsPresent page start → (m : BinModifier) × (span .item ≡ binary (operator-at .0) (some m))
   present-at h =
       let (c, m, is) = operator-at in
       let (k, e) = modifier-present m (drop next page) (λ z. h (third-byte page start next span c m is ∙ z)) in
       (k, is ∙ ap (binary c) e)
 
-  -- a set operator without a modifier
-  pub absent-end : getD page (start + 2) 0 ≡ 0 → start + 3 ≡ next
-  absent-end h = none-end page start next span (operator-at .0) (absent-at h)
+module _ {page : List ℕ} {start next : ℕ} (operator : SetOperator page start next) where
+  abbrev code-at : ℕ
+  code-at = operator-at (operator .span) (operator .kind) .0
 
-  pub absent-piece : isSetOperator (getD page (start + 1) 0) ≡ true → getD page (start + 2) 0 ≡ 0
-      → pieceOf (drop start page) ≡ join (take (start + 2 - start) (drop start page) ∷ setModifier ∷ [])
+  -- without a modifier
+  pub absent-piece : getD page (start + 2) 0 ≡ 0 → pieceOf (drop start page) ≡ join (take (start + 2 - start) (drop start page) ∷ setModifier ∷ [])
   unfolding join
-  absent-piece h g =
-      none-written page start next span (operator-at .0) (absent-at g) h
-      ∙ ap (λ (s : List ℕ). s ++ (setModifier ++ [])) (sym (none-front page start next span (operator-at .0) (absent-at g)))
+  absent-piece h =
+      let none-at = absent-at (operator .span) (operator .kind) h in
+      none-written page start next (operator .span) code-at none-at (operator .set)
+      ∙ ap (λ (s : List ℕ). s ++ (setModifier ++ [])) (sym (none-front page start next (operator .span) code-at none-at))
 
-  -- a set operator with one
-  pub present-length : isSetOperator (getD page (start + 1) 0) ≡ true → (getD page (start + 2) 0 ≡ 0 → ⊥) → length (pieceOf (drop start page)) ≡ next - start
-  present-length h g = some-length page start next span (operator-at .0) (present-at g .0) (present-at g .1) h
+  pub absent-length : getD page (start + 2) 0 ≡ 0 → length (pieceOf (drop start page)) ≡ 8
+  absent-length h = ap length (none-written page start next (operator .span) code-at (absent-at (operator .span) (operator .kind) h) (operator .set))
 
-  pub present-cardinality : isSetOperator (getD page (start + 1) 0) ≡ true → (getD page (start + 2) 0 ≡ 0 → ⊥)
-      → (cut : ℕ) {l : Option LabelModifier} → got l (drop cut page) ≡ readLabelModifier (drop (start + 4) page) → CardinalityAt page start next cut
-  present-cardinality h g cut e =
-      let c = operator-at .0 in
-      let (m, is) = present-at g in
-      let read = e ∙ some-matching page start next span c m is in
-      let tail : drop cut page ≡ (formOf (m .card) ∷ after m) ++ drop next page = cc in
-      record {
-        behind = omega (arith, cut-start page start next span c m is cut tail);
-        inside = cut-end page start next span c m is cut tail;
-        piece = cut-piece page start next span c m is cut tail h;
-      }
+  -- with one
+  module _ (present : IsPresent page start) where
+    modifier-at : (m : BinModifier) × (operator .span .item ≡ binary code-at (some m))
+    modifier-at = present-at (operator .span) (operator .kind) present
 
-  pub present-readable : (getD page (start + 2) 0 ≡ 0 → ⊥) → {f : FieldFault} → refused f ≡ readLabelModifier (drop (start + 4) page) → ⊥
-  present-readable g e =
-      let c = operator-at .0 in
-      let (m, is) = present-at g in
-      let read = e ∙ some-matching page start next span c m is in
-      let z : _≡_ {A = ℕ} 0 1 = cc in
-      omega arith
+    pub present-length : length (pieceOf (drop start page)) ≡ next - start
+    present-length = some-length page start next (operator .span) code-at (modifier-at .0) (modifier-at .1) (operator .set)
+
+    pub present-wide : start + 4 ≤ next
+    present-wide = omega (arith, some-end page start next (operator .span) code-at (modifier-at .0) (modifier-at .1))
+
+    matching-at : readLabelModifier (drop (start + 4) page) ≡ got (modifier-at .0 .matching) ((formOf (modifier-at .0 .card) ∷ after (modifier-at .0)) ++ drop next page)
+    matching-at = some-matching page start next (operator .span) code-at (modifier-at .0) (modifier-at .1)
+
+    pub present-cardinality : (cut : ℕ) {l : Option LabelModifier} → got l (drop cut page) ≡ readLabelModifier (drop (start + 4) page) → CardinalityAt page start next cut
+    present-cardinality cut e =
+        let (m, is) = modifier-at in
+        let read = e ∙ matching-at in
+        let tail : drop cut page ≡ (formOf (m .card) ∷ after m) ++ drop next page = cc in
+        record {
+          behind = omega (arith, cut-start page start next (operator .span) code-at m is cut tail);
+          inside = cut-end page start next (operator .span) code-at m is cut tail;
+          piece = cut-piece page start next (operator .span) code-at m is cut tail (operator .set);
+        }
+
+    pub present-readable : {f : FieldFault} → refused f ≡ readLabelModifier (drop (start + 4) page) → ⊥
+    present-readable e =
+        let read = e ∙ matching-at in
+        let z : _≡_ {A = ℕ} 0 1 = cc in
+        omega arith

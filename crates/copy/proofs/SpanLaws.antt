@@ -1,6 +1,6 @@
 -- A record's piece as parts of the page: a record that reaches from `start` to `next` is the page's bytes between them. Its first byte
 -- is its kind; a number's second byte is its form, and the rest of it stays. Assumes nothing.
-use Prim.Native.Nat.{ℕ, zero, suc, _+_, _-_, _≤_, _<_}
+use Prim.Native.Nat.{ℕ, zero, suc, _+_, _-_, _≤_, _<_, zero-le}
 use mathlib.Core.Path.{_≡_, refl, sym, ap, _∙_, subst}
 use mathlib.Core.Bool.{Bool, true, false, _&&_}
 use mathlib.Core.List.{List, [], _∷_, _++_}
@@ -9,8 +9,9 @@ use native.Mathlib.Omega.{arith}
 use mir.Syntax.{w8}
 use mir.Val.{Fits}
 use lib.ListN.{length, take, drop, getD, length-drop, length-append}
-use lib.Seq.{drop-drop, getD-drop, take-at, drop-cons}
+use lib.Seq.{drop-drop, getD-drop, take-at, length-take-le}
 use lib.Dec.{T, eqb, lt→ltb}
+use Rattle.base.specs.Cases.{by-eq}
 use Rattle.base.specs.Splice.{join}
 use Rattle.page.specs.Bytes.{pick, all}
 use Rattle.page.specs.Read.{got}
@@ -21,7 +22,7 @@ use Rattle.records.specs.Literal.{Literal, whole, infinite, plus, minus, nan, n
 use Rattle.records.specs.Record.{number, string, selector, range, subquery, at, offset, unary, paren, Record, leaf, wrapper, binary, aggregate, call, readRecord, writeRecord}
 use Rattle.records.proofs.RecordLaws.{record-law}
 use Rattle.copy.specs.Piece.{unaries, negated, copied, pieceRead, pieceOf, absorbedRead, absorbedOf, absorbed, negatedForm, formBehind}
-use Rattle.copy.specs.Starts.{Spans}
+use Rattle.copy.specs.Span.{Spans}
 use Rattle.copy.proofs.StartsLaws.{drop-bytes}
 
 -- ## Parts of a page
@@ -37,6 +38,9 @@ part-is page front from to h e =
 -- the place behind what stands there
 pub part-ends : (page front : List ℕ) (from to : ℕ) → to ≤ length page → 0 < length front → drop from page ≡ front ++ drop to page → from + length front ≡ to
 part-ends page front from to h l e = omega (arith, length-drop from page, length-drop to page, ap length e ∙ length-append front (drop to page))
+
+pub part-length : (page : List ℕ) (from to : ℕ) → to ≤ length page → length (take (to - from) (drop from page)) ≡ to - from
+part-length page from to h = length-take-le (to - from) (drop from page) (omega (arith, length-drop from page))
 
 -- the elements of a slice of bytes
 pub known-bytes : (page : List ℕ) → ((i : ℕ) → Fits w8 (getD page i 0)) → T (all isByte page)
@@ -63,20 +67,21 @@ kindByte (binary c m) = 9
 kindByte (aggregate c m n) = 10
 kindByte (call f n) = 11
 
-first-kind : (r : Record) (rest : List ℕ) → getD (writeRecord r ++ rest) 0 0 ≡ kindByte r
+-- a record is its kind, then its fields
+record-head : (r : Record) → (fields : List ℕ) × (writeRecord r ≡ kindByte r ∷ fields)
 unfolding writeRecord
-first-kind (leaf (number l)) rest = refl
-first-kind (leaf (string t)) rest = refl
-first-kind (leaf (selector s)) rest = refl
-first-kind (wrapper (range n)) rest = refl
-first-kind (wrapper (subquery r s)) rest = refl
-first-kind (wrapper (at a)) rest = refl
-first-kind (wrapper (offset o)) rest = refl
-first-kind (wrapper unary) rest = refl
-first-kind (wrapper paren) rest = refl
-first-kind (binary c m) rest = refl
-first-kind (aggregate c m n) rest = refl
-first-kind (call f n) rest = refl
+record-head (leaf (number l)) = (_, refl)
+record-head (leaf (string t)) = (_, refl)
+record-head (leaf (selector s)) = (_, refl)
+record-head (wrapper (range n)) = (_, refl)
+record-head (wrapper (subquery r s)) = (_, refl)
+record-head (wrapper (at a)) = (_, refl)
+record-head (wrapper (offset o)) = (_, refl)
+record-head (wrapper unary) = (_, refl)
+record-head (wrapper paren) = (_, refl)
+record-head (binary c m) = (_, refl)
+record-head (aggregate c m n) = (_, refl)
+record-head (call f n) = (_, refl)
 
 -- all but numbers and binaries stay
 other-copied : (r : Record) (rest : List ℕ) → (kindByte r ≡ 0 → ⊥) → (kindByte r ≡ 9 → ⊥) → copied r rest ≡ r
@@ -98,76 +103,38 @@ nothing-absorbed (binary c m) rest h = refl
 nothing-absorbed (aggregate c m n) rest h = refl
 nothing-absorbed (call f n) rest h = refl
 
-number-kind : (r : Record) → kindByte r ≡ 0 → (l : Literal) × (r ≡ leaf (number l))
-number-kind (leaf (number l)) h = (l, refl)
-number-kind (leaf (string t)) h = absurd (omega arith)
-number-kind (leaf (selector s)) h = absurd (omega arith)
-number-kind (wrapper (range n)) h = absurd (omega arith)
-number-kind (wrapper (subquery r s)) h = absurd (omega arith)
-number-kind (wrapper (at a)) h = absurd (omega arith)
-number-kind (wrapper (offset o)) h = absurd (omega arith)
-number-kind (wrapper unary) h = absurd (omega arith)
-number-kind (wrapper paren) h = absurd (omega arith)
-number-kind (binary c m) h = absurd (omega arith)
-number-kind (aggregate c m n) h = absurd (omega arith)
-number-kind (call f n) h = absurd (omega arith)
-
--- ## Numbers: a form and, where it is a whole number, its magnitude
-
-abbrev formOf : Literal → ℕ
-formOf (plus (whole n)) = 0
-formOf (minus (whole n)) = 1
-formOf nan = 2
-formOf (plus infinite) = 3
-formOf (minus infinite) = 4
-
-abbrev magnitudeOf : Literal → List ℕ
-magnitudeOf (plus (whole n)) = writeNumber n
-magnitudeOf (minus (whole n)) = writeNumber n
-magnitudeOf nan = []
-magnitudeOf (plus infinite) = []
-magnitudeOf (minus infinite) = []
-
-literal-written : (l : Literal) → writeLiteral l ≡ formOf l ∷ magnitudeOf l
-literal-written (plus (whole n)) = refl
-literal-written (minus (whole n)) = refl
-literal-written nan = refl
-literal-written (plus infinite) = refl
-literal-written (minus infinite) = refl
-
-form-negated : (l : Literal) → formOf (negate l) ≡ negatedForm (formOf l)
-form-negated (plus (whole n)) = refl
-form-negated (minus (whole n)) = refl
-form-negated nan = refl
-form-negated (plus infinite) = refl
-form-negated (minus infinite) = refl
-
-magnitude-negated : (l : Literal) → magnitudeOf (negate l) ≡ magnitudeOf l
-magnitude-negated (plus (whole n)) = refl
-magnitude-negated (minus (whole n)) = refl
-magnitude-negated nan = refl
-magnitude-negated (plus infinite) = refl
-magnitude-negated (minus infinite) = refl
-
-number-behind : (s : List ℕ) (l : Literal) → writeLiteral (negated (unaries s) l) ≡ formBehind (formOf l) s ∷ magnitudeOf l
-number-behind [] l = literal-written l
-number-behind (b ∷ bs) l = by (eqb b 7) (number-behind bs (negate l))
+-- no more than there are bytes
+unaries-in : (s : List ℕ) → unaries s ≤ length s
+unaries-in [] = zero-le
+unaries-in (b ∷ bs) = by (eqb b 7) (unaries-in bs)
   where
-    by : (c : Bool) → writeLiteral (negated (unaries bs) (negate l)) ≡ formBehind (formOf (negate l)) bs ∷ magnitudeOf (negate l)
-        → writeLiteral (negated (pick c (suc (unaries bs)) 0) l) ≡ pick c (formBehind (negatedForm (formOf l)) bs) (formOf l) ∷ magnitudeOf l
-    by true next = rw (form-negated l, magnitude-negated l) at next
-    by false next = literal-written l
+    by : (c : Bool) → unaries bs ≤ length bs → pick c (suc (unaries bs)) 0 ≤ suc (length bs)
+    by true h = omega arith
+    by false h = zero-le
+
+absorbed-in : (r : Record) (rest : List ℕ) → absorbed r rest ≤ length rest
+absorbed-in (leaf (number l)) rest = unaries-in rest
+absorbed-in (leaf (string t)) rest = zero-le
+absorbed-in (leaf (selector s)) rest = zero-le
+absorbed-in (wrapper w) rest = zero-le
+absorbed-in (binary c m) rest = zero-le
+absorbed-in (aggregate c m n) rest = zero-le
+absorbed-in (call f n) rest = zero-le
 
 -- ## Pieces
 
-module _ (page : List ℕ) (start next : ℕ) (span : Spans page start next) where
+module _ {page : List ℕ} {start next : ℕ} (span : Spans page start next) where
   pub span-written : drop start page ≡ writeRecord (span .item) ++ drop next page
   span-written = subst (Written writeRecord (drop start page)) (sym (span .reads)) (record-law (drop start page) (drop-bytes start page (span .bytes)))
 
+  headed : drop start page ≡ (kindByte (span .item) ∷ record-head (span .item) .0) ++ drop next page
+  headed = span-written ∙ ap (λ (s : List ℕ). s ++ drop next page) (record-head (span .item) .1)
+
   pub span-kind : getD page start 0 ≡ kindByte (span .item)
-  span-kind =
-      ap (λ (k : ℕ). getD page k 0) (sym (add-zero start)) ∙ sym (getD-drop start page 0 0)
-      ∙ ap (λ (s : List ℕ). getD s 0 0) span-written ∙ first-kind (span .item) (drop next page)
+  span-kind = ap (λ (k : ℕ). getD page k 0) (sym (add-zero start)) ∙ sym (getD-drop start page 0 0) ∙ ap (λ (s : List ℕ). getD s 0 0) headed
+
+  pub span-wide : start + 1 ≤ next
+  span-wide = omega (arith, part-ends page (kindByte (span .item) ∷ record-head (span .item) .0) start next (span .inside) (omega arith) headed)
 
   pub span-piece : pieceOf (drop start page) ≡ writeRecord (copied (span .item) (drop next page))
   unfolding pieceOf
@@ -176,6 +143,9 @@ module _ (page : List ℕ) (start next : ℕ) (span : Spans page start next) whe
   pub span-absorbed : absorbedOf (drop start page) ≡ absorbed (span .item) (drop next page)
   unfolding absorbedOf
   span-absorbed = ap absorbedRead (sym (span .reads))
+
+  pub absorbed-few : absorbedOf (drop start page) ≤ length page
+  absorbed-few = omega (arith, span-absorbed, absorbed-in (span .item) (drop next page), length-drop next page)
 
   -- an unchanged record is the page's own bytes
   pub same-piece : copied (span .item) (drop next page) ≡ span .item → pieceOf (drop start page) ≡ take (next - start) (drop start page)
@@ -188,33 +158,6 @@ module _ (page : List ℕ) (start next : ℕ) (span : Spans page start next) whe
   pub other-absorbed : (getD page start 0 ≡ 0 → ⊥) → absorbedOf (drop start page) ≡ 0
   other-absorbed h = span-absorbed ∙ nothing-absorbed (span .item) (drop next page) (λ e. h (span-kind ∙ e))
 
-  -- a number, and the unary records behind it
-  number-at : getD page start 0 ≡ 0 → (l : Literal) × (span .item ≡ leaf (number l))
-  number-at h = number-kind (span .item) (sym span-kind ∙ h)
-
-  number-written : (l : Literal) → span .item ≡ leaf (number l) → drop start page ≡ (0 ∷ formOf l ∷ magnitudeOf l) ++ drop next page
-  unfolding writeRecord
-  number-written l e =
-      span-written ∙ ap (λ (r : Record). writeRecord r ++ drop next page) e
-      ∙ ap {B = List ℕ} (λ (s : List ℕ). (0 ∷ s) ++ drop next page) (literal-written l)
-
-  pub number-absorbed : getD page start 0 ≡ 0 → absorbedOf (drop start page) ≡ unaries (drop next page)
-  number-absorbed h = span-absorbed ∙ ap (λ (r : Record). absorbed r (drop next page)) (number-at h .1)
-
-  pub number-wide : getD page start 0 ≡ 0 → start + 2 ≤ next
-  number-wide h =
-      let l = number-at h .0 in
-      omega (arith, part-ends page (0 ∷ formOf l ∷ magnitudeOf l) start next (span .inside) (omega arith) (number-written l (number-at h .1)))
-
-  pub number-piece : getD page start 0 ≡ 0
-      → pieceOf (drop start page) ≡ join ((0 ∷ []) ∷ (formBehind (getD page (start + 1) 0) (drop next page) ∷ []) ∷ take (next - (start + 2)) (drop (start + 2) page) ∷ [])
-  unfolding writeRecord join
-  number-piece h =
-      let l = number-at h .0 in
-      let bytes-are = number-written l (number-at h .1) in
-      let form : getD page (start + 1) 0 ≡ formOf l = sym (getD-drop start page 1 0) ∙ ap (λ (s : List ℕ). getD s 1 0) bytes-are in
-      let rest : drop (start + 2) page ≡ magnitudeOf l ++ drop next page = sym (drop-drop 2 start page) ∙ ap (drop 2) bytes-are in
-      let magnitude : take (next - (start + 2)) (drop (start + 2) page) ≡ magnitudeOf l = part-is page (magnitudeOf l) (start + 2) next (span .inside) rest in
-      span-piece ∙ ap (λ (r : Record). writeRecord (copied r (drop next page))) (number-at h .1)
-      ∙ ap {B = List ℕ} (λ s. 0 ∷ s) (number-behind (drop next page) l)
-      ∙ rw (form, magnitude, append-nil (magnitudeOf l))
+  -- a piece of the page's own bytes is as long
+  pub same-length : pieceOf (drop start page) ≡ take (next - start) (drop start page) → length (pieceOf (drop start page)) ≡ next - start
+  same-length e = ap length e ∙ part-length page start next (span .inside)

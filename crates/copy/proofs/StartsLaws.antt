@@ -9,8 +9,8 @@ use native.Mathlib.Numerals.{add-one}
 use lib.ListN.{length, drop, getD, drop-of-length-le, length-drop}
 use lib.Seq.{drop-drop, drop-length}
 use lib.Dec.{T, leb}
-use borrow.Author.Tests.{leb-true}
-use Rattle.base.specs.Splice.{Cut}
+use borrow.Author.Tests.{leb-true, le-leb, lt-leb}
+use Rattle.base.specs.Splice.{Cut, cut-length}
 use Rattle.base.specs.Cases.{by-lt}
 use Rattle.page.specs.Bytes.{pick, all}
 use Rattle.page.specs.Limits.{pageLimit, recordLimit}
@@ -21,11 +21,17 @@ use Rattle.page.proofs.ReaderLaws.{rest-bytes}
 use Rattle.records.specs.Record.{Record, readRecord, writeRecord, Ending, end, unreadable, Records, noRecords, readRecords, readPage}
 use Rattle.records.proofs.RecordLaws.{record-law}
 use Rattle.ast.specs.Part.{behind, fromRecord}
-use Rattle.ast.proofs.WalkLaws.{page-limit}
+use Rattle.ast.specs.Expr.{Expr}
+use Rattle.ast.specs.Walk.{accepted}
+use Rattle.ast.specs.CheckPage.{checkPage}
+use Rattle.ast.specs.Tables.{Tables}
+use Rattle.ast.proofs.WalkLaws.{CheckedIn, checkPage-in, page-limit}
 use Rattle.ast.proofs.TablesLaws.{fromRecord-next}
 use Rattle.copy.specs.Copy.{copyRecord, copyRecords, copyPage}
 use Rattle.copy.specs.Piece.{pieceRead, pieceOf, absorbedRead, absorbedOf, copied, absorbed}
-use Rattle.copy.specs.Starts.{Starts, Spans, copyFrom}
+use Rattle.copy.specs.Span.{Spans}
+use Rattle.copy.specs.Starts.{Starts, copyFrom}
+use Rattle.copy.proofs.CopyLaws.{accepted-walks}
 use Rattle.copy.proofs.PieceLaws.{ReadsTo, nothing-read, readRecords-reads, copyRecord-piece}
 
 -- ## A page read to its end
@@ -74,7 +80,13 @@ copy-front s (r ∷ rs) h l (t, e, more) =
     ap (writeAll writeRecord) (copyRecord-piece r t rs (behind-bytes s r t h e) more)
     ∙ ap (λ (x : Read Record). pieceRead x ++ writeAll writeRecord (copyRecords (drop (absorbedRead x) rs))) e
 
-module _ (page starts : List ℕ) (n : ℕ) (held : Starts page starts n) where
+-- a sum within a room, and its second part within what the first leaves
+fits-rest : (whole a b left : ℕ) → whole ≡ a + b → a ≤ left → leb whole left ≡ leb b (left - a)
+fits-rest whole a b left e h =
+    by-lt left whole (λ l. lt-leb whole left l ∙ sym (lt-leb b (left - a) (omega arith)))
+    (λ l. le-leb whole left l ∙ sym (le-leb b (left - a) (omega arith)))
+
+module _ {page starts : List ℕ} {n : ℕ} (held : Starts page starts n) where
   page-reads : ReadsTo page (readPage page .records)
   page-reads = readPage-reads page (held .readable) .1
 
@@ -98,6 +110,11 @@ module _ (page starts : List ℕ) (n : ℕ) (held : Starts page starts n) where
     where
       further : (k : ℕ) → i + suc k ≡ i + 1 + k
       further k = omega arith
+
+  -- the same, with the number of records that the piece takes in
+  pub copyFrom-next : (i taken : ℕ) → i < n → taken ≡ absorbedOf (drop (getD starts i 0) page)
+      → Cut (copyFrom page i) (pieceOf (drop (getD starts i 0) page)) (copyFrom page (i + 1 + taken))
+  copyFrom-next i taken h e = rw e (copyFrom-cut i h)
 
   pub copyFrom-end : (i : ℕ) → n ≤ i → copyFrom page i ≡ []
   unfolding copyFrom
@@ -147,3 +164,29 @@ module _ (page starts : List ℕ) (n : ℕ) (held : Starts page starts n) where
       none : (rs : List Record) → rs ≡ [] → ReadsTo (fromRecord (suc i) page) rs → fromRecord (suc i) page ≡ []
       none [] e g = g
       none (r ∷ rs) e g = absurd (let z : _≡_ {A = ℕ} 0 1 = cc in omega arith)
+
+  -- ## Whether the copy fits: what is left of the room, for the records that are left
+
+  pub fits-not : (i left size : ℕ) → i < n → size ≡ length (pieceOf (drop (getD starts i 0) page)) → left < size → leb (length (copyFrom page i)) left ≡ false
+  fits-not i left size h e l = lt-leb (length (copyFrom page i)) left (omega (arith, cut-length (copyFrom-cut i h)))
+
+  pub fits-more : (i left size taken : ℕ) → i < n → size ≡ length (pieceOf (drop (getD starts i 0) page)) → taken ≡ absorbedOf (drop (getD starts i 0) page) → size ≤ left
+      → leb (length (copyFrom page i)) left ≡ leb (length (copyFrom page (i + 1 + taken))) (left - size)
+  fits-more i left size taken h e q l = fits-rest _ size _ left (cut-length (copyFrom-next i taken h q) ∙ ap (λ (k : ℕ). k + length (copyFrom page (i + 1 + taken))) (sym e)) l
+
+  pub fits-end : (i left : ℕ) → n ≤ i → leb (length (copyFrom page i)) left ≡ true
+  fits-end i left h = le-leb (length (copyFrom page i)) left (omega (arith, ap length (copyFrom-end i h)))
+
+-- ## Accepted pages
+
+-- the walk's table of an accepted page
+pub accepted-starts : {page starts firsts : List ℕ} {n : ℕ} {e : Expr} → T (all isByte page) → Tables page starts firsts n → checkPage page ≡ accepted e n → Starts page starts n
+unfolding checkPage
+accepted-starts {page} {n = n} {e = e} bytes tables h =
+    record {
+      bytes = bytes;
+      readable = accepted-walks (readPage page) e n h .0;
+      count = sym (subst (CheckedIn (length (readPage page .records))) h (checkPage-in page));
+      size = tables .starts-size;
+      stands = λ i l. tables .entry i l .stands;
+    }

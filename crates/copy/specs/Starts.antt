@@ -1,5 +1,5 @@
 -- Where the records of a page stand, for code that goes from record to record by a table of their starts.
-use Prim.Native.Nat.{ℕ, _+_, _≤_, _<_}
+use Prim.Native.Nat.{ℕ, _<_}
 use mathlib.Core.Path.{_≡_}
 use mathlib.Core.List.{List}
 use lib.ListN.{length, drop, getD}
@@ -7,11 +7,9 @@ use lib.Dec.{T, ltb}
 use Rattle.page.specs.Bytes.{all}
 use Rattle.page.specs.Limits.{recordLimit}
 use Rattle.page.specs.Text.{writeAll}
-use Rattle.page.specs.Read.{got}
-use Rattle.records.specs.Record.{Record, readRecord, writeRecord, end, readPage}
+use Rattle.records.specs.Record.{writeRecord, end, readPage}
 use Rattle.ast.specs.Part.{fromRecord}
 use Rattle.copy.specs.Copy.{copyRecords}
-use Rattle.copy.specs.Piece.{pieceOf}
 
 -- a page of n records, read to its end, and the start of each in a table
 pub record Starts (page starts : List ℕ) (n : ℕ) : Type 0 where
@@ -20,18 +18,6 @@ pub record Starts (page starts : List ℕ) (n : ℕ) : Type 0 where
   pub count : length (readPage page .records) ≡ n
   pub size : length starts ≡ recordLimit
   pub stands : (i : ℕ) → i < n → drop (getD starts i 0) page ≡ fromRecord i page
-
--- a record that reaches from `start` to `next`
-pub record Spans (page : List ℕ) (start next : ℕ) : Type 0 where
-  pub bytes : T (all (λ b. ltb b 256) page)
-  pub item : Record
-  pub reads : got item (drop next page) ≡ readRecord (drop start page)
-  pub inside : next ≤ length page
-
--- such a record, and a buffer with room for its piece from `at` on
-pub record Placing (page out : List ℕ) (start next at : ℕ) : Type 0 where
-  pub span : Spans page start next
-  pub room : at + length (pieceOf (drop start page)) ≤ length out
 
 -- the copy from record i on
 unfoldable pub copyFrom : List ℕ → ℕ → List ℕ

@@ -1,3 +1,9 @@
 // The copy of an accepted page (document 01, 'Checking', "The copy holds this state"): records go over as parts of the page, but for
 // set operators, which become many-to-many, and numbers, which take in the unary records behind them.
 pub mod number;
+pub mod operator;
+pub mod piece;
+pub mod whole;
+
+pub use whole::copy_fits;
+pub use whole::put_copy;

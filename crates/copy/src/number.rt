@@ -3,7 +3,7 @@ ghost use mathlib.Core.Path.{_≡_};
 ghost use lib.ListN.{drop, getD};
 ghost use Rattle.base.specs.Splice.{Wrote};
 ghost use Rattle.copy.specs.Piece.{unaries, negatedForm, formBehind, pieceOf};
-ghost use Rattle.copy.specs.Starts.{Placing};
+ghost use Rattle.copy.specs.Span.{Placing};
 
 // How many unary records stand from a position on.
 pub fn unaries_at(page: &[u8], at: usize) -> usize

@@ -1,1 +1,7 @@
 pub mod LabelLaws
+pub mod SymbolLaws
+pub mod MatcherLaws
+pub mod KeyLaws
+pub mod SortLaws
+pub mod CollectLaws
+pub mod JoinLaws

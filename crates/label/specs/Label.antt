@@ -46,6 +46,13 @@ unfoldable pub sort : List Text → List Text
 sort [] = []
 sort (t ∷ ts) = insert t (sort ts)
 
+-- texts with a comma between each two, and those behind the first, each with its comma in front
+unfoldable pub joinedByCommas : List Text → List ℕ
+joinedByCommas ts = join (bytes ",") ts
+
+unfoldable pub moreByCommas : List Text → List ℕ
+moreByCommas ts = joinRest (bytes ",") ts
+
 -- `Display` of `Matchers`: the texts sorted, joined by a comma
 unfoldable pub displayMatchers : List Matcher → List ℕ
-displayMatchers ms = join (bytes ",") (sort (map displayMatcher ms))
+displayMatchers ms = joinedByCommas (sort (map displayMatcher ms))

@@ -8,7 +8,7 @@ use Rattle.page.specs.Answers.{faultOf, spanOn, Lies}
 use Rattle.records.specs.Matcher as matcher
 use Rattle.records.specs.Record as spec
 use Rattle.records.specs.Answers.{matchersOn, literalOf, labelModifierOn, modifierOn, atModifierOf, offsetOf, stepOf}
-use Rattle.records.specs.SignatureAnswers.{functionOn}
+use Rattle.records.specs.SignatureAnswers.{functionOn, FunctionLies}
 use Rattle.reader.specs.declared.Selector.{Selector}
 use Rattle.reader.specs.declared.Record.{Record}
 use Rattle.reader.specs.declared.Record.the-variants as code
@@ -39,7 +39,7 @@ abbrev pub recordAt : List ℕ → RecordField → Read spec.Record
 recordAt page (record-answer.Got r next) = got (recordOn page r) (drop next page)
 recordAt page (record-answer.Bad f) = refused (faultOf f)
 
--- a record's own texts lie on the page: a string, a selector's name, a function's name
+-- a record's own texts lie on the page: a string, a selector's name, a function's name (with the count of its kinds)
 abbrev pub TextsLie : List ℕ → Record → Type 0
 TextsLie page (code.Number l) = Unit {0}
 TextsLie page (code.String s) = Lies page s
@@ -52,7 +52,7 @@ TextsLie page code.Unary = Unit {0}
 TextsLie page code.Paren = Unit {0}
 TextsLie page (code.Binary c m) = Unit {0}
 TextsLie page (code.Aggregate c m n) = Unit {0}
-TextsLie page (code.Call f n) = Lies page (f .name)
+TextsLie page (code.Call f n) = FunctionLies page f
 
 abbrev pub recordLies : List ℕ → RecordField → Type 0
 recordLies page (record-answer.Got r next) = TextsLie page r

@@ -1,7 +1,7 @@
 -- Pages: allowed records that were written are read back, and a page whose records can all be read is those records, written. So pages
 -- that can be read and lists of allowed records within the limits are the same thing. Assumes nothing.
-use Prim.Native.Nat.{ℕ, zero, suc, _≤_}
-use mathlib.Core.Path.{_≡_, refl, ap, _∙_, subst}
+use Prim.Native.Nat.{ℕ, zero, suc, _+_, _≤_}
+use mathlib.Core.Path.{_≡_, refl, sym, ap, _∙_, subst}
 use mathlib.Core.Bool.{Bool, true, false}
 use mathlib.Core.List.{List, [], _∷_, _++_}
 use native.Mathlib.Omega.{arith}
@@ -45,6 +45,14 @@ readRecords-back zero (r ∷ rs) h k = absurd (not-suc-le-zero h)
 readRecords-back (suc n) (r ∷ rs) h k =
     readRecords-got n (writeRecord r ++ writeAll writeRecord rs) r (writeAll writeRecord rs) (readRecord-back r (k .0) .reads (writeAll writeRecord rs))
     ∙ ap (λ (more : Records). record { records = r ∷ more .records; ending = more .ending }) (readRecords-back n rs (le-of-suc-le-suc h) (k .1))
+
+-- equal bytes are equal records, for lists of any length
+pub writeRecords-injective : (xs ys : List Record) → Each IsAllowed xs → Each IsAllowed ys → writeAll writeRecord xs ≡ writeAll writeRecord ys → xs ≡ ys
+writeRecords-injective xs ys h k e =
+    ap (λ (x : Records). x .records)
+    (sym (readRecords-back (length xs + length ys) xs (omega arith) h)
+    ∙ ap (readRecords (length xs + length ys)) e
+    ∙ readRecords-back (length xs + length ys) ys (omega arith) k)
 
 follow-allowed : (m : Read Record) → Got IsAllowed m → (more : List ℕ → Records) → ((t : List ℕ) → Each IsAllowed (more t .records)) → Each IsAllowed (followed m more .records)
 follow-allowed (refused f) h more k = tt

@@ -1,7 +1,8 @@
 -- What the answers of the functions that read signatures mean on a page.
 use Prim.Native.Nat.{ℕ}
 use mathlib.Core.List.{List}
-use lib.ListN.{drop}
+use mathlib.Core.Path.{_≡_}
+use lib.ListN.{length, drop}
 use Rattle.page.specs.Read.{Read, refused, got, Reader, _>>=_, return}
 use Rattle.page.specs.Text.{Text}
 use Rattle.page.specs.Answers.{faultOf, spanOn, Lies}
@@ -9,6 +10,8 @@ use Rattle.records.specs.Kind.{Kind}
 use Rattle.records.specs.Field.{readKind}
 use Rattle.records.specs.Signature as signature
 use Rattle.records.specs.Answers.{kindOf, kindsOn}
+use Rattle.page.specs.declared.list.ListField.{ListField}
+use Rattle.page.specs.declared.list.ListField.the-variants as list-answer
 use Rattle.records.specs.declared.signature.Variadic.{Variadic}
 use Rattle.records.specs.declared.signature.Variadic.the-variants.{Fixed, Unlimited, UpTo}
 use Rattle.records.specs.declared.signature.VariadicField.{VariadicField}
@@ -36,9 +39,18 @@ abbrev pub functionAt : List ℕ → FunctionField → Read signature.Function
 functionAt page (function-answer.Got f next) = got (functionOn page f) (drop next page)
 functionAt page (function-answer.Bad f) = refused (faultOf f)
 
--- the name lies on the page
+-- a list of kinds has as many as its count says
+abbrev pub kindsWhole : List ℕ → ListField → Type 0
+kindsWhole page (list-answer.Got start count next) = length (kindsOn page start count) ≡ count
+kindsWhole page (list-answer.Bad f) = Unit {0}
+
+-- the name lies on the page, and there are as many kinds as are declared
+pub record FunctionLies (page : List ℕ) (f : Function) : Type 0 where
+  pub name : Lies page (f .name)
+  pub kinds : length (kindsOn page (f .kinds) (f .declared)) ≡ f .declared
+
 abbrev pub functionLies : List ℕ → FunctionField → Type 0
-functionLies page (function-answer.Got f next) = Lies page (f .name)
+functionLies page (function-answer.Got f next) = FunctionLies page f
 functionLies page (function-answer.Bad f) = Unit {0}
 
 -- what follows the name and the kinds in `readFunction`

@@ -81,7 +81,7 @@ fn read_function_rest(
     kinds: usize,
     declared: usize,
 ) -> FunctionField
-    requires { ⌜ Lies (now page) name ⌝ }
+    requires { ⌜ Lies (now page) name × (length (kindsOn (now page) kinds declared) ≡ declared) ⌝ }
     ensures { λ r. ⌜ functionAt (now (page .entry)) r ≡ readFunctionRest (spanOn (now (page .entry)) name) (kindsOn (now (page .entry)) kinds declared) (drop at (now (page .entry))) ⌝ }
     ensures { λ r. ⌜ functionLies (now (page .entry)) r ⌝ }
 {

@@ -2,6 +2,7 @@
 -- buffer holds afterwards.
 use Prim.Native.Nat.{ℕ}
 use Prim.Native.String.{String}
+use mathlib.Core.Path.{_≡_}
 use mathlib.Core.List.{List, _++_}
 use lib.ListN.{length, take, drop, replicate}
 use lib.Dec.{leb}
@@ -35,6 +36,11 @@ written k records text buffer =
 abbrev pub writing : (Expr → List ℕ) → Checked Expr → List ℕ → Called
 writing textOf (accepted e n) buffer = written (valueType e) n (textOf e) buffer
 writing textOf (refusedAt n i) buffer = record { outcome = refusal n i; buffer = buffer }
+
+-- what a call did: its answer, and what the buffer holds afterwards, are those
+pub record Does (called : Called) (outcome : Outcome) (buffer : List ℕ) : Type 0 where
+  pub answers : outcome ≡ called .outcome
+  pub leaves : buffer ≡ called .buffer
 
 abbrev pub copy : List ℕ → List ℕ → Called
 copy page = writing (λ e. copyPage page) (checkPage page)

@@ -16,7 +16,7 @@ use Rattle.copy.specs.Copy.{copyPage}
 use Rattle.util.specs.Decimal.{digits, decimal}
 use Rattle.util.specs.Escape.{escapeByte, escape, quote}
 use Rattle.util.specs.Duration.{countOf, countsOf, durationCounts, displayCount, displayCounts, displayDuration}
-use Rattle.label.specs.Label.{displayLabel, displayLabels, displayMatcher, atMost, insert, sort, displayMatchers}
+use Rattle.label.specs.Label.{displayLabel, displayLabels, displayMatcher, atMost, insert, sort, joinedByCommas, displayMatchers}
 use Rattle.text.specs.Display.{display}
 use Rattle.text.specs.Pretty.{pretty}
 use Rattle.records.specs.Outcome.{Outcome, answer, refusal}
@@ -112,5 +112,5 @@ unfolding readRecord readPage writeRecord checkAst apply checkPage copyPage disp
 tooShortForUp = tt
 
 starred : T (all holds examples)
-unfolding readRecord readPage writeRecord checkAst apply checkPage copyPage digits decimal escapeByte escape quote countOf countsOf durationCounts displayCount displayCounts displayDuration displayLabel displayLabels displayMatcher atMost insert sort displayMatchers display pretty
+unfolding readRecord readPage writeRecord checkAst apply checkPage copyPage digits decimal escapeByte escape quote countOf countsOf durationCounts displayCount displayCounts displayDuration displayLabel displayLabels displayMatcher atMost insert sort joinedByCommas displayMatchers display pretty
 starred = tt

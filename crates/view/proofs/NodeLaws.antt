@@ -98,7 +98,7 @@ module _ {page starts : List ℕ} {i j : ℕ} {parts : Parts} (s : Starts page s
   view-aggregate {c} {m} {n} r = record { seen = seen-aggregate tables j (b .low) _ _ (b .tree) c (labelModifierOn page m) n (r .reads); lies = tt }
 
   pub view-call : {f : _} {n : ℕ} → Standing page starts j (code.Call f n) → Viewed page i (record { own = own.Call f; end = j; count = n })
-  view-call {f} {n} r = record { seen = seen-call tables j (b .low) _ _ (b .tree) (functionOn page f) n (r .reads); lies = r .lies }
+  view-call {f} {n} r = record { seen = seen-call tables j (b .low) _ _ (b .tree) (functionOn page f) n (r .reads); lies = r .lies .name }
 
   -- ## Unary records
 

@@ -3,12 +3,20 @@
 //!     oracle answer HEX         what document 01 answers to a page
 //!     oracle run SEED ROUNDS    generated pages, and the classes that they reached
 //!     oracle keep               writes the kept list again
+//!     oracle show               prints the records of framed pages from standard input, as the reading program does
+//!     oracle write              writes what the program `sheet` must write for the page on standard input
+//!     oracle compare-program PROGRAM [WORDS]
+//!                               runs the program on the kept list and compares what it writes
+//!     oracle compare-reading SEED ROUNDS PROGRAM
+//!                               sends generated pages through the reading program and compares its lines
 
 use oracle::answer::{self, Outcome};
-use oracle::{hex, kept, run};
-use std::process::ExitCode;
+use oracle::{hex, kept, program, reading, run};
+use std::io::{stdin, stdout, BufReader, BufWriter, Read, Write};
+use std::process::{Command, ExitCode};
 
-const USAGE: &str = "usage: oracle answer HEX | run SEED ROUNDS | keep";
+const USAGE: &str = "usage: oracle answer HEX | run SEED ROUNDS | keep | show | write
+       | compare-reading SEED ROUNDS PROGRAM | compare-program PROGRAM [WORDS]";
 
 fn main() -> ExitCode {
     let arguments: Vec<String> = std::env::args().skip(1).collect();
@@ -17,6 +25,10 @@ fn main() -> ExitCode {
         ["answer", page] => show(&hex::bytes(page)),
         ["run", seed, rounds] => report(seed, rounds),
         ["keep"] => keep(),
+        ["show"] => show_records(),
+        ["write"] => write(),
+        ["compare-program", program, words @ ..] => compare_program(program, words),
+        ["compare-reading", seed, rounds, program] => compare_reading(seed, rounds, program),
         _ => Err(USAGE.into()),
     };
     match result {
@@ -64,5 +76,37 @@ fn keep() -> Result<(), String> {
     std::fs::write(kept::PATH, &list).map_err(|error| error.to_string())?;
     let (pages, accepted) = kept::counts(&entries);
     println!("{pages} pages, {accepted} accepted, {} bytes", list.len());
+    Ok(())
+}
+
+fn compare_reading(seed: &str, rounds: &str, program: &str) -> Result<(), String> {
+    let seed = seed.parse().map_err(|_| USAGE)?;
+    let rounds = rounds.parse().map_err(|_| USAGE)?;
+    let tally = reading::compare(seed, rounds, &mut Command::new(program))?;
+    println!(
+        "{} pages, {} lines: no difference",
+        tally.pages, tally.lines
+    );
+    Ok(())
+}
+
+fn show_records() -> Result<(), String> {
+    let input = BufReader::new(stdin().lock());
+    let output = BufWriter::new(stdout().lock());
+    reading::show(input, output).map_err(|error| error.to_string())
+}
+
+fn write() -> Result<(), String> {
+    let mut page = Vec::new();
+    let read = stdin().lock().read_to_end(&mut page);
+    read.map_err(|error| error.to_string())?;
+    let output = program::output(&page).map_err(|failure| failure.0)?;
+    let written = stdout().lock().write_all(&output);
+    written.map_err(|error| error.to_string())
+}
+
+fn compare_program(program: &str, words: &[&str]) -> Result<(), String> {
+    let pages = program::compare(program, words)?;
+    println!("{pages} pages: no difference");
     Ok(())
 }

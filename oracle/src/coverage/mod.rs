@@ -64,6 +64,15 @@ impl Coverage {
         }
     }
 
+    /// Takes over what another run reached.
+    pub fn add(&mut self, other: &Self) {
+        self.pages += other.pages;
+        self.accepted += other.accepted;
+        for (class, count) in &mut self.counts {
+            *count += other.counts[class];
+        }
+    }
+
     /// The classes that never occurred.
     pub fn missing(&self) -> Vec<&str> {
         self.counts

@@ -147,10 +147,10 @@ impl Coverage {
         if milliseconds == 0 {
             return;
         }
-        if milliseconds % (365 * DAY) == 0 {
+        if milliseconds.is_multiple_of(365 * DAY) {
             return self.hit("text: duration in y");
         }
-        if milliseconds % (7 * DAY) == 0 {
+        if milliseconds.is_multiple_of(7 * DAY) {
             return self.hit("text: duration in w");
         }
         self.hit_if(milliseconds > 365 * DAY, "text: a year in days");

@@ -29,10 +29,10 @@ impl Generator<'_> {
     pub fn magnitude(&mut self) -> u64 {
         match self.random.below(8) {
             0 => 0,
-            1 => MAX_NUMBER - self.random.next() % 3,
-            2 => self.random.next() % MAX_NUMBER,
+            1 => MAX_NUMBER - self.random.word() % 3,
+            2 => self.random.word() % MAX_NUMBER,
             3 => 10u64.pow(self.random.below(16) as u32),
-            _ => self.random.next() % 100,
+            _ => self.random.word() % 100,
         }
     }
 
@@ -48,8 +48,8 @@ impl Generator<'_> {
 
     pub fn duration(&mut self) -> u64 {
         match self.random.below(6) {
-            0 => self.random.next() % MAX_NUMBER,
-            1 => self.random.next() % 100_000_000,
+            0 => self.random.word() % MAX_NUMBER,
+            1 => self.random.word() % 100_000_000,
             2 => *self.random.pick(DURATIONS) * self.random.between(1, 9) as u64,
             _ => *self.random.pick(DURATIONS),
         }
@@ -57,9 +57,9 @@ impl Generator<'_> {
 
     pub fn at(&mut self) -> At {
         let time = match self.random.below(4) {
-            0 => MAX_AT_MILLISECONDS - self.random.next() % 2,
-            1 => self.random.next() % 3,
-            _ => self.random.next() % MAX_AT_MILLISECONDS,
+            0 => MAX_AT_MILLISECONDS - self.random.word() % 2,
+            1 => self.random.word() % 3,
+            _ => self.random.word() % MAX_AT_MILLISECONDS,
         };
         match self.random.below(4) {
             0 => At::Start,

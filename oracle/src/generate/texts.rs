@@ -45,7 +45,7 @@ impl Generator<'_> {
 
     pub fn metric_name(&mut self) -> Text<'static> {
         if self.random.chance(60) {
-            return self.from_list(METRICS);
+            return self.listed(METRICS);
         }
         let length = self.length(1);
         self.spelled(length, b"abzAZ_:", b"abzAZ_:019")
@@ -56,11 +56,11 @@ impl Generator<'_> {
         self.spelled(length, b"fgz_AZ", b"fgz_AZ09")
     }
 
-    /// One of a list that fits the room and is plain bytes.
-    fn from_list(&mut self, list: &[&'static str]) -> Text<'static> {
+    /// One of a list that fits the room.
+    fn listed(&mut self, list: &[&'static str]) -> Text<'static> {
         loop {
             let text = *self.random.pick(list);
-            if text.is_ascii() && text.len() <= self.room.max(8) {
+            if text.len() <= self.room.max(8) {
                 return Text::from(text);
             }
         }
@@ -81,7 +81,7 @@ impl Generator<'_> {
                 let length = self.length(1);
                 self.spelled(length, b"abz_AZ", b"abz_AZ09")
             }
-            _ => self.from_list(LABELS),
+            _ => self.listed(LABELS),
         }
     }
 
@@ -97,7 +97,7 @@ impl Generator<'_> {
 
     pub fn value(&mut self) -> Text<'static> {
         if self.random.chance(70) {
-            self.from_list(VALUES)
+            self.listed(VALUES)
         } else {
             self.any_text()
         }

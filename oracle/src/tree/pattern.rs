@@ -28,49 +28,73 @@ pub fn pattern(matcher: &Matcher) -> Pattern {
 
 /// Whether the pattern matches empty text; nothing if the Rust's regex does not take it.
 pub fn matches_empty(pattern: &str) -> Option<bool> {
-    operation(T_EQL_REGEX, pattern).map(|operation| is_match(operation, pattern))
+    with_known(pattern, |known| known.map(|known| known.matches_empty))
 }
 
-fn is_match(operation: MatchOp, pattern: &str) -> bool {
-    label::Matcher::new(operation, "", pattern).is_match("")
+/// A pattern that the Rust's regex takes, compiled for both operations as `new_matcher` does it.
+struct Known {
+    regex: MatchOp,
+    not_regex: MatchOp,
+    matches_empty: bool,
 }
 
-/// The Rust's operation for a token and a value, as `new_matcher` makes it; a compiled pattern is remembered.
-fn operation(id: TokenId, value: &str) -> Option<MatchOp> {
+impl Known {
+    fn new(pattern: &str) -> Option<Self> {
+        let operation = |id: TokenId| {
+            label::Matcher::new_matcher(id, String::new(), pattern.to_string())
+                .ok()
+                .map(|matcher| matcher.op)
+        };
+        let regex = operation(T_EQL_REGEX)?;
+        let matcher = label::Matcher::new(regex.clone(), "", pattern);
+        Some(Self {
+            regex,
+            not_regex: operation(T_NEQ_REGEX)?,
+            matches_empty: matcher.is_match(""),
+        })
+    }
+}
+
+/// Looks at a pattern; one that was compiled is remembered.
+fn with_known<T>(pattern: &str, look: impl FnOnce(Option<&Known>) -> T) -> T {
     const MOST: usize = 10_000;
     thread_local! {
-        static KNOWN: RefCell<HashMap<(TokenId, String), Option<MatchOp>>> = RefCell::default();
+        static KNOWN: RefCell<HashMap<String, Option<Known>>> = RefCell::default();
     }
     KNOWN.with_borrow_mut(|known| {
+        if let Some(known) = known.get(pattern) {
+            return look(known.as_ref());
+        }
         if known.len() >= MOST {
             known.clear();
         }
-        known
-            .entry((id, value.to_string()))
-            .or_insert_with(|| {
-                label::Matcher::new_matcher(id, String::new(), value.to_string())
-                    .ok()
-                    .map(|matcher| matcher.op)
-            })
-            .clone()
+        let new = known.entry(pattern.to_string());
+        look(new.or_insert_with(|| Known::new(pattern)).as_ref())
     })
 }
 
 pub fn matcher(matcher: &Matcher) -> label::Matcher {
     let name = matcher.name.text.as_ref();
     let value = matcher.value.text.as_ref();
-    let (id, flag) = match matcher.operation {
+    let (is_equal, flag) = match matcher.operation {
         Operation::Equal => return label::Matcher::new(MatchOp::Equal, name, value),
         Operation::NotEqual => return label::Matcher::new(MatchOp::NotEqual, name, value),
-        Operation::Regex(flag) => (T_EQL_REGEX, flag),
-        Operation::NotRegex(flag) => (T_NEQ_REGEX, flag),
+        Operation::Regex(flag) => (true, flag),
+        Operation::NotRegex(flag) => (false, flag),
     };
+    let operation = |known: &Known| match is_equal {
+        true => known.regex.clone(),
+        false => known.not_regex.clone(),
+    };
+    let inside = with_known(value, |known| {
+        known
+            .filter(|known| known.matches_empty == flag)
+            .map(operation)
+    });
     // Outside the domain the flag decides alone: a pattern that matches empty text just when the flag says so.
-    let judged = match pattern(matcher) {
-        Pattern::FlagTrue => value,
-        Pattern::FlagUntrue | Pattern::NotTaken if flag => "",
-        Pattern::FlagUntrue | Pattern::NotTaken => "a",
-    };
-    let operation = operation(id, judged).expect("the pattern is taken");
+    let operation = inside.unwrap_or_else(|| {
+        let judged = if flag { "" } else { "a" };
+        with_known(judged, |known| known.map(operation)).expect("the pattern is taken")
+    });
     label::Matcher::new(operation, name, value)
 }

@@ -13,11 +13,8 @@ impl Generator<'_> {
         match number {
             16 => {}
             17 => modifier.get_or_insert(none()).is_bool = true,
-            18 => {
-                if let Some(modifier) = &mut modifier {
-                    modifier.is_bool = false;
-                }
-            }
+            18 if self.random.chance(50) => modifier = None,
+            18 => modifier.get_or_insert(none()).is_bool = false,
             19 => self.make_joint(modifier.get_or_insert(none())),
             21 => {
                 let group = self.labels();
@@ -74,7 +71,7 @@ impl Generator<'_> {
                 18 => left == Kind::Scalar && right == Kind::Scalar,
                 20 => has(Kind::Scalar),
                 21 => are_vectors,
-                22 => !is_numeric && !(is_set_operator(code) && has(Kind::Scalar)),
+                22 => !(is_numeric || is_set_operator(code) && has(Kind::Scalar)),
                 23 => is_numeric && !are_vectors,
                 _ => true,
             };

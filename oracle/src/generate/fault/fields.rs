@@ -54,7 +54,7 @@ pub(super) fn fault(generator: &mut Generator, number: u8) -> Fault {
         3 => BEYOND,
         _ => NOT_ALLOWED,
     };
-    let notation: &str = *generator.random.pick(list);
+    let notation = generator.random.pick::<&str>(list);
     Fault {
         before: Vec::new(),
         record: hex::bytes(notation),

@@ -23,6 +23,11 @@ impl<'a> Reader<'a> {
         Self { page, at: 0 }
     }
 
+    /// Where the next field begins.
+    pub fn position(&self) -> usize {
+        self.at
+    }
+
     pub fn is_at_end(&self) -> bool {
         self.at == self.page.len()
     }

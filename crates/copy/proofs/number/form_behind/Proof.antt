@@ -1,14 +1,12 @@
+-- `copy::number::form_behind` meets its contract. Invariant: what is left to negate is the whole. Assumes nothing.
 use Prim.Native.Nat.{_+_, _-_}
-use Rattle.copy.proofs.UnaryLaws.{formBehind-more, formBehind-stop, formBehind-end}
-use Rattle.copy.specs.Piece.{formBehind}
-use lib.ListN.{length, drop}
 use mathlib.Core.Path.{_≡_, refl, sym, ap, _∙_}
+use lib.ListN.{length, drop}
 use borrow.Author.Needs.{needs}
+use Rattle.copy.specs.Piece.{formBehind}
+use Rattle.copy.proofs.UnaryLaws.{formBehind-more, formBehind-stop, formBehind-end}
 use Rattle.copy.proofs.number.form_behind.Statement.{statement}
 use Rattle.copy.proofs.number.form_behind.Tie as tie
-use Rattle.copy.proofs.number.form_behind.Reads as reads
-use Rattle.copy.proofs.number.form_behind.Lts as lts
-use Rattle.copy.proofs.number.negated_form.Reads as negated-form-reads
 
 abbrev Inv-loop : tie.InvT-loop
 Inv-loop form page at negated₀ i₀ negated i = formBehind form (drop at page) ≡ formBehind negated (drop i page)

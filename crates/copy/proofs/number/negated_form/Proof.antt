@@ -1,9 +1,7 @@
+-- `copy::number::negated_form` meets its contract: an arm for each form that changes. Assumes nothing.
 use borrow.Author.Tests.{ne-eqb}
-use borrow.Author.Needs.{needs}
 use Rattle.copy.proofs.number.negated_form.Statement.{statement}
 use Rattle.copy.proofs.number.negated_form.Tie as tie
-use Rattle.copy.proofs.number.negated_form.Reads as reads
-use Rattle.copy.proofs.number.negated_form.Lts as lts
 
 returns : tie.Need-returns
 returns c = rw (c .match .keys1)

@@ -1,31 +1,27 @@
+-- `copy::number::put_number` meets its contract: kind, form and magnitude, one after the other. Assumes nothing.
 use Prim.Native.Nat.{_+_, _-_, _≤_}
 use mathlib.Core.Path.{sym, ap}
 use mathlib.Core.List.{[], _∷_}
 use native.Mathlib.Omega.{arith}
 use denote.Ref.{now}
 use lib.ListN.{take, drop, getD}
+use borrow.Author.Needs.{needs}
 use Rattle.base.specs.Splice.{Run, start, fits, next, next-as, end}
 use Rattle.copy.specs.Piece.{formBehind, pieceOf}
-use Rattle.copy.proofs.SpanLaws.{number-wide, number-piece}
-use borrow.Author.Needs.{needs}
+use Rattle.copy.proofs.NumberPieceLaws.{number-wide, number-piece}
 use Rattle.copy.proofs.number.put_number.Statement.{statement}
 use Rattle.copy.proofs.number.put_number.Tie as tie
-use Rattle.copy.proofs.number.put_number.Reads as reads
-use Rattle.copy.proofs.number.put_number.Lts as lts
-use Rattle.copy.proofs.number.form_behind.Reads as form-behind-reads
-use Rattle.page.proofs.put_byte.Reads as put-byte-reads
-use Rattle.page.proofs.put_bytes.Reads as put-bytes-reads
 
 -- the number ends behind its form
 wide : (c : tie.Start) → c .args .start + 2 ≤ c .args .next
-wide c = number-wide _ _ _ (c .pre .0 .span) (c .pre .1)
+wide c = number-wide (c .pre .0 .span) (c .pre .1)
 
 -- the run, before the first write
 begun : (c : tie.Start) → let a = c .args in
     Run (now (a .out)) (now (a .out)) (a .at) (pieceOf (drop (a .start) (now (a .page))))
     ((0 ∷ []) ∷ (formBehind (getD (now (a .page)) (a .start + 1) 0) (drop (a .next) (now (a .page))) ∷ []) ∷ take (a .next - (a .start + 2)) (drop (a .start + 2) (now (a .page))) ∷ [])
     (a .at)
-begun c = start (c .pre .0 .room) (number-piece _ _ _ (c .pre .0 .span) (c .pre .1))
+begun c = start (c .pre .0 .room) (number-piece (c .pre .0 .span) (c .pre .1))
 
 put-byte-requires : tie.Need-put-byte-requires
 put-byte-requires c κs = fits (begun (c .before .before .before))

@@ -1,14 +1,13 @@
-use Rattle.copy.proofs.UnaryLaws.{unaries-more, unaries-stop, unaries-end}
-use Rattle.copy.specs.Piece.{unaries}
-use lib.ListN.{length, drop}
-use native.Mathlib.Omega.{arith}
-use mathlib.Core.Path.{_≡_, refl, sym, ap, _∙_}
+-- `copy::number::unaries_at` meets its contract. Invariant: those counted, and those from here on. Assumes nothing.
 use Prim.Native.Nat.{_+_, _-_, _≤_}
+use mathlib.Core.Path.{_≡_}
+use native.Mathlib.Omega.{arith}
+use lib.ListN.{length, drop}
 use borrow.Author.Needs.{needs}
+use Rattle.copy.specs.Piece.{unaries}
+use Rattle.copy.proofs.UnaryLaws.{unaries-more, unaries-stop, unaries-end}
 use Rattle.copy.proofs.number.unaries_at.Statement.{statement}
 use Rattle.copy.proofs.number.unaries_at.Tie as tie
-use Rattle.copy.proofs.number.unaries_at.Reads as reads
-use Rattle.copy.proofs.number.unaries_at.Lts as lts
 
 abbrev Inv-loop : tie.InvT-loop
 Inv-loop page at count₀ i₀ count i = (unaries (drop at page) ≡ count + unaries (drop i page)) × (count ≤ i)

@@ -1,4 +1,5 @@
 -- `records::kind::kinds_from` meets its contract. The loop's invariant: `left` kinds are still to be passed over from `at` on. Assumes nothing.
+use Rattle.page.proofs.ListLaws.{read-length}
 use borrow.Author.Needs.{needs}
 use mathlib.Core.Path.{_≡_, refl, _∙_}
 use lib.ListN.{drop}
@@ -40,10 +41,12 @@ enum-told c = search needs
 returns : tie.Need-returns Inv-loop μ-loop
 returns c =
     let e = rw (c .enum-told .given .1) at (c .before .before .read-kind .ensures) in
-    one-refused readKind _ _ (c .before .before .before .before .loop .left) (drop (c .before .before .before .before .loop .at) (now (c .before .before .before .before .before .before .args .page))) (c .before .before .before .before .loop .inv) (c .before .before .before .loop-test .taken) e
+    (one-refused readKind _ _ (c .before .before .before .before .loop .left) (drop (c .before .before .before .before .loop .at) (now (c .before .before .before .before .before .before .args .page))) (c .before .before .before .before .loop .inv) (c .before .before .before .loop-test .taken) e, tt)
 
 returns-2 : tie.Need-returns-2 Inv-loop μ-loop
-returns-2 c = all-read readKind _ _ (c .before .loop .left) (drop (c .before .loop .at) (now (c .before .before .before .args .page))) (c .before .loop .inv) (c .loop-test .left)
+returns-2 c =
+    let e = all-read readKind (c .before .before .before .args .count) (drop (c .before .before .before .args .start) (now (c .before .before .before .args .page))) (c .before .loop .left) (drop (c .before .loop .at) (now (c .before .before .before .args .page))) (c .before .loop .inv) (c .loop-test .left) in
+    (e, read-length readKind (c .before .before .before .args .count) (drop (c .before .before .before .args .start) (now (c .before .before .before .args .page))) e)
 
 pub kinds-from-spec : {M : Type 1} → statement M
 kinds-from-spec =

@@ -16,7 +16,7 @@ enum-known-kinds : tie.Need-enum-known-kinds
 enum-known-kinds c = search needs
 
 read-function-rest-requires : tie.Need-read-function-rest-requires
-read-function-rest-requires c κs = rw (c .before .before .before .before .before .name .given .1) at (c .before .before .before .before .before .before .before .read-text .ensures .1)
+read-function-rest-requires c κs = (rw (c .before .before .before .before .before .name .given .1) at (c .before .before .before .before .before .before .before .read-text .ensures .1), rw (c .before .kinds .given .1) at (c .before .before .before .read-kinds .ensures .1))
 
 enum-known-f : tie.Need-enum-known-f
 enum-known-f c = search needs
@@ -27,13 +27,13 @@ enum-known-f-2 c = search needs
 returns : tie.Need-returns
 returns c =
     let e = rw (c .before .before .before .before .before .before .name .given .1) at (c .before .before .before .before .before .before .before .before .read-text .ensures .0) in
-    let f = rw (c .before .before .kinds .given .1) at (c .before .before .before .before .read-kinds .ensures) in
+    let f = rw (c .before .before .kinds .given .1) at (c .before .before .before .before .read-kinds .ensures .0) in
     (simp (← e, ← f, c .read-function-rest .ensures .0), c .read-function-rest .ensures .1)
 
 returns-2 : tie.Need-returns-2
 returns-2 c =
     let e = rw (c .before .before .before .before .before .name .given .1) at (c .before .before .before .before .before .before .before .read-text .ensures .0) in
-    let g = rw (c .before .f .given .1) at (c .before .before .before .read-kinds .ensures) in
+    let g = rw (c .before .f .given .1) at (c .before .before .before .read-kinds .ensures .0) in
     (simp (← e, ← g), tt)
 
 returns-3 : tie.Need-returns-3

@@ -22,7 +22,7 @@ enum-known-f : tie.Need-enum-known-f
 enum-known-f c = search needs
 
 returns : tie.Need-returns
-returns c = let e = rw (c .before .before .before .before .before .variadic .given .1) at (c .before .before .before .before .before .before .before .read-variadic .ensures) in let f = rw (c .before .result .given .1) at (c .before .before .before .read-kind .ensures) in (simp (← e, ← f), c .before .before .before .before .before .before .before .before .before .pre)
+returns c = let e = rw (c .before .before .before .before .before .variadic .given .1) at (c .before .before .before .before .before .before .before .read-variadic .ensures) in let f = rw (c .before .result .given .1) at (c .before .before .before .read-kind .ensures) in (simp (← e, ← f), record { name = c .before .before .before .before .before .before .before .before .before .pre .0; kinds = c .before .before .before .before .before .before .before .before .before .pre .1 })
 
 returns-2 : tie.Need-returns-2
 returns-2 c = let e = rw (c .before .before .before .before .variadic .given .1) at (c .before .before .before .before .before .before .read-variadic .ensures) in let f = rw (c .enum-told .given .1) at (c .before .before .read-kind .ensures) in (simp (← e, ← f), tt)

@@ -1,0 +1,59 @@
+-- `copy::operator::put_absent` meets its contract: kind and code off the page, then the modifier written out. Assumes nothing.
+use Prim.Native.Nat.{_+_, _-_}
+use mathlib.Core.List.{[], _∷_}
+use native.Mathlib.Omega.{arith}
+use denote.Ref.{now}
+use lib.ListN.{take, drop}
+use borrow.Author.Needs.{needs}
+use Rattle.base.specs.Splice.{Run, start, fits, next, end}
+use Rattle.copy.specs.Piece.{setModifier, pieceOf}
+use Rattle.copy.proofs.OperatorLaws.{operator-wide, absent-piece}
+use Rattle.copy.proofs.operator.put_absent.Statement.{statement}
+use Rattle.copy.proofs.operator.put_absent.Tie as tie
+
+-- the run, before the first write
+begun : (c : tie.Start) → let a = c .args in
+    Run (now (a .out)) (now (a .out)) (a .at) (pieceOf (drop (a .start) (now (a .page))))
+    (take (a .start + 2 - a .start) (drop (a .start) (now (a .page))) ∷ setModifier ∷ []) (a .at)
+begun c = start (c .pre .0 .room) (absent-piece (c .pre .1) (c .pre .2))
+
+add-modifier : tie.Need-add-modifier
+add-modifier c = omega (arith, operator-wide (c .before .before .pre .0 .span) (c .before .before .pre .1 .kind), c .before .before .pre .0 .span .inside)
+
+sub-put-bytes : tie.Need-sub-put-bytes
+sub-put-bytes c = search needs
+
+part-put-bytes-start : tie.Need-part-put-bytes-start
+part-put-bytes-start c = search needs
+
+part-put-bytes-end : tie.Need-part-put-bytes-end
+part-put-bytes-end c = omega (arith, operator-wide (c .before .before .pre .0 .span) (c .before .before .pre .1 .kind), c .before .before .pre .0 .span .inside)
+
+put-bytes-requires : tie.Need-put-bytes-requires
+put-bytes-requires c κs = fits (begun (c .before .before .before .before))
+
+slice-aggregate-put-bytes : tie.Need-slice-aggregate-put-bytes
+slice-aggregate-put-bytes c = search needs
+
+put-bytes-requires-2 : tie.Need-put-bytes-requires-2
+put-bytes-requires-2 c κs = fits (next (begun (c .before .before .before .before .before .before .before .before .before)) (c .before .before .before .before .put-bytes .ensures))
+
+same-length : tie.Need-same-length
+same-length c = search needs
+
+returns : tie.Need-returns
+returns c = end (next (next (begun (c .before .before .before .before .before .before .before .before .before .before .before .before)) (c .before .before .before .before .before .before .before .put-bytes .ensures)) (c .before .before .put-bytes2 .ensures))
+
+pub put-absent-spec : {M : Type 1} → statement M
+put-absent-spec =
+    tie.close
+    (tie.spec
+    add-modifier
+    sub-put-bytes
+    part-put-bytes-start
+    part-put-bytes-end
+    put-bytes-requires
+    slice-aggregate-put-bytes
+    put-bytes-requires-2
+    same-length
+    returns)

@@ -1,0 +1,83 @@
+-- The measure is the matchers left. Assumes nothing.
+-- `label::matcher::more_matchers_len` meets its contract. Invariant: the sum so far and what is left come to the whole, up to the cap.
+use borrow.Author.Needs.{needs}
+use denote.Ref.{now}
+use Prim.Native.Nat.{_+_, _≤_, min}
+use native.Mathlib.Omega.{arith}
+use mathlib.Core.Path.{_≡_}
+use mathlib.Core.List.{map}
+use lib.ListN.{length, drop}
+use Rattle.records.specs.Answers.{matchersOn}
+use Rattle.label.specs.Label.{displayMatcher, moreByCommas}
+use Rattle.label.proofs.JoinLaws.{matchers-none, matchers-refused, matchers-sum-on}
+use Rattle.label.proofs.matcher.more_matchers_len.Statement.{statement}
+use Rattle.label.proofs.matcher.more_matchers_len.Tie as tie
+
+abbrev Inv-loop : tie.InvT-loop
+Inv-loop page start count cap total₀ at₀ left₀ total at left = (min (length (moreByCommas (map displayMatcher (matchersOn page start count)))) cap
+    ≡ min (total + length (moreByCommas (map displayMatcher (matchersOn page at left)))) cap) × (total ≤ cap)
+
+abbrev μ-loop : tie.MeasureT-loop
+μ-loop page start count cap total₀ at₀ left₀ total at left = left
+
+loop-holds : tie.Need-loop-holds Inv-loop μ-loop
+loop-holds c = (omega arith, omega arith)
+
+returns : tie.Need-returns Inv-loop μ-loop
+returns c = omega (arith, c .before .before .loop .inv)
+
+read-matcher-requires : tie.Need-read-matcher-requires Inv-loop μ-loop
+read-matcher-requires c κs = search needs
+
+enum-known-matcher : tie.Need-enum-known-matcher Inv-loop μ-loop
+enum-known-matcher c = search needs
+
+matcher-len-requires : tie.Need-matcher-len-requires Inv-loop μ-loop
+matcher-len-requires c κs = rw (c .before .matcher .given .1) at (c .before .before .before .read-matcher .ensures .1)
+
+capped-add-requires : tie.Need-capped-add-requires Inv-loop μ-loop
+capped-add-requires c κs = search needs
+
+capped-add-requires-2 : tie.Need-capped-add-requires-2 Inv-loop μ-loop
+capped-add-requires-2 c κs = search needs
+
+sub-left : tie.Need-sub-left Inv-loop μ-loop
+sub-left c = search needs
+
+loop-less : tie.Need-loop-less Inv-loop μ-loop
+loop-less c = search needs
+
+loop-again : tie.Need-loop-again Inv-loop μ-loop
+loop-again c = (
+  matchers-sum-on _ _ _ _ _ _ _ _ (c .before .before .before .before .before .before .before .before .loop-test .taken) (rw (c .before .before .before .before .matcher .given .1) at (c .before .before .before .before .before .before .read-matcher .ensures .0)) (c .before .before .before .before .before .before .before .before .before .loop .inv .0) (c .before .before .matcher-len .ensures) (c .before .capped-add .ensures) (c .capped-add2 .ensures),
+  omega (arith, c .capped-add2 .ensures),
+)
+
+enum-known-fault : tie.Need-enum-known-fault Inv-loop μ-loop
+enum-known-fault c = search needs
+
+returns-2 : tie.Need-returns-2 Inv-loop μ-loop
+returns-2 c = omega (arith, c .before .before .before .before .before .before .loop .inv, matchers-refused (c .before .before .before .before .before .before .loop .left) (drop (c .before .before .before .before .before .before .loop .at) (now (c .before .before .before .before .before .before .before .before .args .page))) (rw (c .before .fault .given .1) at (c .before .before .before .read-matcher .ensures .0)))
+
+returns-3 : tie.Need-returns-3 Inv-loop μ-loop
+returns-3 c = omega (arith, c .before .loop .inv, matchers-none (c .before .loop .left) (drop (c .before .loop .at) (now (c .before .before .before .args .page))) (c .loop-test .left))
+
+pub more-matchers-len-spec : {M : Type 1} → statement M
+more-matchers-len-spec =
+    tie.close
+    (tie.spec
+    Inv-loop
+    μ-loop
+    loop-holds
+    returns
+    read-matcher-requires
+    enum-known-matcher
+    matcher-len-requires
+    capped-add-requires
+    capped-add-requires-2
+    sub-left
+    loop-less
+    loop-again
+    enum-known-fault
+    returns-2
+    returns-3)

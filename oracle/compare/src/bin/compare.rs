@@ -1,0 +1,49 @@
+//! Command line of the comparison.
+//!
+//!     compare fixed                       chosen pages, limits, every byte string of at most two bytes
+//!     compare seeds FIRST LAST THREADS    one round of generated pages for each seed
+
+use compare::library::Library;
+use compare::run::{self, Tally};
+use std::process::ExitCode;
+
+const USAGE: &str = "usage: compare fixed | seeds FIRST LAST THREADS";
+
+fn main() -> ExitCode {
+    let arguments: Vec<String> = std::env::args().skip(1).collect();
+    let words: Vec<&str> = arguments.iter().map(String::as_str).collect();
+    let library = Library::linked();
+    let result = match words.as_slice() {
+        _ if library.calls().is_empty() => Err("built without the library's calls".into()),
+        ["fixed"] => run::fixed(library),
+        ["seeds", first, last, threads] => seeds(library, first, last, threads),
+        _ => Err(USAGE.into()),
+    };
+    match result {
+        Ok(tally) => {
+            report(&library, &tally);
+            ExitCode::SUCCESS
+        }
+        Err(words) => {
+            eprintln!("{words}");
+            ExitCode::FAILURE
+        }
+    }
+}
+
+fn seeds(library: Library, first: &str, last: &str, threads: &str) -> Result<Tally, String> {
+    let first = first.parse().map_err(|_| USAGE)?;
+    let last = last.parse().map_err(|_| USAGE)?;
+    let threads = threads.parse().map_err(|_| USAGE)?;
+    run::seeds(library, first..=last, threads)
+}
+
+fn report(library: &Library, tally: &Tally) {
+    print!("{}", tally.coverage);
+    println!(
+        "{}: {} pages, {} calls, no difference",
+        library.calls().join(", "),
+        tally.coverage.pages,
+        tally.calls
+    );
+}

@@ -1,0 +1,72 @@
+//! The comparison passes a library that answers by the oracle, and finds every planted fault.
+
+mod standin;
+
+use compare::library::Library;
+use compare::run;
+use standin::straying;
+use std::env;
+use std::process::{Command, Output};
+
+/// Names the straying library that this program is started again with.
+const STRAYS: &str = "STRAYS";
+
+fn compared(library: Library) -> Result<run::Tally, String> {
+    run::seeds(library, 1..=4, 2)
+}
+
+#[test]
+fn the_oracle_agrees_with_itself() {
+    let tally = compared(standin::whole()).expect("no difference");
+    assert!(tally.coverage.pages > 600);
+    assert!(tally.calls > 10 * tally.coverage.pages);
+}
+
+#[test]
+fn calls_that_are_absent_are_not_compared() {
+    let library = Library {
+        check: standin::whole().check,
+        ..Library::default()
+    };
+    let tally = compared(library).expect("no difference");
+    assert_eq!(tally.calls, 2 * tally.coverage.pages);
+}
+
+#[test]
+fn planted_faults_are_found() {
+    for (words, blamed, library) in standin::faulty() {
+        let found = compared(library).err();
+        let difference = found.unwrap_or_else(|| panic!("not found: {words}"));
+        assert!(difference.contains(blamed), "{words}: {difference}");
+        assert!(difference.contains("\npage: "), "{words}: {difference}");
+    }
+}
+
+/// Starts this program again, with the one test that runs a straying library.
+fn started_with(library: &str) -> Output {
+    Command::new(env::current_exe().expect("this program has a path"))
+        .args(["--exact", "a_straying_library_runs", "--nocapture"])
+        .env(STRAYS, library)
+        .output()
+        .expect("this program starts")
+}
+
+#[test]
+fn a_straying_library_runs() {
+    if let Ok(library) = env::var(STRAYS) {
+        let _ = compared(straying::library(&library));
+    }
+}
+
+#[test]
+fn straying_is_stopped_and_its_page_named() {
+    for library in straying::ALL {
+        let output = started_with(library);
+        let words = String::from_utf8_lossy(&output.stderr);
+        assert!(
+            words.contains("a call faults\npage: "),
+            "{library}: {words}"
+        );
+        assert!(!output.status.success(), "{library}");
+    }
+}

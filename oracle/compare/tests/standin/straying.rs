@@ -1,0 +1,68 @@
+//! Libraries that read or write where they must not: the machine stops them.
+
+use super::{check, copy, whole};
+use compare::library::Library;
+
+pub fn library(name: &str) -> Library {
+    let whole = whole();
+    match name {
+        "reads behind the page" => Library {
+            check: Some(reads_behind),
+            ..whole
+        },
+        "reads before the page" => Library {
+            check: Some(reads_before),
+            ..whole
+        },
+        "writes behind the buffer" => Library {
+            copy: Some(writes_behind),
+            ..whole
+        },
+        "writes to the page" => Library {
+            copy: Some(writes_page),
+            ..whole
+        },
+        _ => panic!("no such library"),
+    }
+}
+
+pub const ALL: [&str; 4] = [
+    "reads behind the page",
+    "reads before the page",
+    "writes behind the buffer",
+    "writes to the page",
+];
+
+extern "C" fn reads_behind(page: *const u8, length: usize) -> u64 {
+    // SAFETY: none, that is the fault: the byte behind the page.
+    let byte = unsafe { page.add(length).read_volatile() };
+    check(page, length) | u64::from(byte & 0)
+}
+
+extern "C" fn reads_before(page: *const u8, length: usize) -> u64 {
+    // SAFETY: none, that is the fault: the byte before the page.
+    let byte = unsafe { page.sub(1).read_volatile() };
+    check(page, length) | u64::from(byte & 0)
+}
+
+extern "C" fn writes_behind(
+    page: *const u8,
+    length: usize,
+    out: *mut u8,
+    out_length: usize,
+) -> u64 {
+    // SAFETY: none, that is the fault: the byte behind the buffer, with the value that it has.
+    unsafe {
+        let behind = out.add(out_length);
+        behind.write_volatile(behind.read_volatile());
+    }
+    copy(page, length, out, out_length)
+}
+
+extern "C" fn writes_page(page: *const u8, length: usize, out: *mut u8, out_length: usize) -> u64 {
+    if length > 0 {
+        // SAFETY: none, that is the fault: the page is lent for reading, though the value stays.
+        unsafe { page.cast_mut().write_volatile(*page) };
+    }
+    copy(page, length, out, out_length)
+}
