@@ -62,3 +62,11 @@ measured-of text gap cap r h =
 -- a gap that was measured up to a cap serves up to that cap
 pub own-gap : (n cap gap : ℕ) → gap ≡ min n cap → min n cap ≡ min gap cap
 own-gap n cap gap e = omega arith
+
+-- ## The same length by another name, and with so many bytes more
+
+pub len-as : (a b : List ℕ) (cap : ℕ) {r : ℕ} → a ≡ b → r ≡ min (length b) cap → r ≡ min (length a) cap
+len-as a b cap e h = rw e h
+
+pub len-plus : (text a b : List ℕ) (cap x r : ℕ) → text ≡ a ++ b → x ≡ min (length a) cap → r ≡ min (x + length b) cap → r ≡ min (length text) cap
+len-plus text a b cap x r e p q = omega (arith, ap length e ∙ length-append a b)

@@ -19,6 +19,16 @@ wrote-nothing o at e = rw e (record { holds = sym (splice-nil o at); ends = sym 
 pub wrote-as : {o p : List ℕ} {at : ℕ} {a b : List ℕ} {next : ℕ} → a ≡ b → Wrote o p at b next → Wrote o p at a next
 wrote-as e w = rw e w
 
+pub room-as : (a b : List ℕ) (at n : ℕ) → a ≡ b → at + length a ≤ n → at + length b ≤ n
+room-as a b at n e h = rw e at h
+
+two : (a b : List ℕ) → a ++ b ≡ join (a ∷ b ∷ [])
+unfolding join
+two a b = ap (λ (t : List ℕ). a ++ t) (sym (append-nil b))
+
+pub run-two : {text : List ℕ} (a b : List ℕ) (o : List ℕ) (at : ℕ) → text ≡ a ++ b → at + length text ≤ length o → Run o o at text (a ∷ b ∷ []) at
+run-two a b o at e h = start h (e ∙ two a b)
+
 three : (a b c : List ℕ) → a ++ (b ++ c) ≡ join (a ∷ b ∷ c ∷ [])
 unfolding join
 three a b c = ap (λ (t : List ℕ). a ++ (b ++ t)) (sym (append-nil c))

@@ -26,6 +26,8 @@ use Rattle.view.specs.declared.Own.{Own}
 use Rattle.view.specs.declared.Own.the-variants as own
 use Rattle.view.specs.declared.Signed.{Signed}
 use Rattle.view.specs.declared.Signed.the-variants as sign
+use Rattle.view.specs.declared.Form.{Form}
+use Rattle.view.specs.declared.Form.the-variants as form
 use Rattle.view.specs.declared.View.{View}
 
 -- the starts of the first n records, with some table of first records beside them
@@ -97,3 +99,23 @@ isMinus own.Paren = false
 isMinus (own.Binary c m) = false
 isMinus (own.Aggregate c m) = false
 isMinus (own.Call f) = false
+
+-- the way in which a node's text is put together, without its own texts
+abbrev pub formOf : Own → Form
+formOf (own.Number l) = form.Whole
+formOf (own.String s) = form.Whole
+formOf (own.Selector s p) = form.Whole
+formOf (own.Subquery n s p) = form.Suffixed
+formOf own.Unary = form.Minus
+formOf own.Paren = form.Enclosed
+formOf (own.Binary c m) = form.Infixed
+formOf (own.Aggregate c m) = form.Enclosed
+formOf (own.Call f) = form.Enclosed
+
+-- the layout of a form, from the node's own texts
+abbrev pub formed : Form → List ℕ → List ℕ → List ℕ → Layout
+formed form.Whole h o s = whole h
+formed form.Minus h o s = negation
+formed form.Suffixed h o s = suffixed s
+formed form.Enclosed h o s = enclosed h
+formed form.Infixed h o s = infixed o
