@@ -1,5 +1,6 @@
 pub mod LabelLaws
 pub mod SymbolLaws
+pub mod WalkLaws
 pub mod MatcherLaws
 pub mod KeyLaws
 pub mod SortLaws

@@ -85,11 +85,11 @@ spelled-some : (s : ℕ) (x : List ℕ) → atMost (spelled s ++ x) [] ≡ false
 unfolding atMost
 spelled-some s x = by-eq (s / 256) 92 (λ p. rw (two-bytes s p)) (λ p. rw (one-byte s p))
 
-nothing : (u : List ℕ) → atMost [] u ≡ true
+pub nothing : (u : List ℕ) → atMost [] u ≡ true
 unfolding atMost
 nothing u = refl
 
-some-more : (s : ℕ) (a : List ℕ) → atMost (s ∷ a) [] ≡ false
+pub some-more : (s : ℕ) (a : List ℕ) → atMost (s ∷ a) [] ≡ false
 unfolding atMost
 some-more s a = refl
 
@@ -219,45 +219,3 @@ pub symbol-last : (t : List ℕ) (j : ℕ) → length t < j → j < length t + 2
 unfolding symbols
 symbol-last t zero g h = absurd (not-suc-le-zero g)
 symbol-last t (suc j) g h = let e : j ≡ length t = omega arith in rw e (end t)
-
--- ## the order, from one place of the symbols to the next; x and y are the symbols there
-
-order-here : (a b : List ℕ) (j : ℕ) → j < length a → j < length b
-    → atMost (drop j a) (drop j b) ≡ atMost (getD a j 0 ∷ drop (j + 1) a) (getD b j 0 ∷ drop (j + 1) b)
-order-here a b j h k = rw (add-one, drop-cons a j 0 h, drop-cons b j 0 k)
-
-pub order-ends : (a b : List ℕ) (j : ℕ) → length a ≤ j → atMost (drop j a) (drop j b) ≡ true
-order-ends a b j h = rw (drop-of-length-le a h) (nothing (drop j b))
-
-pub order-longer : (a b : List ℕ) (j : ℕ) → j < length a → length b ≤ j → atMost (drop j a) (drop j b) ≡ false
-order-longer a b j h k = rw (drop-of-length-le b k, drop-cons a j 0 h) (some-more (getD a j 0) (drop (suc j) a))
-
-pub order-differs : (a b : List ℕ) (j x y : ℕ) → j < length a → j < length b → x ≡ getD a j 0 → y ≡ getD b j 0 → (x ≡ y → ⊥)
-    → ltb x y ≡ atMost (drop j a) (drop j b)
-order-differs a b j x y h k ex ey n =
-    by-lt x y
-    (λ l. lt-ltb x y l ∙ sym (order-here a b j h k ∙ at-most-less _ _ _ _ (omega arith)))
-    (λ l. le-ltb x y l ∙ sym (order-here a b j h k ∙ at-most-more _ _ _ _ (omega (arith, lt-of-ne l n))))
-  where
-    lt-of-ne : y ≤ x → (x ≡ y → ⊥) → y < x
-    lt-of-ne l n = by-lt y x (λ p. p) (λ p. absurd (n (omega arith)))
-
-pub order-goes-on : (a b : List ℕ) (j x y : ℕ) → j < length a → j < length b → x ≡ getD a j 0 → y ≡ getD b j 0 → x ≡ y
-    → atMost (drop j a) (drop j b) ≡ atMost (drop (j + 1) a) (drop (j + 1) b)
-order-goes-on a b j x y h k ex ey e = order-here a b j h k ∙ at-most-same _ _ _ _ (sym ex ∙ e ∙ ey)
-
--- ## the walk of `at_most`, over any two lists a and b of n and m symbols: w, the answer, is the order from j on
-
-pub ahead-longer : (w : Bool) (a b : List ℕ) (j n m : ℕ) → n ≡ length a → m ≡ length b → w ≡ atMost (drop j a) (drop j b) → j < n → m ≤ j → false ≡ w
-ahead-longer w a b j n m en em inv h k = sym (inv ∙ order-longer a b j (omega arith) (omega arith))
-
-pub ahead-differs : (w : Bool) (a b : List ℕ) (j n m x y : ℕ) → n ≡ length a → m ≡ length b → w ≡ atMost (drop j a) (drop j b) → j < n → j < m
-    → x ≡ getD a j 0 → y ≡ getD b j 0 → (x ≡ y → ⊥) → ltb x y ≡ w
-ahead-differs w a b j n m x y en em inv h k ex ey d = order-differs a b j x y (omega arith) (omega arith) ex ey d ∙ sym inv
-
-pub ahead-on : (w : Bool) (a b : List ℕ) (j n m x y : ℕ) → n ≡ length a → m ≡ length b → w ≡ atMost (drop j a) (drop j b) → j < n → j < m
-    → x ≡ getD a j 0 → y ≡ getD b j 0 → x ≡ y → w ≡ atMost (drop (j + 1) a) (drop (j + 1) b)
-ahead-on w a b j n m x y en em inv h k ex ey e = inv ∙ order-goes-on a b j x y (omega arith) (omega arith) ex ey e
-
-pub ahead-ends : (w : Bool) (a b : List ℕ) (j n : ℕ) → n ≡ length a → w ≡ atMost (drop j a) (drop j b) → n ≤ j → true ≡ w
-ahead-ends w a b j n en inv h = sym (inv ∙ order-ends a b j (omega arith))

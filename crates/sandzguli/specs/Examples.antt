@@ -16,6 +16,7 @@ use Rattle.copy.specs.Copy.{copyPage}
 use Rattle.util.specs.Decimal.{digits, decimal}
 use Rattle.util.specs.Escape.{escapeByte, escape, quote}
 use Rattle.util.specs.Duration.{countOf, countsOf, durationCounts, displayCount, displayCounts, displayDuration}
+use Rattle.util.specs.Numeral.{displayNumber, displayLiteral, displayFill}
 use Rattle.label.specs.Label.{displayLabel, displayLabels, displayMatcher, atMost, insert, sort, joinedByCommas, displayMatchers}
 use Rattle.text.specs.Display.{display}
 use Rattle.text.specs.Pretty.{pretty}
@@ -112,5 +113,5 @@ unfolding readRecord readPage writeRecord checkAst apply checkPage copyPage disp
 tooShortForUp = tt
 
 starred : T (all holds examples)
-unfolding readRecord readPage writeRecord checkAst apply checkPage copyPage digits decimal escapeByte escape quote countOf countsOf durationCounts displayCount displayCounts displayDuration displayLabel displayLabels displayMatcher atMost insert sort joinedByCommas displayMatchers display pretty
+unfolding readRecord readPage writeRecord checkAst apply checkPage copyPage digits decimal escapeByte escape quote countOf countsOf durationCounts displayCount displayCounts displayDuration displayNumber displayLiteral displayFill displayLabel displayLabels displayMatcher atMost insert sort joinedByCommas displayMatchers display pretty
 starred = tt

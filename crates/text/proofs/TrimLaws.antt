@@ -12,7 +12,7 @@ use Rattle.records.specs.Code.{word}
 use Rattle.records.specs.Literal.{Literal, plus, minus, nan, whole, infinite}
 use Rattle.util.specs.Decimal.{digits, decimal}
 use Rattle.util.specs.Escape.{quote}
-use Rattle.util.specs.Numeral.{displayLiteral}
+use Rattle.util.specs.Numeral.{displayNumber, displayLiteral}
 use Rattle.ast.specs.Expr.{Expr, Aggregate, AggregateParam, Unary, Binary, Paren, Subquery, NumberLiteral, StringLiteral, VectorSelector, MatrixSelector, Call}
 use Rattle.text.specs.Display.{display, displaySelector}
 use Rattle.text.specs.Pretty.{indent, trimStart}
@@ -71,7 +71,7 @@ digits-begin (suc k) n = by (ltb n 10) (digits-begin k (n / 10))
     by false d = begins-append _ d
 
 literal-begins : (l : Literal) → Begins (displayLiteral l)
-unfolding decimal
+unfolding decimal displayLiteral displayNumber
 literal-begins (plus (whole n)) = digits-begin n n
 literal-begins (plus infinite) = begins 73 _ (omega arith)
 literal-begins (minus m) = begins 45 _ (omega arith)

@@ -1,5 +1,5 @@
 -- Canonical text: `Display` of the tree (ast.rs, function.rs).
-use Prim.Native.Nat.{ℕ, _/_, _%_}
+use Prim.Native.Nat.{ℕ}
 use Prim.Native.String.{String}
 use mathlib.Core.Bool.{Bool, true, false}
 use mathlib.Core.List.{List, [], _∷_, _++_}
@@ -11,9 +11,9 @@ use Rattle.util.specs.Numeral.{displayLiteral, displayFill}
 use Rattle.records.specs.Field.{Labels}
 use Rattle.records.specs.Matcher.{Matcher, Selector}
 use Rattle.records.specs.Modifier.{LabelModifier, include, exclude, Cardinality, oneToOne, manyToMany, manyToOne, oneToMany, BinModifier}
-use Rattle.records.specs.Time.{Offset, pos, neg, AtModifier, start, end, after, before, Times}
-use Rattle.util.specs.Decimal.{decimal, threeDigits}
+use Rattle.records.specs.Time.{Times}
 use Rattle.util.specs.Duration.{displayDuration}
+use Rattle.util.specs.Time.{displayAt, displayOffset}
 use Rattle.util.specs.Escape.{quote}
 use Rattle.label.specs.Label.{displayLabels, displayMatchers}
 use Rattle.ast.specs.Expr.{Expr, Args, noArgs, arg, Aggregate, AggregateParam, Unary, Binary, Paren, Subquery, NumberLiteral, StringLiteral, VectorSelector, MatrixSelector, Call}
@@ -81,21 +81,6 @@ abbrev pub displayAggregator : ℕ → Option LabelModifier → List ℕ
 displayAggregator c m = word c ++ displayGrouping m
 
 -- ## Times
-
--- three decimals. Up to 10^15 ms the float that the Rust prints is near enough for all three to be right
-abbrev pub displayTime : ℕ → List ℕ
-displayTime ms = bytes "@ " ++ decimal (ms / 1000) ++ bytes "." ++ threeDigits (ms % 1000)
-
--- a time before 1970 prints as 1970, as the Rust does
-abbrev pub displayAt : AtModifier → List ℕ
-displayAt start = bytes "@ start()"
-displayAt end = bytes "@ end()"
-displayAt (after n) = displayTime n
-displayAt (before n) = displayTime 0
-
-abbrev pub displayOffset : Offset → List ℕ
-displayOffset (pos n) = displayDuration n
-displayOffset (neg n) = bytes "-" ++ displayDuration n
 
 abbrev pub displayTimes : Times → List ℕ
 displayTimes t = optional (λ a. bytes " " ++ displayAt a) (t .at) ++ optional (λ o. bytes " offset " ++ displayOffset o) (t .offset)

@@ -2,3 +2,5 @@ pub mod DecimalLaws
 pub mod EscapeLaws
 pub mod DurationLaws
 pub mod PartLaws
+pub mod NumeralLaws
+pub mod TimeLaws

@@ -11,15 +11,15 @@ displayMagnitude infinity (whole n) = decimal n
 displayMagnitude infinity infinite = bytes infinity
 
 -- the word for infinity is the only difference between the texts of a literal and of a fill
-abbrev pub displayNumber : String → Literal → List ℕ
+unfoldable pub displayNumber : String → Literal → List ℕ
 displayNumber infinity (plus m) = displayMagnitude infinity m
 displayNumber infinity (minus m) = bytes "-" ++ displayMagnitude infinity m
 displayNumber infinity nan = bytes "NaN"
 
 -- `Display` of `NumberLiteral`
-abbrev pub displayLiteral : Literal → List ℕ
+unfoldable pub displayLiteral : Literal → List ℕ
 displayLiteral = displayNumber "Inf"
 
 -- `Display` of an f64, as fills are printed
-abbrev pub displayFill : Literal → List ℕ
+unfoldable pub displayFill : Literal → List ℕ
 displayFill = displayNumber "inf"

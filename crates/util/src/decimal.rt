@@ -8,7 +8,7 @@ use page::put_byte;
 
 // How many digits n has.
 pub fn decimal_len(n: u64) -> usize
-    ensures { λ r. ⌜ r ≡ length (decimal n) ⌝ }
+    ensures { λ r. ⌜ (r ≡ length (decimal n)) × (r ≤ 20) ⌝ }
 {
     let mut left = n;
     let mut count: usize = 1;

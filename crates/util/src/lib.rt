@@ -3,7 +3,9 @@
 pub mod capped;
 pub mod decimal;
 pub mod duration;
+pub mod numeral;
 pub mod string;
+pub mod time;
 
 pub use capped::capped_add;
 pub use decimal::decimal_len;
@@ -12,8 +14,15 @@ pub use decimal::put_three_digits;
 pub use duration::breakdown;
 pub use duration::duration_len;
 pub use duration::put_duration;
+pub use numeral::numeral_len;
+pub use numeral::put_fill;
+pub use numeral::put_literal;
 pub use string::escape_letter;
 pub use string::escaped_len;
 pub use string::put_escaped;
 pub use string::put_quoted;
 pub use string::quoted_len;
+pub use time::at_len;
+pub use time::offset_len;
+pub use time::put_at;
+pub use time::put_offset;

@@ -7,7 +7,7 @@ use lib.ListN.{drop}
 use Rattle.label.specs.Symbols.{matcherText, matcherSymbols}
 use Rattle.label.specs.Label.{atMost}
 use Rattle.label.proofs.MatcherLaws.{matcher-order}
-use Rattle.label.proofs.SymbolLaws.{ahead-longer, ahead-differs, ahead-on, ahead-ends}
+use Rattle.label.proofs.WalkLaws.{ahead-longer, ahead-differs, ahead-on, ahead-ends}
 use Rattle.label.proofs.order.matcher_at_most.Statement.{statement}
 use Rattle.label.proofs.order.matcher_at_most.Tie as tie
 

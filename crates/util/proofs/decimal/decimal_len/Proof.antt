@@ -4,7 +4,7 @@ use native.Mathlib.Omega.{arith}
 use mathlib.Core.Path.{_≡_, ap}
 use lib.ListN.{length}
 use Rattle.util.specs.Decimal.{decimal}
-use Rattle.util.proofs.DecimalLaws.{decimal-last, decimal-length}
+use Rattle.util.proofs.DecimalLaws.{decimal-last, decimal-length, decimal-short-64}
 use Rattle.util.proofs.decimal.decimal_len.Statement.{statement}
 use Rattle.util.proofs.decimal.decimal_len.Tie as tie
 
@@ -27,7 +27,9 @@ loop-again : tie.Need-loop-again Inv-loop μ-loop
 loop-again c = omega (arith, decimal-length _ (c .loop-test .taken))
 
 returns : tie.Need-returns Inv-loop μ-loop
-returns c = omega (arith, ap length (decimal-last _ (c .loop-test .left)))
+returns c =
+    let short· = decimal-short-64 _ (c .before .before .fits .n .fits) in
+    (omega (arith, ap length (decimal-last _ (c .loop-test .left))), omega (arith, ap length (decimal-last _ (c .loop-test .left))))
 
 pub decimal-len-spec : {M : Type 1} → statement M
 decimal-len-spec =

@@ -1,7 +1,6 @@
 -- `util::duration::count_len` meets its contract. Assumes nothing.
 use borrow.Author.Needs.{needs}
 use native.Mathlib.Omega.{arith}
-use Rattle.util.proofs.DecimalLaws.{decimal-short-64}
 use Rattle.util.proofs.DurationLaws.{count-len-none, count-len-ms, count-len-one}
 use Rattle.util.proofs.duration.count_len.Statement.{statement}
 use Rattle.util.proofs.duration.count_len.Tie as tie
@@ -13,24 +12,20 @@ decimal-len-requires : tie.Need-decimal-len-requires
 decimal-len-requires c κs = search needs
 
 add-result : tie.Need-add-result
-add-result c =
-    let s = c .before .before .before in
-    omega (arith, decimal-short-64 _ (s .fits .count .fits))
+add-result c = omega (arith, c .before .decimal-len .ensures)
 
 returns-2 : tie.Need-returns-2
 returns-2 c =
     let s = c .before .before .before in
-    count-len-ms _ _ _ (s .fits .count .fits) (c .before .before .if1 .left) (s .pre) (c .if2 .taken) (c .before .decimal-len .ensures)
+    count-len-ms _ _ _ (s .fits .count .fits) (c .before .before .if1 .left) (s .pre) (c .if2 .taken) (c .before .decimal-len .ensures .0)
 
 add-result-2 : tie.Need-add-result-2
-add-result-2 c =
-    let s = c .before .before .before in
-    omega (arith, decimal-short-64 _ (s .fits .count .fits))
+add-result-2 c = omega (arith, c .before .decimal-len .ensures)
 
 returns-3 : tie.Need-returns-3
 returns-3 c =
     let s = c .before .before .before in
-    count-len-one _ _ _ (s .fits .count .fits) (c .before .before .if1 .left) (s .pre) (c .if2 .left) (c .before .decimal-len .ensures)
+    count-len-one _ _ _ (s .fits .count .fits) (c .before .before .if1 .left) (s .pre) (c .if2 .left) (c .before .decimal-len .ensures .0)
 
 pub count-len-spec : {M : Type 1} → statement M
 count-len-spec =

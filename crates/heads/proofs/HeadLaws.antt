@@ -1,0 +1,103 @@
+-- Modifiers, operators, aggregators and selectors in the pieces that are written, and their lengths up to a cap. Assumes nothing.
+use Prim.Native.Nat.{ℕ, zero, suc, _+_, _≤_, _<_, min}
+use native.Mathlib.Omega.{arith}
+use mathlib.Core.Bool.{Bool, true, false}
+use mathlib.Core.List.{List, [], _∷_, _++_, append-assoc, append-nil}
+use mathlib.Core.Option.{Option, none, some}
+use mathlib.Core.Path.{_≡_, refl, sym, ap, _∙_, subst}
+use lib.ListN.{length, length-append}
+use Rattle.base.specs.Splice.{Cut, join}
+use Rattle.page.specs.Bytes.{isEmpty}
+use Rattle.page.specs.Read.{FieldFault, refused, got}
+use Rattle.page.specs.Listed.{listed}
+use Rattle.page.proofs.ListLaws.{listed-more, listed-none, listed-refused}
+use Rattle.records.specs.Code.{word}
+use Rattle.records.specs.Matcher.{Matcher, readMatcher, Selector}
+use Rattle.records.specs.Modifier.{LabelModifier, BinModifier}
+use Rattle.records.specs.Answers.{binModifierOn, modifierOn, fillOf}
+use Rattle.records.specs.declared.modifier.Modifier.{Modifier}
+use Rattle.records.specs.declared.modifier.Modifier.the-variants.{None, Some}
+use Rattle.records.specs.declared.modifier.BinModifier.{BinModifier as CodeModifier}
+use Rattle.float.specs.Exact.{FillsExact, ModifierExact}
+use Rattle.label.specs.Label.{displayMatchers}
+use Rattle.text.specs.Display.{displayBool, displayMatching, displayCardinality, displayFills, displayModifier, displayOperator, displayGrouping, displayAggregator, displayBraces, displaySelector}
+use Rattle.heads.proofs.LabelledLaws.{four, never}
+
+-- ## displayModifier
+
+pub modifier-pieces : (m : BinModifier)
+    → displayModifier m ≡ join (displayBool (m .returnBool) ∷ displayMatching (m .matching) ∷ displayCardinality (m .card) ∷ displayFills (m .fillValues .lhs) (m .fillValues .rhs) ∷ [])
+unfolding join
+modifier-pieces m =
+    four (displayBool (m .returnBool)) (displayMatching (m .matching)) (displayCardinality (m .card)) (displayFills (m .fillValues .lhs) (m .fillValues .rhs))
+    ∙ ap (λ (l : List ℕ). displayBool (m .returnBool) ++ (displayMatching (m .matching) ++ (displayCardinality (m .card) ++ l))) (sym (append-nil (displayFills (m .fillValues .lhs) (m .fillValues .rhs))))
+
+length-modifier : (m : BinModifier)
+    → length (displayModifier m) ≡ length (displayBool (m .returnBool)) + length (displayMatching (m .matching)) + length (displayCardinality (m .card)) + length (displayFills (m .fillValues .lhs) (m .fillValues .rhs))
+length-modifier m =
+    let a = displayBool (m .returnBool) in
+    let b = displayMatching (m .matching) in
+    let c = displayCardinality (m .card) in
+    let d = displayFills (m .fillValues .lhs) (m .fillValues .rhs) in
+    omega (arith, length-append ((a ++ b) ++ c) d, length-append (a ++ b) c, length-append a b)
+
+-- the four lengths, added up to the cap
+pub modifier-measured : (m : BinModifier) (cap flag fills matching card matched sum : ℕ) → flag ≡ length (displayBool (m .returnBool))
+    → fills ≡ length (displayFills (m .fillValues .lhs) (m .fillValues .rhs)) → matching ≡ min (length (displayMatching (m .matching))) cap
+    → matched ≡ min (flag + fills + matching) cap → card ≡ min (length (displayCardinality (m .card))) cap → sum ≡ min (matched + card) cap
+    → sum ≡ min (length (displayModifier m)) cap
+modifier-measured m cap flag fills matching card matched sum e₁ e₂ e₃ e₄ e₅ e₆ = omega (arith, length-modifier m)
+
+-- ## displayOperator
+
+module _ (page : List ℕ) (c : ℕ) (m : Modifier) where
+  pub operator-plain : m ≡ None → displayOperator c (modifierOn page m) ≡ word c
+  operator-plain e = rw e (append-nil (word c))
+
+  pub operator-modified : (own : CodeModifier) → m ≡ Some own → Cut (displayOperator c (modifierOn page m)) (word c) (displayModifier (binModifierOn page own))
+  operator-modified own e = record { is = rw e }
+
+-- the fills of a modifier that is there
+pub operator-exact : (page : List ℕ) (m : Modifier) (own : CodeModifier) → m ≡ Some own → ModifierExact (modifierOn page m) → FillsExact (binModifierOn page own)
+operator-exact page m own e h = subst (λ (x : Modifier). ModifierExact (modifierOn page x)) e h
+
+-- ## displayBraces, displaySelector; r is what `no_matchers` answered
+
+module _ (ms : List Matcher) (r : Bool) (is : r ≡ isEmpty ms) where
+  pub braces-none : r ≡ true → displayBraces ms ≡ []
+  braces-none yes· = by ms (sym is ∙ yes·)
+    where
+      by : (ms : List Matcher) → isEmpty ms ≡ true → displayBraces ms ≡ []
+      by [] e = refl
+      by (m ∷ ms) e = absurd (never e)
+
+  pub braces-some : r ≡ false → displayBraces ms ≡ join ((123 ∷ []) ∷ displayMatchers ms ∷ (125 ∷ []) ∷ [])
+  unfolding join
+  braces-some no· = by ms (sym is ∙ no·)
+    where
+      by : (ms : List Matcher) → isEmpty ms ≡ false → displayBraces ms ≡ 123 ∷ (displayMatchers ms ++ (125 ∷ []))
+      by [] e = absurd (never (sym e))
+      by (m ∷ ms) e = refl
+
+  pub length-braces : r ≡ false → length (displayBraces ms) ≡ 2 + length (displayMatchers ms)
+  unfolding join
+  length-braces no· = ap length (braces-some no·) ∙ omega (arith, length-append (displayMatchers ms) (125 ∷ []))
+
+pub selector-cut : (s : Selector) → Cut (displaySelector s) (s .name) (displayBraces (s .matchers))
+selector-cut s = record { is = refl }
+
+-- ## isEmpty of a list of matchers
+
+pub no-matchers-none : (n : ℕ) (s : List ℕ) → n ≡ 0 → true ≡ isEmpty (listed readMatcher n s)
+no-matchers-none n s e = rw (listed-none readMatcher n s (omega arith))
+
+pub no-matchers-refused : (n : ℕ) (s : List ℕ) {f : FieldFault} → refused f ≡ readMatcher s → true ≡ isEmpty (listed readMatcher n s)
+no-matchers-refused n s e = rw (listed-refused readMatcher n s e)
+
+pub no-matchers-some : (n : ℕ) (s : List ℕ) {m : Matcher} {rest : List ℕ} → 0 < n → got m rest ≡ readMatcher s → false ≡ isEmpty (listed readMatcher n s)
+no-matchers-some n s h e = rw (listed-more readMatcher n s h e)
+
+-- ## displayAggregator
+
+pub aggregator-cut : (c : ℕ) (m : Option LabelModifier) → Cut (displayAggregator c m) (word c) (displayGrouping m)
+aggregator-cut c m = record { is = refl }

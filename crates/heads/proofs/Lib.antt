@@ -1,0 +1,4 @@
+pub mod WordLaws
+pub mod LabelledLaws
+pub mod FillLaws
+pub mod HeadLaws

@@ -1,0 +1,44 @@
+-- `heads::head::modifier_len` meets its contract: bool, fills, matching and cardinality, added up to the cap. Assumes nothing.
+use borrow.Author.Needs.{needs}
+use denote.Ref.{now}
+use Rattle.records.specs.Answers.{binModifierOn}
+use Rattle.heads.proofs.HeadLaws.{modifier-measured}
+use Rattle.heads.proofs.head.modifier_len.Statement.{statement}
+use Rattle.heads.proofs.head.modifier_len.Tie as tie
+
+bool-len-requires : tie.Need-bool-len-requires
+bool-len-requires c κs = search needs
+
+fills-len-requires : tie.Need-fills-len-requires
+fills-len-requires c κs = search needs
+
+add-ends : tie.Need-add-ends
+add-ends c = search needs
+
+matching-len-requires : tie.Need-matching-len-requires
+matching-len-requires c κs = search needs
+
+capped-add-requires : tie.Need-capped-add-requires
+capped-add-requires c κs = search needs
+
+cardinality-len-requires : tie.Need-cardinality-len-requires
+cardinality-len-requires c κs = search needs
+
+capped-add-requires-2 : tie.Need-capped-add-requires-2
+capped-add-requires-2 c κs = search needs
+
+returns : tie.Need-returns
+returns c = modifier-measured (binModifierOn (now (c .before .before .before .before .before .before .before .args .page)) (c .before .before .before .before .before .before .before .args .modifier)) _ _ _ _ _ _ _ (c .before .before .before .before .before .bool-len .ensures .0) (c .before .before .before .before .fills-len .ensures .0) (c .before .before .before .matching-len .ensures) (c .before .before .capped-add .ensures) (c .before .cardinality-len .ensures) (c .capped-add2 .ensures)
+
+pub modifier-len-spec : {M : Type 1} → statement M
+modifier-len-spec =
+    tie.close
+    (tie.spec
+    bool-len-requires
+    fills-len-requires
+    add-ends
+    matching-len-requires
+    capped-add-requires
+    cardinality-len-requires
+    capped-add-requires-2
+    returns)

@@ -1,0 +1,51 @@
+-- `heads::head::operator_len` meets its contract: the word, and the modifier where there is one. Assumes nothing.
+use borrow.Author.Needs.{needs}
+use denote.Ref.{now}
+use native.Mathlib.Omega.{arith}
+use mathlib.Core.Path.{ap}
+use lib.ListN.{length}
+use Rattle.base.specs.Splice.{cut-length}
+use Rattle.heads.proofs.HeadLaws.{operator-plain, operator-modified, operator-exact}
+use Rattle.heads.proofs.head.operator_len.Statement.{statement}
+use Rattle.heads.proofs.head.operator_len.Tie as tie
+
+word-len-requires : tie.Need-word-len-requires
+word-len-requires c κs = search needs
+
+enum-told : tie.Need-enum-told
+enum-told c = search needs
+
+capped-add-requires : tie.Need-capped-add-requires
+capped-add-requires c κs = search needs
+
+enum-known-modifier : tie.Need-enum-known-modifier
+enum-known-modifier c = search needs
+
+fill-values-requires : tie.Need-fill-values-requires
+fill-values-requires c κs = let exact = operator-exact _ _ _ (c .before .modifier .given .1) (c .before .before .before .before .before .pre) in (exact .lhs, exact .rhs)
+
+modifier-len-requires : tie.Need-modifier-len-requires
+modifier-len-requires c κs = let exact = operator-exact _ _ _ (c .before .before .modifier .given .1) (c .before .before .before .before .before .before .pre) in (c .fill-values .ensures, exact .lhs, exact .rhs)
+
+capped-add-requires-2 : tie.Need-capped-add-requires-2
+capped-add-requires-2 c κs = search needs
+
+returns : tie.Need-returns
+returns c = omega (arith, c .capped-add .ensures, c .before .before .before .word-len .ensures, ap length (operator-plain (now (c .before .before .before .before .before .args .page)) (c .before .before .before .before .before .args .code) (c .before .before .before .before .before .args .modifier) (c .before .enum-told .given .1)))
+
+returns-2 : tie.Need-returns-2
+returns-2 c = omega (arith, c .capped-add2 .ensures, c .before .modifier-len .ensures, c .before .before .before .before .before .before .word-len .ensures, cut-length (operator-modified (now (c .before .before .before .before .before .before .before .before .args .page)) (c .before .before .before .before .before .before .before .before .args .code) (c .before .before .before .before .before .before .before .before .args .modifier) _ (c .before .before .before .before .modifier .given .1)))
+
+pub operator-len-spec : {M : Type 1} → statement M
+operator-len-spec =
+    tie.close
+    (tie.spec
+    word-len-requires
+    enum-told
+    capped-add-requires
+    enum-known-modifier
+    fill-values-requires
+    modifier-len-requires
+    capped-add-requires-2
+    returns
+    returns-2)

@@ -1,0 +1,32 @@
+-- `heads::selector::put_selector` meets its contract: the name, and the braces. Assumes nothing.
+use borrow.Author.Needs.{needs}
+use denote.Ref.{now}
+use Prim.Native.Nat.{ℕ}
+use mathlib.Core.Path.{refl}
+use mathlib.Core.List.{List}
+use Rattle.base.specs.Splice.{begin, first, room, step, finish, cut-last}
+use Rattle.reader.specs.Answers.{selectorOn}
+use Rattle.util.proofs.PartLaws.{part-fits, part-wrote}
+use Rattle.heads.proofs.HeadLaws.{selector-cut}
+use Rattle.heads.proofs.selector.put_selector.Statement.{statement}
+use Rattle.heads.proofs.selector.put_selector.Tie as tie
+
+text-at-requires : tie.Need-text-at-requires
+text-at-requires c κs = search needs
+
+put-bytes-requires : tie.Need-put-bytes-requires
+put-bytes-requires c κs = part-fits (λ (l : List ℕ). l) (c .before .text-at .ensures) _ _ (first _ _ (c .before .before .before .before .pre .1 .1) (selector-cut (selectorOn (now (c .before .before .before .before .args .page)) (c .before .before .before .before .args .selector))))
+
+put-braces-requires : tie.Need-put-braces-requires
+put-braces-requires c κs = (c .before .before .before .before .before .before .before .before .pre .1 .0, room (step (begin _ _ _ (c .before .before .before .before .before .before .before .before .pre .1 .1)) (selector-cut (selectorOn (now (c .before .before .before .before .before .before .before .before .args .page)) (c .before .before .before .before .before .before .before .before .args .selector))) (part-wrote (λ (l : List ℕ). l) (c .before .before .before .before .before .text-at .ensures) (c .before .before .before .put-bytes .ensures))) (cut-last _))
+
+same-length : tie.Need-same-length
+same-length c = search needs
+
+returns : tie.Need-returns
+returns c = finish (step (step (begin _ _ _ (c .before .before .before .before .before .before .before .before .before .before .before .pre .1 .1)) (selector-cut (selectorOn (now (c .before .before .before .before .before .before .before .before .before .before .before .args .page)) (c .before .before .before .before .before .before .before .before .before .before .before .args .selector))) (part-wrote (λ (l : List ℕ). l) (c .before .before .before .before .before .before .before .before .text-at .ensures) (c .before .before .before .before .before .before .put-bytes .ensures))) (cut-last _) (c .before .before .put-braces .ensures)) refl
+
+pub put-selector-spec : {M : Type 1} → statement M
+put-selector-spec =
+    tie.close
+    (tie.spec text-at-requires put-bytes-requires put-braces-requires same-length returns)
