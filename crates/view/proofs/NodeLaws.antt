@@ -7,6 +7,11 @@ use mathlib.Core.List.{List}
 use mathlib.Core.Option.{Option, none, some}
 use Rattle.page.specs.Answers.{spanOn}
 use Rattle.records.specs.Time as time
+use Rattle.records.specs.Literal as literal
+use Rattle.records.specs.Modifier as modifier
+use Rattle.records.specs.Allowed.{IsOptionOf, IsFill, IsBinModifier}
+use Rattle.float.specs.Fills.{FillExact}
+use Rattle.float.specs.Exact.{ModifierExact}
 use Rattle.records.specs.Record as spec
 use Rattle.records.specs.Answers.{literalOf, stepOf, atModifierOf, offsetOf, modifierOn, labelModifierOn}
 use Rattle.records.specs.SignatureAnswers.{functionOn}
@@ -29,6 +34,15 @@ use Rattle.view.specs.declared.Own.{Own}
 use Rattle.view.specs.declared.Own.the-variants as own
 use Rattle.view.specs.declared.View.{View}
 use Rattle.view.proofs.ViewLaws.{starts-fewer}
+
+-- fills that a page allows are exact as floats
+fill-exact : (f : Option literal.Literal) → IsFill f → FillExact f
+fill-exact none h = tt
+fill-exact (some l) h = h
+
+exact : (m : Option modifier.BinModifier) → IsOptionOf IsBinModifier m → ModifierExact m
+exact none h = tt
+exact (some m) h = record { lhs = fill-exact (m .fillValues .lhs) (h .2); rhs = fill-exact (m .fillValues .rhs) (h .3) }
 
 -- at the start nothing is set
 pub below-start : (page : List ℕ) (i : ℕ) (parts : Parts) → stepOf (parts .range) ≡ none → timesOf (parts .times) ≡ noTimes → Below page i i parts
@@ -92,7 +106,7 @@ module _ {page starts : List ℕ} {i j : ℕ} {parts : Parts} (s : Starts page s
   view-paren r = record { seen = seen-paren tables j (b .low) _ _ (b .tree) (r .reads); lies = tt }
 
   pub view-binary : {c : ℕ} {m : _} → Standing page starts j (code.Binary c m) → Viewed page i (record { own = own.Binary c m; end = j; count = 2 })
-  view-binary {c} {m} r = record { seen = seen-binary tables j (b .low) _ _ (b .tree) c (modifierOn page m) (r .reads); lies = tt }
+  view-binary {c} {m} r = record { seen = seen-binary tables j (b .low) _ _ (b .tree) c (modifierOn page m) (r .reads); lies = exact (modifierOn page m) (allowed _ (r .reads .reads) .1) }
 
   pub view-aggregate : {c : ℕ} {m : _} {n : ℕ} → Standing page starts j (code.Aggregate c m n) → Viewed page i (record { own = own.Aggregate c m; end = j; count = n })
   view-aggregate {c} {m} {n} r = record { seen = seen-aggregate tables j (b .low) _ _ (b .tree) c (labelModifierOn page m) n (r .reads); lies = tt }

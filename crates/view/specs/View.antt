@@ -9,6 +9,7 @@ use Rattle.page.specs.Limits.{pageLimit, countLimit}
 use Rattle.page.specs.Answers.{spanOn, Lies}
 use Rattle.records.specs.Literal as literal
 use Rattle.records.specs.Answers.{literalOf, stepOf, matchersOn, modifierOn, labelModifierOn}
+use Rattle.float.specs.Exact.{ModifierExact}
 use Rattle.reader.specs.Answers.{selectorOn, recordOn, TextsLie}
 use Rattle.reader.specs.declared.Selector.{Selector}
 use Rattle.reader.specs.declared.Record.{Record}
@@ -63,7 +64,7 @@ pub record SelectorLies (page : List ℕ) (s : Selector) : Type 0 where
   pub few : length (matchersOn page (s .matchers) (s .count)) ≤ countLimit
   pub short : length page ≤ pageLimit
 
--- its texts lie on the page
+-- its texts lie on the page, and its fills are exact as floats
 abbrev pub OwnLies : List ℕ → Own → Type 0
 OwnLies page (own.Number l) = Unit {0}
 OwnLies page (own.String s) = Lies page s
@@ -71,7 +72,7 @@ OwnLies page (own.Selector s p) = SelectorLies page s
 OwnLies page (own.Subquery n s p) = Unit {0}
 OwnLies page own.Unary = Unit {0}
 OwnLies page own.Paren = Unit {0}
-OwnLies page (own.Binary c m) = Unit {0}
+OwnLies page (own.Binary c m) = ModifierExact (modifierOn page m)
 OwnLies page (own.Aggregate c m) = Unit {0}
 OwnLies page (own.Call f) = Lies page (f .name)
 
