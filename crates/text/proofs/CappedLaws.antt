@@ -3,7 +3,8 @@ use Prim.Native.Nat.{ℕ, _+_, _-_, _≤_, _<_, min}
 use native.Mathlib.Omega.{arith}
 use mathlib.Core.Path.{_≡_, ap, _∙_}
 use mathlib.Core.List.{List, _++_}
-use lib.ListN.{length, length-append}
+use lib.ListN.{length, length-append, replicate, length-replicate}
+use Rattle.text.specs.Measured.{Measured}
 
 -- a piece, then another
 pub capped-then : (a b cap x y : ℕ) → x ≡ min a cap → y ≡ min b (cap - x) → x + y ≡ min (a + b) cap
@@ -51,3 +52,21 @@ module _ (joined· separator last· : List ℕ) (cap gap last : ℕ) (same : min
 
       sum : (n a b c : ℕ) → n ≡ a + (b + c) → c + b + a ≡ n
       sum n a b c e = omega arith
+
+-- whatever the separator, the cap bounds the length
+pub measured-of : (text : List ℕ → List ℕ) (gap cap r : ℕ) → ((separator : List ℕ) → min (length separator) cap ≡ min gap cap → r ≡ min (length (text separator)) cap)
+    → Measured text gap cap r
+measured-of text gap cap r h =
+    record { bound = omega (arith, h (replicate gap 0) (ap (λ (n : ℕ). min n cap) (length-replicate {A = ℕ} gap 0))); is = h }
+
+-- a gap that was measured up to a cap serves up to that cap
+pub own-gap : (n cap gap : ℕ) → gap ≡ min n cap → min n cap ≡ min gap cap
+own-gap n cap gap e = omega arith
+
+-- ## The same length by another name, and with so many bytes more
+
+pub len-as : (a b : List ℕ) (cap : ℕ) {r : ℕ} → a ≡ b → r ≡ min (length b) cap → r ≡ min (length a) cap
+len-as a b cap e h = rw e h
+
+pub len-plus : (text a b : List ℕ) (cap x r : ℕ) → text ≡ a ++ b → x ≡ min (length a) cap → r ≡ min (x + length b) cap → r ≡ min (length text) cap
+len-plus text a b cap x r e p q = omega (arith, ap length e ∙ length-append a b)

@@ -1,13 +1,18 @@
 -- What the tables say of a record: the tree that it ends is what its constructor made of the operands before it.
-use Prim.Native.Nat.{ℕ, suc, _-_, _≤_}
+use Prim.Native.Nat.{ℕ, zero, suc, _-_, _≤_}
 use native.Mathlib.Omega.{arith}
 use mathlib.Core.Path.{_≡_, refl, sym, ap, _∙_}
+use mathlib.Core.Bool.{false}
 use mathlib.Core.List.{List}
 use mathlib.Core.Option.{Option, none, some}
 use lib.ListN.{length, getD}
+use lib.Dec.{leb}
+use borrow.Author.Tests.{leb-true}
+use Rattle.base.specs.Cases.{by-flag}
+use Rattle.page.specs.Limits.{pageLimit}
 use Rattle.page.specs.Read.{got}
 use Rattle.records.specs.Literal.{Literal, negate}
-use Rattle.records.specs.Record.{Leaf, number, string, selector, Wrapper, unary, Record, leaf, wrapper, operands}
+use Rattle.records.specs.Record.{Leaf, number, string, selector, Wrapper, unary, Record, leaf, wrapper, operands, readPage}
 use Rattle.ast.specs.Refusal.{ok}
 use Rattle.ast.specs.Expr.{Expr, Aggregate, AggregateParam, Unary, Binary, Paren, Subquery, NumberLiteral, StringLiteral, VectorSelector, MatrixSelector, Call, scalarValue}
 use Rattle.ast.specs.Construct.{newUnary}
@@ -16,6 +21,11 @@ use Rattle.ast.specs.Tables.{newest as newestEntry, stackAt, treeAt, Entry, Tab
 use Rattle.text.specs.Seen.{Reads}
 use Rattle.text.proofs.OperandLaws.{fewer, Newest, newest}
 use Rattle.text.proofs.TreeLaws.{checkedExpr, Pushed, leaf-ok, wrapper-ok}
+
+long-empty : (page : List ℕ) (k : ℕ) → leb (length page) pageLimit ≡ false → length (stackAt page k) ≡ 0
+unfolding stackAt readPage
+long-empty page zero f = refl
+long-empty page (suc k) f = rw f
 
 -- ## What was made of a record
 
@@ -99,3 +109,11 @@ module _ {page starts firsts : List ℕ} {j : ℕ} (t : Tables page starts first
 
   pub unary-value : scalarValue (treeAt page j) ≡ negated (scalarValue (treeAt page (j - 1)))
   unary-value = unary-made .value
+
+-- ## A page with records is not too long
+
+pub page-short : {page starts firsts : List ℕ} {n : ℕ} → Tables page starts firsts (suc n) → length page ≤ pageLimit
+page-short {page} {starts} {firsts} {n} t = by-flag (leb (length page) pageLimit) (leb-true (length page) pageLimit) (λ f. absurd (never f))
+  where
+    never : leb (length page) pageLimit ≡ false → ⊥
+    never f = omega (arith, ap length (t .entry n (omega arith) .grows), long-empty page (suc n) f)

@@ -10,3 +10,5 @@ pub mod ValueLaws
 pub mod SoundLaws
 pub mod NodeLaws
 pub mod CappedLaws
+pub mod LengthLaws
+pub mod WriteLaws

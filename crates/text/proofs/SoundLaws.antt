@@ -180,7 +180,7 @@ apply-sound (call f count) s after a n h k =
 
 -- ## The stack of a page
 
-allowed : (bytes· : List ℕ) {item : Record} {rest : List ℕ} → got item rest ≡ readRecord bytes· → IsAllowed item
+pub allowed : (bytes· : List ℕ) {item : Record} {rest : List ℕ} → got item rest ≡ readRecord bytes· → IsAllowed item
 allowed bytes· h = rw (← h) at (readRecord-gives .gives bytes·)
 
 module _ {page starts firsts : List ℕ} {n : ℕ} (t : Tables page starts firsts n) where

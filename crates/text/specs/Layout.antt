@@ -61,28 +61,51 @@ children (VectorSelector s t) = []
 children (MatrixSelector s t r) = []
 children (Call f es) = argsList es
 
+-- ## What a node writes of its own, whatever the text
+
+abbrev pub head : Layout → List ℕ
+head (whole t) = t
+head negation = bytes "-"
+head (suffixed t) = []
+head (enclosed h) = h
+head (infixed o) = []
+
+abbrev pub operator : Layout → List ℕ
+operator (whole t) = []
+operator negation = []
+operator (suffixed t) = []
+operator (enclosed h) = []
+operator (infixed o) = o
+
+abbrev pub suffix : Layout → List ℕ
+suffix (whole t) = []
+suffix negation = []
+suffix (suffixed t) = t
+suffix (enclosed h) = []
+suffix (infixed o) = []
+
 -- ## Canonical text
 
 abbrev pub front : Layout → List ℕ
 front (whole t) = t
 front negation = bytes "-"
 front (suffixed t) = []
-front (enclosed head) = head ++ bytes "("
-front (infixed operator) = []
+front (enclosed h) = h ++ bytes "("
+front (infixed o) = []
 
 abbrev pub between : Layout → List ℕ
 between (whole t) = []
 between negation = []
 between (suffixed t) = []
-between (enclosed head) = bytes ", "
-between (infixed operator) = bytes " " ++ operator ++ bytes " "
+between (enclosed h) = bytes ", "
+between (infixed o) = bytes " " ++ o ++ bytes " "
 
 abbrev pub rear : Layout → List ℕ
 rear (whole t) = []
 rear negation = []
 rear (suffixed t) = t
-rear (enclosed head) = bytes ")"
-rear (infixed operator) = []
+rear (enclosed h) = bytes ")"
+rear (infixed o) = []
 
 -- ## Split text of a node longer than a line, at a level. The mark says whether the first line is indented: it is not behind the minus
 -- of a unary expression (`trim_start`)
@@ -94,38 +117,38 @@ abbrev pub frontAt : Bool → ℕ → Layout → List ℕ
 frontAt mark level (whole t) = indentIf mark level ++ t
 frontAt mark level negation = indentIf mark level ++ bytes "-"
 frontAt mark level (suffixed t) = []
-frontAt mark level (enclosed head) = indentIf mark level ++ head ++ bytes "(\n"
-frontAt mark level (infixed operator) = []
+frontAt mark level (enclosed h) = indentIf mark level ++ h ++ bytes "(\n"
+frontAt mark level (infixed o) = []
 
 abbrev pub betweenAt : ℕ → Layout → List ℕ
 betweenAt level (whole t) = []
 betweenAt level negation = []
 betweenAt level (suffixed t) = []
-betweenAt level (enclosed head) = bytes ",\n"
-betweenAt level (infixed operator) = bytes "\n" ++ indent level ++ operator ++ bytes "\n"
+betweenAt level (enclosed h) = bytes ",\n"
+betweenAt level (infixed o) = bytes "\n" ++ indent level ++ o ++ bytes "\n"
 
 abbrev pub rearAt : ℕ → Layout → List ℕ
 rearAt level (whole t) = []
 rearAt level negation = []
 rearAt level (suffixed t) = t
-rearAt level (enclosed head) = bytes "\n" ++ indent level ++ bytes ")"
-rearAt level (infixed operator) = []
+rearAt level (enclosed h) = bytes "\n" ++ indent level ++ bytes ")"
+rearAt level (infixed o) = []
 
 -- the mark of the first operand; all others are indented
 abbrev pub innerMark : Bool → Layout → Bool
 innerMark mark (whole t) = true
 innerMark mark negation = false
 innerMark mark (suffixed t) = mark
-innerMark mark (enclosed head) = true
-innerMark mark (infixed operator) = mark
+innerMark mark (enclosed h) = true
+innerMark mark (infixed o) = mark
 
 -- the level of the operands
 abbrev pub innerLevel : ℕ → Layout → ℕ
 innerLevel level (whole t) = level
 innerLevel level negation = level
 innerLevel level (suffixed t) = level
-innerLevel level (enclosed head) = suc level
-innerLevel level (infixed operator) = suc level
+innerLevel level (enclosed h) = suc level
+innerLevel level (infixed o) = suc level
 
 -- the split text, with or without its first indentation
 unfoldable pub marked : Bool → ℕ → Expr → List ℕ

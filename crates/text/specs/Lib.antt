@@ -4,3 +4,4 @@ pub mod Layout
 pub mod Chain
 pub mod Seen
 pub mod Answers
+pub mod Measured

@@ -7,6 +7,11 @@ use mathlib.Core.List.{List}
 use mathlib.Core.Option.{Option, none, some}
 use Rattle.page.specs.Answers.{spanOn}
 use Rattle.records.specs.Time as time
+use Rattle.records.specs.Literal as literal
+use Rattle.records.specs.Modifier as modifier
+use Rattle.records.specs.Allowed.{IsOptionOf, IsFill, IsBinModifier}
+use Rattle.float.specs.Fills.{FillExact}
+use Rattle.float.specs.Exact.{ModifierExact}
 use Rattle.records.specs.Record as spec
 use Rattle.records.specs.Answers.{literalOf, stepOf, atModifierOf, offsetOf, modifierOn, labelModifierOn}
 use Rattle.records.specs.SignatureAnswers.{functionOn}
@@ -18,7 +23,8 @@ use Rattle.ast.specs.Tables.{treeAt, Tables}
 use Rattle.text.specs.Layout.{negation}
 use Rattle.text.specs.Chain.{withAt, withOffset, settled}
 use Rattle.text.specs.Answers.{timesOf}
-use Rattle.text.proofs.EntryLaws.{wrapped}
+use Rattle.text.proofs.EntryLaws.{wrapped, page-short}
+use Rattle.text.proofs.SoundLaws.{allowed}
 use Rattle.text.proofs.SeenLaws.{seen-number, seen-string, seen-selector, seen-subquery, seen-paren, seen-literal, seen-unary, seen-binary, seen-aggregate, seen-call}
 use Rattle.text.proofs.ChainLaws.{settled-nothing, chain-range, chain-at, chain-offset}
 use Rattle.text.proofs.ValueLaws.{settled-value}
@@ -28,6 +34,15 @@ use Rattle.view.specs.declared.Own.{Own}
 use Rattle.view.specs.declared.Own.the-variants as own
 use Rattle.view.specs.declared.View.{View}
 use Rattle.view.proofs.ViewLaws.{starts-fewer}
+
+-- fills that a page allows are exact as floats
+fill-exact : (f : Option literal.Literal) → IsFill f → FillExact f
+fill-exact none h = tt
+fill-exact (some l) h = h
+
+exact : (m : Option modifier.BinModifier) → IsOptionOf IsBinModifier m → ModifierExact m
+exact none h = tt
+exact (some m) h = record { lhs = fill-exact (m .fillValues .lhs) (h .2); rhs = fill-exact (m .fillValues .rhs) (h .3) }
 
 -- at the start nothing is set
 pub below-start : (page : List ℕ) (i : ℕ) (parts : Parts) → stepOf (parts .range) ≡ none → timesOf (parts .times) ≡ noTimes → Below page i i parts
@@ -78,7 +93,11 @@ module _ {page starts : List ℕ} {i j : ℕ} {parts : Parts} (s : Starts page s
   view-string {t} r = record { seen = seen-string tables j (b .low) _ _ (b .tree) (spanOn page t) (r .reads); lies = r .lies }
 
   pub view-selector : {v : _} → Standing page starts j (code.Selector v) → Viewed page i (record { own = own.Selector v parts; end = j; count = 0 })
-  view-selector {v} r = record { seen = seen-selector tables j (b .low) _ _ (b .tree) (selectorOn page v) (r .reads); lies = r .lies }
+  view-selector {v} r =
+      record {
+        seen = seen-selector tables j (b .low) _ _ (b .tree) (selectorOn page v) (r .reads);
+        lies = record { name = r .lies; few = allowed _ (r .reads .reads) .1 .0; short = page-short tables };
+      }
 
   pub view-subquery : {n : ℕ} {t : _} → Standing page starts j (code.Subquery n t) → Viewed page i (record { own = own.Subquery n t parts; end = j; count = 1 })
   view-subquery {n} {t} r = record { seen = seen-subquery tables j (b .low) _ _ (b .tree) n (stepOf t) (r .reads); lies = tt }
@@ -87,7 +106,7 @@ module _ {page starts : List ℕ} {i j : ℕ} {parts : Parts} (s : Starts page s
   view-paren r = record { seen = seen-paren tables j (b .low) _ _ (b .tree) (r .reads); lies = tt }
 
   pub view-binary : {c : ℕ} {m : _} → Standing page starts j (code.Binary c m) → Viewed page i (record { own = own.Binary c m; end = j; count = 2 })
-  view-binary {c} {m} r = record { seen = seen-binary tables j (b .low) _ _ (b .tree) c (modifierOn page m) (r .reads); lies = tt }
+  view-binary {c} {m} r = record { seen = seen-binary tables j (b .low) _ _ (b .tree) c (modifierOn page m) (r .reads); lies = exact (modifierOn page m) (allowed _ (r .reads .reads) .1) }
 
   pub view-aggregate : {c : ℕ} {m : _} {n : ℕ} → Standing page starts j (code.Aggregate c m n) → Viewed page i (record { own = own.Aggregate c m; end = j; count = n })
   view-aggregate {c} {m} {n} r = record { seen = seen-aggregate tables j (b .low) _ _ (b .tree) c (labelModifierOn page m) n (r .reads); lies = tt }

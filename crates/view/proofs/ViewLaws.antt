@@ -14,12 +14,23 @@ use Rattle.reader.specs.Answers.{recordOn, TextsLie}
 use Rattle.reader.specs.declared.Record.{Record}
 use Rattle.reader.specs.declared.Record.the-variants as code
 use Rattle.ast.specs.Expr.{scalarValue}
-use Rattle.ast.specs.Tables.{treeAt}
+use Rattle.ast.specs.Tables.{treeAt, Tables}
+use Rattle.text.specs.Layout.{head, operator, suffix}
 use Rattle.text.specs.Seen.{Reads}
 use Rattle.text.proofs.OperandLaws.{fewer}
 use Rattle.text.proofs.EntryLaws.{wrapped}
 use Rattle.text.proofs.ValueLaws.{signed, signed-none, signed-unary, signed-number, Unsigned, valueless}
-use Rattle.view.specs.View.{Starts, Standing}
+use Rattle.view.specs.View.{Starts, Standing, Unvalued, layoutOn, formOf, formed}
+use Rattle.view.specs.declared.Form.{Form}
+use Rattle.view.specs.declared.Own.{Own}
+use Rattle.view.specs.declared.Own.the-variants as own
+
+pub starts-of : {page starts firsts : List ℕ} {n : ℕ} → Tables page starts firsts n → Starts page starts n
+starts-of {firsts = firsts} t = record { firsts = firsts; tables = t }
+
+-- without the mark nothing is said
+pub unmarked : (page : List ℕ) (i : ℕ) → Unvalued page i false
+unmarked page i k = cc
 
 pub starts-fewer : {page starts : List ℕ} {n m : ℕ} → Starts page starts n → m ≤ n → Starts page starts m
 starts-fewer s h = record { firsts = s .firsts; tables = fewer (s .tables) h }
@@ -60,3 +71,21 @@ module _ {page starts : List ℕ} {i j : ℕ} {odd : Bool} (s : Starts page star
 
   pub value-other : (item : Record) → Unsigned (recordOn page item) → Standing page starts j item → none ≡ scalarValue (treeAt page i)
   value-other item u r = sym (d .value ∙ ap (signed odd) (valueless (here .tables) (recordOn page item) u (r .reads)) ∙ signed-none odd)
+
+-- ## Forms
+
+-- a node's layout is that of its form, with its own texts
+pub layout-formed : (page : List ℕ) (o : Own) {f : Form} → f ≡ formOf o
+    → layoutOn page o ≡ formed f (head (layoutOn page o)) (operator (layoutOn page o)) (suffix (layoutOn page o))
+layout-formed page o e = rw e (by o)
+  where
+    by : (o : Own) → layoutOn page o ≡ formed (formOf o) (head (layoutOn page o)) (operator (layoutOn page o)) (suffix (layoutOn page o))
+    by (own.Number l) = refl
+    by (own.String s) = refl
+    by (own.Selector s p) = refl
+    by (own.Subquery n s p) = refl
+    by own.Unary = refl
+    by own.Paren = refl
+    by (own.Binary c m) = refl
+    by (own.Aggregate c m) = refl
+    by (own.Call f) = refl

@@ -4,10 +4,14 @@ use mathlib.Core.Path.{_≡_}
 use mathlib.Core.Bool.{Bool, true, false}
 use mathlib.Core.List.{List, [], _++_}
 use mathlib.Core.Option.{Option, none, some}
+use lib.ListN.{length}
+use Rattle.page.specs.Limits.{pageLimit, countLimit}
 use Rattle.page.specs.Answers.{spanOn, Lies}
 use Rattle.records.specs.Literal as literal
-use Rattle.records.specs.Answers.{literalOf, stepOf, modifierOn, labelModifierOn}
+use Rattle.records.specs.Answers.{literalOf, stepOf, matchersOn, modifierOn, labelModifierOn}
+use Rattle.float.specs.Exact.{ModifierExact}
 use Rattle.reader.specs.Answers.{selectorOn, recordOn, TextsLie}
+use Rattle.reader.specs.declared.Selector.{Selector}
 use Rattle.reader.specs.declared.Record.{Record}
 use Rattle.util.specs.Numeral.{displayLiteral}
 use Rattle.util.specs.Escape.{quote}
@@ -23,6 +27,8 @@ use Rattle.view.specs.declared.Own.{Own}
 use Rattle.view.specs.declared.Own.the-variants as own
 use Rattle.view.specs.declared.Signed.{Signed}
 use Rattle.view.specs.declared.Signed.the-variants as sign
+use Rattle.view.specs.declared.Form.{Form}
+use Rattle.view.specs.declared.Form.the-variants as form
 use Rattle.view.specs.declared.View.{View}
 
 -- the starts of the first n records, with some table of first records beside them
@@ -52,15 +58,21 @@ layoutOn page (own.Binary c m) = infixed (displayOperator c (modifierOn page m))
 layoutOn page (own.Aggregate c m) = enclosed (displayAggregator c (labelModifierOn page m))
 layoutOn page (own.Call f) = enclosed (spanOn page (f .name))
 
--- its texts lie on the page
+-- a selector's name lies on the page, and its matchers are no more than a page allows
+pub record SelectorLies (page : List ℕ) (s : Selector) : Type 0 where
+  pub name : Lies page (s .name)
+  pub few : length (matchersOn page (s .matchers) (s .count)) ≤ countLimit
+  pub short : length page ≤ pageLimit
+
+-- its texts lie on the page, and its fills are exact as floats
 abbrev pub OwnLies : List ℕ → Own → Type 0
 OwnLies page (own.Number l) = Unit {0}
 OwnLies page (own.String s) = Lies page s
-OwnLies page (own.Selector s p) = Lies page (s .name)
+OwnLies page (own.Selector s p) = SelectorLies page s
 OwnLies page (own.Subquery n s p) = Unit {0}
 OwnLies page own.Unary = Unit {0}
 OwnLies page own.Paren = Unit {0}
-OwnLies page (own.Binary c m) = Unit {0}
+OwnLies page (own.Binary c m) = ModifierExact (modifierOn page m)
 OwnLies page (own.Aggregate c m) = Unit {0}
 OwnLies page (own.Call f) = Lies page (f .name)
 
@@ -88,3 +100,23 @@ isMinus own.Paren = false
 isMinus (own.Binary c m) = false
 isMinus (own.Aggregate c m) = false
 isMinus (own.Call f) = false
+
+-- the way in which a node's text is put together, without its own texts
+abbrev pub formOf : Own → Form
+formOf (own.Number l) = form.Whole
+formOf (own.String s) = form.Whole
+formOf (own.Selector s p) = form.Whole
+formOf (own.Subquery n s p) = form.Suffixed
+formOf own.Unary = form.Minus
+formOf own.Paren = form.Enclosed
+formOf (own.Binary c m) = form.Infixed
+formOf (own.Aggregate c m) = form.Enclosed
+formOf (own.Call f) = form.Enclosed
+
+-- the layout of a form, from the node's own texts
+abbrev pub formed : Form → List ℕ → List ℕ → List ℕ → Layout
+formed form.Whole h o s = whole h
+formed form.Minus h o s = negation
+formed form.Suffixed h o s = suffixed s
+formed form.Enclosed h o s = enclosed h
+formed form.Infixed h o s = infixed o

@@ -14,7 +14,7 @@ ghost use Rattle.ast.specs.Tables.{treeAt};
 ghost use mathlib.Core.Option.{some};
 ghost use Rattle.text.specs.Chain.{withAt, withOffset};
 ghost use Rattle.text.specs.Answers.{timesOf};
-ghost use Rattle.view.specs.View.{Starts, Standing, signedOf, Viewed, Unvalued, Below, isMinus};
+ghost use Rattle.view.specs.View.{Starts, Standing, signedOf, Viewed, Unvalued, Below, isMinus, formOf};
 
 // What the records above a selector or a subquery have set. A subquery has no range of this kind.
 pub struct Parts {
@@ -228,5 +228,31 @@ pub fn is_minus(own: Own) -> bool
         Own::Binary(_, _) => false,
         Own::Aggregate(_, _) => false,
         Own::Call(_) => false,
+    }
+}
+
+// The way in which a node's text is put together: a text of its own, a minus before the operand, a suffix behind it, operands in
+// brackets behind a head, an operator between two.
+pub enum Form {
+    Whole,
+    Minus,
+    Suffixed,
+    Enclosed,
+    Infixed,
+}
+
+pub fn form_of(own: Own) -> Form
+    ensures { λ r. ⌜ r ≡ formOf own ⌝ }
+{
+    match own {
+        Own::Number(_) => Form::Whole,
+        Own::String(_) => Form::Whole,
+        Own::Selector(_, _) => Form::Whole,
+        Own::Subquery(_, _, _) => Form::Suffixed,
+        Own::Unary => Form::Minus,
+        Own::Paren => Form::Enclosed,
+        Own::Binary(_, _) => Form::Infixed,
+        Own::Aggregate(_, _) => Form::Enclosed,
+        Own::Call(_) => Form::Enclosed,
     }
 }

@@ -1,0 +1,80 @@
+-- `canonical::own::between_len` meets its contract: a comma, or the operator, with spaces. Assumes nothing.
+use Rattle.canonical.proofs.TextLaws.{spaced}
+use Rattle.view.proofs.ViewLaws.{layout-formed}
+use Rattle.view.specs.View.{layoutOn}
+use Rattle.text.proofs.CappedLaws.{len-as, len-plus}
+use Rattle.text.specs.Layout.{Layout, head, operator, suffix, front, between, rear}
+use Rattle.page.specs.Bytes.{bytes}
+use lib.ListN.{length}
+use mathlib.Core.List.{[], _∷_}
+use mathlib.Core.Path.{_≡_, sym, ap, _∙_}
+use native.Mathlib.Omega.{arith}
+use borrow.Author.Needs.{needs}
+use Rattle.canonical.proofs.own.between_len.Statement.{statement}
+use Rattle.canonical.proofs.own.between_len.Tie as tie
+use Rattle.canonical.proofs.own.between_len.Reads as reads
+use Rattle.canonical.proofs.own.between_len.Lts as lts
+use Rattle.pieces.proofs.operator_len.Reads as operator-len-reads
+use Rattle.util.proofs.capped_add.Reads as capped-add-reads
+use Rattle.view.proofs.form_of.Reads as form-of-reads
+
+form-of-requires : tie.Need-form-of-requires
+form-of-requires c κs = search needs
+
+enum-told : tie.Need-enum-told
+enum-told c = search needs
+
+enum-told-2 : tie.Need-enum-told-2
+enum-told-2 c = search needs
+
+enum-told-3 : tie.Need-enum-told-3
+enum-told-3 c = search needs
+
+enum-told-4 : tie.Need-enum-told-4
+enum-told-4 c = search needs
+
+capped-add-requires : tie.Need-capped-add-requires
+capped-add-requires c κs = search needs
+
+enum-told-5 : tie.Need-enum-told-5
+enum-told-5 c = search needs
+
+operator-len-requires : tie.Need-operator-len-requires
+operator-len-requires c κs = c .before .before .before .before .pre
+
+capped-add-requires-2 : tie.Need-capped-add-requires-2
+capped-add-requires-2 c κs = search needs
+
+returns : tie.Need-returns
+returns c = let e = layout-formed (c .before .before .before .before .args .page .now) (c .before .before .before .before .args .own) (sym (c .enum-told .given .1) ∙ c .before .before .form-of .ensures) in omega (arith, ap (λ (l : Layout). length (between l)) e)
+
+returns-2 : tie.Need-returns-2
+returns-2 c = let e = layout-formed (c .before .before .before .before .args .page .now) (c .before .before .before .before .args .own) (sym (c .enum-told2 .given .1) ∙ c .before .before .form-of .ensures) in omega (arith, ap (λ (l : Layout). length (between l)) e)
+
+returns-3 : tie.Need-returns-3
+returns-3 c = let e = layout-formed (c .before .before .before .before .args .page .now) (c .before .before .before .before .args .own) (sym (c .enum-told3 .given .1) ∙ c .before .before .form-of .ensures) in omega (arith, ap (λ (l : Layout). length (between l)) e)
+
+returns-4 : tie.Need-returns-4
+returns-4 c = let e = layout-formed (c .before .before .before .before .before .args .page .now) (c .before .before .before .before .before .args .own) (sym (c .before .enum-told4 .given .1) ∙ c .before .before .before .form-of .ensures) in omega (arith, c .capped-add .ensures, ap (λ (l : Layout). length (between l)) e)
+
+returns-5 : tie.Need-returns-5
+returns-5 c = let e = layout-formed (c .before .before .before .before .before .before .args .page .now) (c .before .before .before .before .before .before .args .own) (sym (c .before .before .enum-told5 .given .1) ∙ c .before .before .before .before .form-of .ensures) in omega (arith, c .before .operator-len .ensures, c .capped-add2 .ensures, ap (λ (l : Layout). length (between l)) e, spaced (operator (layoutOn (c .before .before .before .before .before .before .args .page .now) (c .before .before .before .before .before .before .args .own))))
+
+pub between-len-spec : {M : Type 1} → statement M
+between-len-spec =
+    tie.close
+    (tie.spec
+    form-of-requires
+    enum-told
+    enum-told-2
+    enum-told-3
+    enum-told-4
+    capped-add-requires
+    enum-told-5
+    operator-len-requires
+    capped-add-requires-2
+    returns
+    returns-2
+    returns-3
+    returns-4
+    returns-5)

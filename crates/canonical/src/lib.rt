@@ -1,0 +1,159 @@
+// Canonical text (ast.rs, `Display`): each node's text is put together from its operands' texts, by functions over record
+// positions that fall. What a node writes of its own is written by functions that do not recurse.
+pub mod own;
+
+use own::between_len;
+use own::front_len;
+use own::put_between;
+use own::put_front;
+use own::put_rear;
+use own::rear_len;
+ghost use mathlib.Core.Path.{_≡_};
+ghost use mathlib.Core.Bool.{true};
+ghost use mathlib.Core.List.{List};
+ghost use Prim.Native.Nat.{ℕ, suc, _+_, _-_, _≤_, min};
+ghost use lib.ListN.{length};
+ghost use Rattle.base.specs.Splice.{Wrote};
+ghost use Rattle.records.specs.Stack.{operandsOf};
+ghost use Rattle.ast.specs.Tables.{Tables, stackAt, treeAt};
+ghost use Rattle.text.specs.Display.{display};
+ghost use Rattle.text.specs.Layout.{Layout, negation, front, between, rear, joined};
+ghost use Rattle.text.specs.Measured.{Measured};
+ghost use Rattle.view.specs.View.{layoutOn, OwnLies, Unvalued};
+
+// The length of the text of the tree that record i ends, or `cap` where it is more.
+pub fn text_len(
+    page: &[u8],
+    starts: &[u16],
+    firsts: &[u8],
+    i: usize,
+    unvalued: bool,
+    cap: usize,
+) -> usize
+    requires { ⌜ Tables (now page) (now starts) (now firsts) (suc i) ⌝ }
+    requires { ⌜ Unvalued (now page) i unvalued ⌝ }
+    ensures { λ r. ⌜ r ≡ min (length (display (treeAt (now (page .entry)) i))) cap ⌝ }
+{
+    if cap == 0 {
+        return 0;
+    }
+    let v = view::view_at(page, starts, i, unvalued);
+    let own = v.own;
+    let end = v.end;
+    let count = v.count;
+    let front = front_len(page, own, cap);
+    let gap = between_len(page, own, cap - front);
+    let inner = operands_len(
+        page,
+        starts,
+        firsts,
+        end,
+        count,
+        view::is_minus(own),
+        gap,
+        cap - front,
+    );
+    let rear = rear_len(page, own, cap - front - inner);
+    front + inner + rear
+}
+
+// The length of the texts of the newest expressions behind the first `end` records, `count` of them, with so many bytes between each
+// two, or `cap` where it is more. `unvalued` is said of the last one.
+fn operands_len(
+    page: &[u8],
+    starts: &[u16],
+    firsts: &[u8],
+    end: usize,
+    count: usize,
+    unvalued: bool,
+    gap: usize,
+    cap: usize,
+) -> usize
+    requires { ⌜ Tables (now page) (now starts) (now firsts) end ⌝ }
+    requires { ⌜ count ≤ length (stackAt (now page) end) ⌝ }
+    requires { ⌜ Unvalued (now page) (end - 1) unvalued ⌝ }
+    ensures { λ r. ⌜ Measured (λ separator. joined separator display display (operandsOf count (stackAt (now (page .entry)) end))) gap cap r ⌝ }
+{
+    if count == 0 {
+        return 0;
+    }
+    let root = end - 1;
+    let last = text_len(page, starts, firsts, root, unvalued, cap);
+    if count == 1 {
+        return last;
+    }
+    let left = cap - last;
+    if left <= gap {
+        return cap;
+    }
+    let first = firsts[root] as usize;
+    let rest = operands_len(
+        page,
+        starts,
+        firsts,
+        first,
+        count - 1,
+        false,
+        gap,
+        left - gap,
+    );
+    last + gap + rest
+}
+
+// Writes the text of the tree that record i ends, and returns the place behind it.
+pub fn write_text(
+    page: &[u8],
+    starts: &[u16],
+    firsts: &[u8],
+    i: usize,
+    unvalued: bool,
+    out: &mut [u8],
+    at: usize,
+) -> usize
+    requires { ⌜ Tables (now page) (now starts) (now firsts) (suc i) ⌝ }
+    requires { ⌜ Unvalued (now page) i unvalued ⌝ }
+    requires { ⌜ at + length (display (treeAt (now page) i)) ≤ length (now out) ⌝ }
+    ensures { λ r. ⌜ Wrote (now (out .entry)) (now (out .exit)) at (display (treeAt (now (page .entry)) i)) r ⌝ }
+{
+    let v = view::view_at(page, starts, i, unvalued);
+    let own = v.own;
+    let end = v.end;
+    let count = v.count;
+    let minus = view::is_minus(own);
+    let inner = put_front(page, own, out, at);
+    let behind = write_operands(page, starts, firsts, own, end, count, minus, out, inner);
+    put_rear(page, own, out, behind)
+}
+
+// Writes the texts of the newest expressions behind the first `end` records, `count` of them, with what the node writes between each
+// two. `unvalued` is said of the last one.
+fn write_operands(
+    page: &[u8],
+    starts: &[u16],
+    firsts: &[u8],
+    own: view::Own,
+    end: usize,
+    count: usize,
+    unvalued: bool,
+    out: &mut [u8],
+    at: usize,
+) -> usize
+    requires { ⌜ Tables (now page) (now starts) (now firsts) end ⌝ }
+    requires { ⌜ OwnLies (now page) own ⌝ }
+    requires { ⌜ count ≤ length (stackAt (now page) end) ⌝ }
+    requires { ⌜ Unvalued (now page) (end - 1) unvalued ⌝ }
+    requires { ⌜ at + length (joined (between (layoutOn (now page) own)) display display (operandsOf count (stackAt (now page) end))) ≤ length (now out) ⌝ }
+    ensures { λ r. ⌜ Wrote (now (out .entry)) (now (out .exit)) at (joined (between (layoutOn (now (page .entry)) own)) display display (operandsOf count (stackAt (now (page .entry)) end))) r ⌝ }
+{
+    if count == 0 {
+        return at;
+    }
+    let root = end - 1;
+    if count == 1 {
+        return write_text(page, starts, firsts, root, unvalued, out, at);
+    }
+    let first = firsts[root] as usize;
+    let gap = write_operands(page, starts, firsts, own, first, count - 1, false, out, at);
+    let next = put_between(page, own, out, gap);
+    write_text(page, starts, firsts, root, unvalued, out, next)
+}

@@ -1,0 +1,59 @@
+-- `pieces::times::put_at` meets its contract: a space and the time. Assumes nothing.
+use Prim.Native.Nat.{min}
+use Rattle.pieces.proofs.PieceLaws.{sum-three, bracketed-len, suffix-len, run-suffix}
+use Rattle.pieces.specs.Times.{spacedAt, spacedOffset}
+use Rattle.text.proofs.WriteLaws.{wrote-nothing, wrote-as, run-two, run-three}
+use Rattle.text.specs.Answers.{atOf, shiftOf, timesOf}
+use Rattle.text.specs.Layout.{displayRange}
+use Rattle.text.specs.Display.{optional, displaySelector, displayTimes}
+use Rattle.util.specs.Time.{displayAt, displayOffset}
+use Rattle.util.specs.Duration.{displayDuration}
+use Rattle.util.specs.Escape.{quote}
+use Rattle.reader.specs.Answers.{selectorOn}
+use Rattle.records.specs.Answers.{stepOf, atModifierOf, offsetOf}
+use Rattle.page.specs.Bytes.{bytes}
+use Rattle.base.specs.Splice.{fits, next, end}
+use lib.ListN.{length, length-append}
+use mathlib.Core.List.{[], _∷_, _++_, append-assoc}
+use mathlib.Core.Path.{_≡_, refl, sym, ap, _∙_}
+use native.Mathlib.Omega.{arith}
+use borrow.Author.Needs.{needs}
+use Rattle.pieces.proofs.times.put_at.Statement.{statement}
+use Rattle.pieces.proofs.times.put_at.Tie as tie
+use Rattle.pieces.proofs.times.put_at.Reads as reads
+use Rattle.pieces.proofs.times.put_at.Lts as lts
+use Rattle.page.proofs.put_byte.Reads as put-byte-reads
+use Rattle.util.proofs.put_at.Reads as put-at-reads
+
+enum-told : tie.Need-enum-told
+enum-told c = search needs
+
+enum-known-time : tie.Need-enum-known-time
+enum-known-time c = search needs
+
+put-byte-requires : tie.Need-put-byte-requires
+put-byte-requires c κs = fits (run-two (bytes " ") (displayAt (atModifierOf (c .before .before .time .given .0 .0))) (c .before .before .before .before .before .args .out .now) (c .before .before .before .before .before .args .at) refl (rw (c .before .before .time .given .1) at (c .before .before .before .before .before .pre)))
+
+put-at-requires : tie.Need-put-at-requires
+put-at-requires c κs = fits (next (run-two (bytes " ") (displayAt (atModifierOf (c .before .before .before .before .before .before .time .given .0 .0))) (c .before .before .before .before .before .before .before .before .before .args .out .now) (c .before .before .before .before .before .before .before .before .before .args .at) refl (rw (c .before .before .before .before .before .before .time .given .1) at (c .before .before .before .before .before .before .before .before .before .pre))) (c .before .before .before .put-byte .ensures))
+
+returns : tie.Need-returns
+returns c = rw (c .enum-told .given .1) (wrote-nothing _ _ refl)
+
+same-length : tie.Need-same-length
+same-length c = search needs
+
+returns-2 : tie.Need-returns-2
+returns-2 c = rw (c .before .before .before .before .before .before .before .before .before .time .given .1) (end (next (next (run-two (bytes " ") (displayAt (atModifierOf (c .before .before .before .before .before .before .before .before .before .time .given .0 .0))) (c .before .before .before .before .before .before .before .before .before .before .before .before .args .out .now) (c .before .before .before .before .before .before .before .before .before .before .before .before .args .at) refl (rw (c .before .before .before .before .before .before .before .before .before .time .given .1) at (c .before .before .before .before .before .before .before .before .before .before .before .before .pre))) (c .before .before .before .before .before .before .put-byte .ensures)) (c .before .before .put-at .ensures)))
+
+pub put-at-spec : {M : Type 1} → statement M
+put-at-spec =
+    tie.close
+    (tie.spec
+    enum-told
+    enum-known-time
+    put-byte-requires
+    put-at-requires
+    returns
+    same-length
+    returns-2)

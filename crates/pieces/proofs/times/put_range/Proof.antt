@@ -1,0 +1,63 @@
+-- `pieces::times::put_range` meets its contract: the duration in brackets. Assumes nothing.
+use Prim.Native.Nat.{min}
+use Rattle.pieces.proofs.PieceLaws.{sum-three, bracketed-len, suffix-len, run-suffix}
+use Rattle.pieces.specs.Times.{spacedAt, spacedOffset}
+use Rattle.text.proofs.WriteLaws.{wrote-nothing, wrote-as, run-two, run-three}
+use Rattle.text.specs.Answers.{atOf, shiftOf, timesOf}
+use Rattle.text.specs.Layout.{displayRange}
+use Rattle.text.specs.Display.{optional, displaySelector, displayTimes}
+use Rattle.util.specs.Time.{displayAt, displayOffset}
+use Rattle.util.specs.Duration.{displayDuration}
+use Rattle.util.specs.Escape.{quote}
+use Rattle.reader.specs.Answers.{selectorOn}
+use Rattle.records.specs.Answers.{stepOf, atModifierOf, offsetOf}
+use Rattle.page.specs.Bytes.{bytes}
+use Rattle.base.specs.Splice.{fits, next, end}
+use lib.ListN.{length, length-append}
+use mathlib.Core.List.{[], _∷_, _++_, append-assoc}
+use mathlib.Core.Path.{_≡_, refl, sym, ap, _∙_}
+use native.Mathlib.Omega.{arith}
+use borrow.Author.Needs.{needs}
+use Rattle.pieces.proofs.times.put_range.Statement.{statement}
+use Rattle.pieces.proofs.times.put_range.Tie as tie
+use Rattle.pieces.proofs.times.put_range.Reads as reads
+use Rattle.pieces.proofs.times.put_range.Lts as lts
+use Rattle.page.proofs.put_byte.Reads as put-byte-reads
+use Rattle.util.proofs.put_duration.Reads as put-duration-reads
+
+enum-told : tie.Need-enum-told
+enum-told c = search needs
+
+enum-known-range : tie.Need-enum-known-range
+enum-known-range c = search needs
+
+put-byte-requires : tie.Need-put-byte-requires
+put-byte-requires c κs = fits (run-three (bytes "[") (displayDuration (c .before .before .range .given .0 .0)) (bytes "]") (c .before .before .before .before .before .args .out .now) (c .before .before .before .before .before .args .at) (append-assoc (bytes "[") (displayDuration (c .before .before .range .given .0 .0)) (bytes "]")) (rw (c .before .before .range .given .1) at (c .before .before .before .before .before .pre)))
+
+put-duration-requires : tie.Need-put-duration-requires
+put-duration-requires c κs = fits (next (run-three (bytes "[") (displayDuration (c .before .before .before .before .before .before .range .given .0 .0)) (bytes "]") (c .before .before .before .before .before .before .before .before .before .args .out .now) (c .before .before .before .before .before .before .before .before .before .args .at) (append-assoc (bytes "[") (displayDuration (c .before .before .before .before .before .before .range .given .0 .0)) (bytes "]")) (rw (c .before .before .before .before .before .before .range .given .1) at (c .before .before .before .before .before .before .before .before .before .pre))) (c .before .before .before .put-byte .ensures))
+
+put-byte-requires-2 : tie.Need-put-byte-requires-2
+put-byte-requires-2 c κs = fits (next (next (run-three (bytes "[") (displayDuration (c .before .before .before .before .before .before .before .before .before .before .range .given .0 .0)) (bytes "]") (c .before .before .before .before .before .before .before .before .before .before .before .before .before .args .out .now) (c .before .before .before .before .before .before .before .before .before .before .before .before .before .args .at) (append-assoc (bytes "[") (displayDuration (c .before .before .before .before .before .before .before .before .before .before .range .given .0 .0)) (bytes "]")) (rw (c .before .before .before .before .before .before .before .before .before .before .range .given .1) at (c .before .before .before .before .before .before .before .before .before .before .before .before .before .pre))) (c .before .before .before .before .before .before .before .put-byte .ensures)) (c .before .before .before .put-duration .ensures))
+
+returns : tie.Need-returns
+returns c = rw (c .enum-told .given .1) (wrote-nothing _ _ refl)
+
+same-length : tie.Need-same-length
+same-length c = search needs
+
+returns-2 : tie.Need-returns-2
+returns-2 c = rw (c .before .before .before .before .before .before .before .before .before .before .before .before .before .range .given .1) (end (next (next (next (run-three (bytes "[") (displayDuration (c .before .before .before .before .before .before .before .before .before .before .before .before .before .range .given .0 .0)) (bytes "]") (c .before .before .before .before .before .before .before .before .before .before .before .before .before .before .before .before .args .out .now) (c .before .before .before .before .before .before .before .before .before .before .before .before .before .before .before .before .args .at) (append-assoc (bytes "[") (displayDuration (c .before .before .before .before .before .before .before .before .before .before .before .before .before .range .given .0 .0)) (bytes "]")) (rw (c .before .before .before .before .before .before .before .before .before .before .before .before .before .range .given .1) at (c .before .before .before .before .before .before .before .before .before .before .before .before .before .before .before .before .pre))) (c .before .before .before .before .before .before .before .before .before .before .put-byte .ensures)) (c .before .before .before .before .before .before .put-duration .ensures)) (c .before .before .put-byte2 .ensures)))
+
+pub put-range-spec : {M : Type 1} → statement M
+put-range-spec =
+    tie.close
+    (tie.spec
+    enum-told
+    enum-known-range
+    put-byte-requires
+    put-duration-requires
+    put-byte-requires-2
+    returns
+    same-length
+    returns-2)

@@ -1,0 +1,63 @@
+-- `pieces::times::put_shift` meets its contract: the word and the offset. Assumes nothing.
+use Prim.Native.Nat.{min}
+use Rattle.pieces.proofs.PieceLaws.{sum-three, bracketed-len, suffix-len, run-suffix}
+use Rattle.pieces.specs.Times.{spacedAt, spacedOffset}
+use Rattle.text.proofs.WriteLaws.{wrote-nothing, wrote-as, run-two, run-three}
+use Rattle.text.specs.Answers.{atOf, shiftOf, timesOf}
+use Rattle.text.specs.Layout.{displayRange}
+use Rattle.text.specs.Display.{optional, displaySelector, displayTimes}
+use Rattle.util.specs.Time.{displayAt, displayOffset}
+use Rattle.util.specs.Duration.{displayDuration}
+use Rattle.util.specs.Escape.{quote}
+use Rattle.reader.specs.Answers.{selectorOn}
+use Rattle.records.specs.Answers.{stepOf, atModifierOf, offsetOf}
+use Rattle.page.specs.Bytes.{bytes}
+use Rattle.base.specs.Splice.{fits, next, end}
+use lib.ListN.{length, length-append}
+use mathlib.Core.List.{[], _∷_, _++_, append-assoc}
+use mathlib.Core.Path.{_≡_, refl, sym, ap, _∙_}
+use native.Mathlib.Omega.{arith}
+use borrow.Author.Needs.{needs}
+use Rattle.pieces.proofs.times.put_shift.Statement.{statement}
+use Rattle.pieces.proofs.times.put_shift.Tie as tie
+use Rattle.pieces.proofs.times.put_shift.Reads as reads
+use Rattle.pieces.proofs.times.put_shift.Lts as lts
+use Rattle.page.proofs.put_bytes.Reads as put-bytes-reads
+use Rattle.util.proofs.put_offset.Reads as put-offset-reads
+
+enum-told : tie.Need-enum-told
+enum-told c = search needs
+
+enum-known-offset : tie.Need-enum-known-offset
+enum-known-offset c = search needs
+
+slice-aggregate-put-bytes : tie.Need-slice-aggregate-put-bytes
+slice-aggregate-put-bytes c = search needs
+
+put-bytes-requires : tie.Need-put-bytes-requires
+put-bytes-requires c κs = fits (run-two (bytes " offset ") (displayOffset (offsetOf (c .before .before .before .offset .given .0 .0))) (c .before .before .before .before .before .before .args .out .now) (c .before .before .before .before .before .before .args .at) refl (rw (c .before .before .before .offset .given .1) at (c .before .before .before .before .before .before .pre)))
+
+put-offset-requires : tie.Need-put-offset-requires
+put-offset-requires c κs = fits (next (run-two (bytes " offset ") (displayOffset (offsetOf (c .before .before .before .before .before .before .before .offset .given .0 .0))) (c .before .before .before .before .before .before .before .before .before .before .args .out .now) (c .before .before .before .before .before .before .before .before .before .before .args .at) refl (rw (c .before .before .before .before .before .before .before .offset .given .1) at (c .before .before .before .before .before .before .before .before .before .before .pre))) (c .before .before .before .put-bytes .ensures))
+
+returns : tie.Need-returns
+returns c = rw (c .enum-told .given .1) (wrote-nothing _ _ refl)
+
+same-length : tie.Need-same-length
+same-length c = search needs
+
+returns-2 : tie.Need-returns-2
+returns-2 c = rw (c .before .before .before .before .before .before .before .before .before .before .offset .given .1) (end (next (next (run-two (bytes " offset ") (displayOffset (offsetOf (c .before .before .before .before .before .before .before .before .before .before .offset .given .0 .0))) (c .before .before .before .before .before .before .before .before .before .before .before .before .before .args .out .now) (c .before .before .before .before .before .before .before .before .before .before .before .before .before .args .at) refl (rw (c .before .before .before .before .before .before .before .before .before .before .offset .given .1) at (c .before .before .before .before .before .before .before .before .before .before .before .before .before .pre))) (c .before .before .before .before .before .before .put-bytes .ensures)) (c .before .before .put-offset .ensures)))
+
+pub put-shift-spec : {M : Type 1} → statement M
+put-shift-spec =
+    tie.close
+    (tie.spec
+    enum-told
+    enum-known-offset
+    slice-aggregate-put-bytes
+    put-bytes-requires
+    put-offset-requires
+    returns
+    same-length
+    returns-2)
