@@ -4,7 +4,7 @@ use std::env;
 use std::path::PathBuf;
 
 const VARIABLE: &str = "SANDZGULI_ARCHIVE";
-const CALLS: [&str; 4] = ["CHECK", "COPY", "CANONICAL", "SPLIT"];
+const CALLS: [&str; 5] = ["CHECK", "JOINT_LABEL", "COPY", "CANONICAL", "SPLIT"];
 
 fn main() {
     println!("cargo:rerun-if-env-changed={VARIABLE}");

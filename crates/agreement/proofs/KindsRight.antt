@@ -19,11 +19,12 @@ use Rattle.ast.specs.Refusal.{Result, refused, ok, andThen}
 use Rattle.ast.specs.Expr.{Expr, valueType, scalarValue}
 use Rattle.ast.specs.Walk.{Walked, stack as stackOf, Checked, accepted, refusedAt, proceed, finished, walk}
 use Rattle.ast.specs.CheckPage.{apply, checkPage, outcomeOf, check}
+use Rattle.ast.proofs.StackLaws.{map-drop, map-operandsOf}
 use Rattle.kinds.specs.Asked.{areAsAsked, kindGiven, isInPlace}
 use Rattle.kinds.specs.WorkingOut.{Value, Step, ended, WorkedOut, kinds, stepOf, bareNumber, isSetAside, putBack, putBare, workRecords, workPage}
 use Rattle.kinds.specs.Demand3.{nothingSetAside, allAsAsked, RunsClean, MeetsFirst, KindsRightWith}
 use Rattle.agreement.proofs.Bools.{both, left-of, right-of, either-left}
-use Rattle.agreement.proofs.Lists.{map-drop, map-operandsOf, all-drop, all-operandsOf}
+use Rattle.agreement.proofs.Lists.{all-drop, all-operandsOf}
 use Rattle.agreement.proofs.Faults.{isKindRefusal}
 use Rattle.agreement.proofs.NodeOf.{nodeOf, apply-operands, isFormed, NodeClaim}
 use Rattle.agreement.proofs.Nodes.{node}

@@ -1,6 +1,6 @@
-pub mod CodeLaws
 pub mod CopyRecordsLaws
 pub mod CopyLaws
+pub mod LengthLaws
 pub mod ModifierLaws
 pub mod NumberPieceLaws
 pub mod OperatorLaws

@@ -12,13 +12,13 @@ use lib.Seq.{drop-drop, getD-drop}
 use lib.Dec.{T}
 use Rattle.base.specs.Splice.{join}
 use Rattle.page.specs.Bytes.{pick}
-use Rattle.page.specs.Read.{FieldFault, Read, refused, got}
+use Rattle.page.specs.Read.{FieldFault, refused, got}
 use Rattle.page.proofs.ReaderLaws.{append-assoc, append-nil}
 use Rattle.page.proofs.ReadBackLaws.{Got}
 use Rattle.records.specs.Code.{isCode, isSetOperator}
 use Rattle.records.specs.Field.{writeFlag, writeOption}
 use Rattle.records.specs.Modifier.{LabelModifier, BinModifier, readLabelModifier, writeLabelModifier, writeBinModifier}
-use Rattle.records.specs.Record.{number, string, selector, range, subquery, at, offset, unary, paren, Record, leaf, wrapper, binary, aggregate, call, readRecord, writeRecord}
+use Rattle.records.specs.Record.{number, string, selector, range, subquery, at, offset, unary, paren, Record, leaf, wrapper, binary, aggregate, call, writeRecord}
 use Rattle.records.specs.Allowed.{IsOptionOf, IsBinModifier, IsAllowed}
 use Rattle.records.proofs.AllowedLaws.{readRecord-gives}
 use Rattle.records.proofs.ReadBackLaws.{readLabelModifier-back}

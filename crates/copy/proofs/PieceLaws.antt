@@ -3,17 +3,16 @@
 use Prim.Native.Nat.{ℕ, zero, suc}
 use mathlib.Core.Path.{_≡_, refl, sym, ap, _∙_, subst}
 use mathlib.Core.Bool.{Bool, true, false}
-use mathlib.Core.List.{List, [], _∷_, _++_}
+use mathlib.Core.List.{List, [], _∷_}
 use native.Mathlib.Omega.{arith}
 use lib.ListN.{drop}
 use lib.Dec.{T, eqb}
 use borrow.Author.Tests.{eqb-true, eqb-false}
 use Rattle.page.specs.Bytes.{pick, all}
 use Rattle.page.specs.Read.{Read, refused, got}
-use Rattle.page.specs.Text.{writeAll}
 use Rattle.page.proofs.NumberLaws.{Written, isByte, right}
 use Rattle.records.specs.Literal.{Literal, negate}
-use Rattle.records.specs.Record.{number, string, selector, range, subquery, at, offset, unary, paren, Record, leaf, wrapper, binary, aggregate, call, readRecord, writeRecord, Ending, end, unreadable, Records, noRecords, followed, readRecords}
+use Rattle.records.specs.Record.{number, string, selector, range, subquery, at, offset, unary, paren, Record, leaf, wrapper, binary, aggregate, call, readRecord, writeRecord, end, Records, followed, readRecords}
 use Rattle.records.proofs.RecordLaws.{record-law}
 use Rattle.copy.specs.Copy.{copyNumber, copyRecord, copyRecords}
 use Rattle.copy.specs.Piece.{unaries, negated, copied, absorbed}

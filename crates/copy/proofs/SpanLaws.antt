@@ -1,6 +1,6 @@
 -- A record's piece as parts of the page: a record that reaches from `start` to `next` is the page's bytes between them. Its first byte
 -- is its kind; a number's second byte is its form, and the rest of it stays. Assumes nothing.
-use Prim.Native.Nat.{ℕ, zero, suc, _+_, _-_, _≤_, _<_, zero-le}
+use Prim.Native.Nat.{ℕ, suc, _+_, _-_, _≤_, _<_, zero-le}
 use mathlib.Core.Path.{_≡_, refl, sym, ap, _∙_, subst}
 use mathlib.Core.Bool.{Bool, true, false, _&&_}
 use mathlib.Core.List.{List, [], _∷_, _++_}
@@ -9,19 +9,13 @@ use native.Mathlib.Omega.{arith}
 use mir.Syntax.{w8}
 use mir.Val.{Fits}
 use lib.ListN.{length, take, drop, getD, length-drop, length-append}
-use lib.Seq.{drop-drop, getD-drop, take-at, length-take-le}
+use lib.Seq.{getD-drop, take-at, length-take-le}
 use lib.Dec.{T, eqb, lt→ltb}
-use Rattle.base.specs.Cases.{by-eq}
-use Rattle.base.specs.Splice.{join}
 use Rattle.page.specs.Bytes.{pick, all}
-use Rattle.page.specs.Read.{got}
-use Rattle.page.specs.Number.{writeNumber}
 use Rattle.page.proofs.NumberLaws.{Written, isByte}
-use Rattle.page.proofs.ReaderLaws.{append-nil}
-use Rattle.records.specs.Literal.{Literal, whole, infinite, plus, minus, nan, negate, writeLiteral}
-use Rattle.records.specs.Record.{number, string, selector, range, subquery, at, offset, unary, paren, Record, leaf, wrapper, binary, aggregate, call, readRecord, writeRecord}
+use Rattle.records.specs.Record.{number, string, selector, range, subquery, at, offset, unary, paren, Record, leaf, wrapper, binary, aggregate, call, writeRecord}
 use Rattle.records.proofs.RecordLaws.{record-law}
-use Rattle.copy.specs.Piece.{unaries, negated, copied, pieceRead, pieceOf, absorbedRead, absorbedOf, absorbed, negatedForm, formBehind}
+use Rattle.copy.specs.Piece.{unaries, copied, pieceRead, pieceOf, absorbedRead, absorbedOf, absorbed}
 use Rattle.copy.specs.Span.{Spans}
 use Rattle.copy.proofs.StartsLaws.{drop-bytes}
 

@@ -14,11 +14,11 @@ use Rattle.base.specs.Splice.{Cut, cut-length}
 use Rattle.base.specs.Cases.{by-lt}
 use Rattle.page.specs.Bytes.{pick, all}
 use Rattle.page.specs.Limits.{pageLimit, recordLimit}
-use Rattle.page.specs.Read.{Read, refused, got, pastLimit}
+use Rattle.page.specs.Read.{Read, got, pastLimit}
 use Rattle.page.specs.Text.{writeAll}
 use Rattle.page.proofs.NumberLaws.{Written, isByte, right}
 use Rattle.page.proofs.ReaderLaws.{rest-bytes}
-use Rattle.records.specs.Record.{Record, readRecord, writeRecord, Ending, end, unreadable, Records, noRecords, readRecords, readPage}
+use Rattle.records.specs.Record.{Record, readRecord, writeRecord, end, unreadable, noRecords, readRecords, readPage}
 use Rattle.records.proofs.RecordLaws.{record-law}
 use Rattle.ast.specs.Part.{behind, fromRecord}
 use Rattle.ast.specs.Expr.{Expr}
@@ -27,8 +27,8 @@ use Rattle.ast.specs.CheckPage.{checkPage}
 use Rattle.ast.specs.Tables.{Tables}
 use Rattle.ast.proofs.WalkLaws.{CheckedIn, checkPage-in, page-limit}
 use Rattle.ast.proofs.TablesLaws.{fromRecord-next}
-use Rattle.copy.specs.Copy.{copyRecord, copyRecords, copyPage}
-use Rattle.copy.specs.Piece.{pieceRead, pieceOf, absorbedRead, absorbedOf, copied, absorbed}
+use Rattle.copy.specs.Copy.{copyRecords, copyPage}
+use Rattle.copy.specs.Piece.{pieceRead, pieceOf, absorbedRead, absorbedOf}
 use Rattle.copy.specs.Span.{Spans}
 use Rattle.copy.specs.Starts.{Starts, copyFrom}
 use Rattle.copy.proofs.CopyLaws.{accepted-walks}

@@ -1,20 +1,13 @@
 // A binary record in the copy: a set operator (`and`, `or`, `unless`) whose modifier is absent or one-to-one becomes many-to-many.
+use judge::code::is_set_operator;
 use page::put_byte;
 use page::put_bytes;
 ghost use mathlib.Core.Path.{_≡_};
 ghost use Prim.Native.Nat.{_+_};
 ghost use lib.ListN.{drop, getD};
 ghost use Rattle.base.specs.Splice.{Wrote};
-ghost use Rattle.records.specs.Code.{isSetOperator};
 ghost use Rattle.copy.specs.Piece.{setCardinality, pieceOf};
 ghost use Rattle.copy.specs.Span.{Placing, SetOperator, IsPresent, CardinalityAt};
-
-// `and`, `or`, `unless`
-pub fn is_set_operator(code: u8) -> bool
-    ensures { λ r. ⌜ r ≡ isSetOperator code ⌝ }
-{
-    (code == 6) | (code == 7) | (code == 10)
-}
 
 // An absent modifier, written out: present, no bool, no matching, many-to-many, no fills.
 const SET_MODIFIER: [u8; 6] = [1, 0, 0, 3, 0, 0];
@@ -65,7 +58,7 @@ pub fn put_operator(page: &[u8], start: usize, next: usize, out: &mut [u8], at: 
     requires { ⌜ Placing (now page) (now out) start next at × (getD (now page) start 0 ≡ 9) ⌝ }
     ensures { λ r. ⌜ Wrote (now (out .entry)) (now (out .exit)) at (pieceOf (drop start (now (page .entry)))) r ⌝ }
 {
-    if is_set_operator(page[start + 1]) {
+    if is_set_operator(page[start + 1] as u64) {
         if page[start + 2] == 0 {
             return put_absent(page, start, next, out, at);
         }

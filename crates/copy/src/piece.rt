@@ -1,8 +1,8 @@
 // What one record becomes in the copy: its length, its bytes, and how many records behind it it takes in.
 use crate::number::put_number;
 use crate::number::unaries_at;
-use crate::operator::is_set_operator;
 use crate::operator::put_operator;
+use judge::code::is_set_operator;
 ghost use mathlib.Core.Path.{_≡_};
 ghost use lib.ListN.{length, drop};
 ghost use Rattle.base.specs.Splice.{Wrote};
@@ -18,7 +18,7 @@ pub fn piece_len(page: &[u8], start: usize, next: usize) -> usize
     if page[start] != 9 {
         return own;
     }
-    if is_set_operator(page[start + 1]) {
+    if is_set_operator(page[start + 1] as u64) {
         if page[start + 2] == 0 {
             return 8;
         }

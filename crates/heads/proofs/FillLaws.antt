@@ -1,10 +1,10 @@
 -- Fills by their forms, as the code has them. That the code's comparison of floats is `equalAsFloats` is `float-equal` of records; here it is
 -- turned round, since the definition names the right number first. Assumes nothing.
-use Prim.Native.Nat.{ℕ, _+_, _≤_}
+use Prim.Native.Nat.{ℕ, _+_}
 use Prim.Native.String.{String}
 use native.Mathlib.Omega.{arith}
 use mathlib.Core.Bool.{Bool, true, false, _&&_}
-use mathlib.Core.List.{List, [], _∷_, _++_, append-assoc}
+use mathlib.Core.List.{List, [], _∷_, _++_}
 use mathlib.Core.Option.{some}
 use mathlib.Core.Path.{_≡_, refl, sym, ap, _∙_, subst}
 use borrow.Author.Tests.{eq-eqb, ne-eqb}
@@ -12,9 +12,8 @@ use lib.Dec.{eqb}
 use lib.ListN.{length, length-append}
 use Rattle.base.specs.Cases.{by-eq}
 use Rattle.base.specs.Splice.{Cut, join}
-use Rattle.page.specs.Bytes.{bytes, pick}
+use Rattle.page.specs.Bytes.{bytes}
 use Rattle.records.specs.Literal.{Magnitude, whole, infinite, Literal, plus, minus, nan, isZero, equalMagnitude, equalAsFloats}
-use Rattle.records.specs.Float.{float}
 use Rattle.records.specs.Answers.{literalOf, fillOf}
 use Rattle.records.specs.declared.literal.Fill.{Fill}
 use Rattle.records.specs.declared.literal.Fill.the-variants.{None, Some}

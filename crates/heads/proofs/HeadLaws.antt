@@ -1,9 +1,9 @@
 -- Modifiers, operators, aggregators and selectors in the pieces that are written, and their lengths up to a cap. Assumes nothing.
-use Prim.Native.Nat.{ℕ, zero, suc, _+_, _≤_, _<_, min}
+use Prim.Native.Nat.{ℕ, _+_, _<_, min}
 use native.Mathlib.Omega.{arith}
 use mathlib.Core.Bool.{Bool, true, false}
-use mathlib.Core.List.{List, [], _∷_, _++_, append-assoc, append-nil}
-use mathlib.Core.Option.{Option, none, some}
+use mathlib.Core.List.{List, [], _∷_, _++_, append-nil}
+use mathlib.Core.Option.{Option}
 use mathlib.Core.Path.{_≡_, refl, sym, ap, _∙_, subst}
 use lib.ListN.{length, length-append}
 use Rattle.base.specs.Splice.{Cut, join}
@@ -14,7 +14,7 @@ use Rattle.page.proofs.ListLaws.{listed-more, listed-none, listed-refused}
 use Rattle.records.specs.Code.{word}
 use Rattle.records.specs.Matcher.{Matcher, readMatcher, Selector}
 use Rattle.records.specs.Modifier.{LabelModifier, BinModifier}
-use Rattle.records.specs.Answers.{binModifierOn, modifierOn, fillOf}
+use Rattle.records.specs.Answers.{binModifierOn, modifierOn}
 use Rattle.records.specs.declared.modifier.Modifier.{Modifier}
 use Rattle.records.specs.declared.modifier.Modifier.the-variants.{None, Some}
 use Rattle.records.specs.declared.modifier.BinModifier.{BinModifier as CodeModifier}

@@ -1,16 +1,15 @@
 -- The tables hold the words of the codes: one computed test over all places. Assumes nothing.
-use Prim.Native.Nat.{ℕ, zero, suc, _+_, _-_, _≤_, _<_}
-use native.Mathlib.Nat.{not-suc-le-zero}
+use Prim.Native.Nat.{ℕ, suc, _+_, _-_, _≤_, _<_}
 use native.Mathlib.Numerals.{add-one}
 use native.Mathlib.Omega.{arith}
 use mathlib.Core.Bool.{Bool, true, false, _&&_}
 use mathlib.Core.List.{List, [], _∷_}
 use mathlib.Core.Path.{_≡_, refl, sym, ap, _∙_}
-use lib.Dec.{T, ltb, leb, eqb, eqb→eq, leb→le}
+use lib.Dec.{T, leb, eqb, eqb→eq, leb→le}
 use lib.ListN.{length, getD, take, drop, length-drop, List·getD-eq-default}
 use lib.Seq.{getD-take, drop-cons, length-take-le}
 use Rattle.base.specs.Splice.{Cut}
-use Rattle.base.specs.Table.{every, at}
+use Rattle.base.specs.Table.{at}
 use Rattle.page.specs.Bytes.{equal, bytes}
 use Rattle.records.specs.Code.{words, word}
 use Rattle.heads.specs.Words.{letters, starts, wordAt}

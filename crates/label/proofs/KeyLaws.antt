@@ -3,14 +3,14 @@ use Prim.Native.Nat.{ℕ, _+_, _-_, _*_, _/_, _%_, _≤_, _<_}
 use native.Mathlib.Omega.{arith}
 use mathlib.Core.Bool.{Bool, true, false}
 use mathlib.Core.List.{List, [], _∷_, _++_, append-nil}
-use mathlib.Core.Path.{_≡_, refl, sym, ap, _∙_}
+use mathlib.Core.Path.{_≡_, refl, sym, ap}
 use lib.Dec.{eqb}
-use lib.ListN.{length, take, drop, length-drop}
+use lib.ListN.{length, drop, length-drop}
 use lib.Seq.{length-take-le}
 use Rattle.base.specs.Splice.{join}
 use Rattle.util.specs.Escape.{quote}
 use Rattle.page.specs.Bytes.{pick}
-use Rattle.page.specs.Limits.{pageLimit, textLimit}
+use Rattle.page.specs.Limits.{pageLimit}
 use Rattle.page.specs.Text.{isLabel}
 use Rattle.page.specs.Answers.{spanOn, Lies}
 use Rattle.page.specs.declared.text.Span.{Span}

@@ -3,10 +3,10 @@ use Prim.Native.Nat.{ℕ, zero, suc, _+_, _-_, _≤_, _<_, min}
 use native.Mathlib.Omega.{arith}
 use mathlib.Core.Bool.{Bool, true, false}
 use mathlib.Core.List.{List, [], _∷_, _++_}
-use mathlib.Core.Path.{_≡_, refl, sym, ap, _∙_}
+use mathlib.Core.Path.{_≡_, refl, ap, _∙_}
 use lib.ListN.{length, length-append}
 use Rattle.base.specs.Splice.{Cut, cut-length}
-use Rattle.page.specs.Read.{FieldFault, Read, refused, got}
+use Rattle.page.specs.Read.{FieldFault, refused, got}
 use Rattle.page.specs.Text.{Text, isLabel, readAnyText}
 use Rattle.page.specs.Listed.{listed}
 use Rattle.page.proofs.ListLaws.{listed-more, listed-none, listed-refused}

@@ -4,9 +4,9 @@ use native.Mathlib.Nat.{le-of-suc-le-suc, not-suc-le-zero}
 use native.Mathlib.Numerals.{add-one}
 use native.Mathlib.Omega.{arith}
 use mathlib.Core.Bool.{Bool, true, false}
-use mathlib.Core.List.{List, [], _∷_, _++_, map, append-assoc}
+use mathlib.Core.List.{List, [], _∷_, _++_, append-assoc}
 use mathlib.Core.Path.{_≡_, refl, sym, ap, _∙_, subst}
-use lib.ListN.{length, getD, take, drop, set, drop-of-length-le, length-set, length-append}
+use lib.ListN.{length, getD, take, drop, set, drop-of-length-le, length-set}
 use lib.Seq.{getD-take, take-take, drop-cons, drop-at, take-at, drop-set-lt, take-suc-set, set-split, length-take-le}
 use Rattle.base.specs.Cases.{by-flag}
 use Rattle.label.specs.Label.{atMost, insert, sort}

@@ -47,10 +47,18 @@ pub fn read_up_to(page: &[u8], at: usize, limit: u64) -> Number
     }
 }
 
+// Most numbers of a page are one byte: these are read without a call.
 pub fn read_number(page: &[u8], at: usize) -> Number
     ensures { λ r. ⌜ numberAt (now (page .entry)) r ≡ readNumber (drop at (now (page .entry))) ⌝ }
     ensures { λ r. ⌜ numberEnd r ≤ length (now (page .entry)) ⌝ }
 {
+    if page.len() <= at {
+        return Number::Bad;
+    }
+    let b = page[at] as u64;
+    if b < 128 {
+        return Number::Got(b, at + 1);
+    }
     read_up_to(page, at, LIMIT)
 }
 

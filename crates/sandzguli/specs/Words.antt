@@ -1,8 +1,11 @@
 -- The words of the library's face for C (house format): one 64-bit number for an outcome, one for the part of 19's label.
 use Prim.Native.Nat.{ℕ, _+_, _*_, _^_, _%_}
+use mathlib.Core.Path.{_≡_}
+use mathlib.Core.List.{List}
 use Rattle.records.specs.Kind.{kindNumber}
 use Rattle.records.specs.Outcome.{Outcome, answer, refusal}
 use Rattle.ast.specs.Part.{Part}
+use Rattle.sandzguli.specs.Calls.{Called}
 
 -- accepted: four times the count of bytes written, and the kind's number. A count is below 2^61, since no memory is larger; the
 -- remainder says so without a claim on texts. Refused: the highest bit, then the refusal's number and the record
@@ -13,3 +16,8 @@ outcomeWord (refusal n i) = 2 ^ 63 + n * 65536 + i
 -- the start and the size of the label; 0 where there is none. Only the outcome says whether there is one
 abbrev pub labelWord : Part → ℕ
 labelWord p = p .start * 256 + p .size
+
+-- what a call of the library's face did: its word, and what the buffer holds afterwards
+pub record DoesWord (called : Called) (word : ℕ) (buffer : List ℕ) : Type 0 where
+  pub answers : word ≡ outcomeWord (called .outcome)
+  pub leaves : buffer ≡ called .buffer

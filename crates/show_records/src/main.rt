@@ -15,14 +15,19 @@ mod line;
 mod part;
 
 use entry::put_record;
+ghost use mathlib.Core.Path.{_≡_};
 ghost use Prim.Native.Nat.{_<_};
+ghost use Rattle.page.specs.Read.{faultNumber};
+ghost use Rattle.page.specs.Answers.{faultOf};
 use line::put;
 use line::put_word;
 use line::write_line;
 use reader::RecordField;
 use reader::read_record;
 
-fn fault_number(f: page::Fault) -> u64 {
+fn fault_number(f: page::Fault) -> u64
+    ensures { λ r. ⌜ r ≡ faultNumber (faultOf f) ⌝ }
+{
     match f {
         page::Fault::BadField => 1,
         page::Fault::PastLimit => 3,

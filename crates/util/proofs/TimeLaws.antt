@@ -1,8 +1,8 @@
 -- Texts of @ times and offsets by their forms, as the code has them. Assumes nothing.
 use Prim.Native.Nat.{ℕ, _+_, _/_, _%_, _≤_}
 use native.Mathlib.Omega.{arith}
-use mathlib.Core.List.{List, [], _∷_, _++_, append-assoc}
-use mathlib.Core.Path.{_≡_, refl, sym, ap, _∙_}
+use mathlib.Core.List.{List, [], _∷_, append-assoc}
+use mathlib.Core.Path.{_≡_, ap, _∙_}
 use lib.ListN.{length, length-append}
 use Rattle.base.specs.Splice.{Cut, join}
 use Rattle.records.specs.Answers.{atModifierOf, offsetOf}

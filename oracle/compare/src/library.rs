@@ -20,7 +20,7 @@ pub struct Library {
 extern "C" {
     #[cfg(feature = "check")]
     fn sandzguli_check(page: *const u8, page_len: usize) -> u64;
-    #[cfg(feature = "check")]
+    #[cfg(feature = "joint_label")]
     fn sandzguli_joint_label(page: *const u8, page_len: usize) -> u64;
     #[cfg(feature = "copy")]
     fn sandzguli_copy(page: *const u8, page_len: usize, out: *mut u8, out_len: usize) -> u64;
@@ -38,6 +38,9 @@ impl Library {
         #[cfg(feature = "check")]
         {
             library.check = Some(sandzguli_check);
+        }
+        #[cfg(feature = "joint_label")]
+        {
             library.joint_label = Some(sandzguli_joint_label);
         }
         #[cfg(feature = "copy")]

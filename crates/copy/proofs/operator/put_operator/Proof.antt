@@ -1,4 +1,5 @@
 -- `copy::operator::put_operator` meets its contract: a case for each law of a binary record's piece. Assumes nothing.
+use Prim.Native.Nat.{_+_}
 use mathlib.Core.Path.{sym, ap, _∙_}
 use native.Mathlib.Omega.{arith}
 use lib.ListN.{length}
@@ -12,6 +13,9 @@ add-is-set-operator c = omega (arith, operator-wide (c .before .before .pre .0 .
 
 shared-slice-read-is-set-operator : tie.Need-shared-slice-read-is-set-operator
 shared-slice-read-is-set-operator c = omega (arith, operator-wide (c .before .before .before .pre .0 .span) (c .before .before .before .pre .1), c .before .before .before .pre .0 .span .inside)
+
+cast-is-set-operator : tie.Need-cast-is-set-operator
+cast-is-set-operator c = omega (arith, c .shared-slice-known2 .given (c .before .before .before .args .start + 1))
 
 is-set-operator-requires : tie.Need-is-set-operator-requires
 is-set-operator-requires c κs = search needs
@@ -64,6 +68,7 @@ put-operator-spec =
     (tie.spec
     add-is-set-operator
     shared-slice-read-is-set-operator
+    cast-is-set-operator
     is-set-operator-requires
     add-if2
     shared-slice-read-if2

@@ -1,4 +1,5 @@
 -- `copy::piece::piece_len` meets its contract: one record alone has another length in the copy. Assumes nothing.
+use Prim.Native.Nat.{_+_}
 use mathlib.Core.Path.{sym, _∙_}
 use native.Mathlib.Omega.{arith}
 use borrow.Author.Needs.{needs}
@@ -22,6 +23,9 @@ add-is-set-operator c = omega (arith, operator-wide (c .before .before .before .
 
 shared-slice-read-is-set-operator : tie.Need-shared-slice-read-is-set-operator
 shared-slice-read-is-set-operator c = omega (arith, operator-wide (c .before .before .before .before .pre) (c .before .if1 .left), c .before .before .before .before .pre .inside)
+
+cast-is-set-operator : tie.Need-cast-is-set-operator
+cast-is-set-operator c = omega (arith, c .shared-slice-known3 .given (c .before .before .before .before .args .start + 1))
 
 is-set-operator-requires : tie.Need-is-set-operator-requires
 is-set-operator-requires c κs = search needs
@@ -50,6 +54,7 @@ piece-len-spec =
     returns
     add-is-set-operator
     shared-slice-read-is-set-operator
+    cast-is-set-operator
     is-set-operator-requires
     add-if3
     shared-slice-read-if3

@@ -1,0 +1,167 @@
+-- The invariant of the walk's loop, and what each way out of the loop's body makes of it.
+use Prim.Native.Nat.{ℕ, suc, _+_, _-_, _≤_, _<_}
+use mathlib.Core.Path.{_≡_, refl, sym, ap, subst, _∙_}
+use mathlib.Core.List.{List, [], _∷_, map}
+use native.Mathlib.Omega.{arith}
+use native.Mathlib.Numerals.{add-one}
+use lib.ListN.{length, getD, set, drop}
+use lib.Ieee.{Float}
+use Rattle.page.specs.Read.{FieldFault, faultNumber, refused as refusedField, got}
+use Rattle.records.specs.Kind.{Kind}
+use Rattle.records.specs.Record.{Record, operands, readRecord}
+use Rattle.records.specs.Record as records
+use Rattle.ast.specs.Refusal.{refused, ok}
+use Rattle.ast.specs.Expr.{Expr, valueType}
+use Rattle.ast.specs.Walk.{Checked, accepted, refusedAt, atEnd}
+use Rattle.ast.specs.CheckPage.{checkPage}
+use Rattle.ast.specs.Node.{Node, stringNode, nodeKind, nodeOf}
+use Rattle.ast.specs.Judge.{judgement}
+use Rattle.ast.specs.Tables.{stackAt, newest, treeAt, Tables}
+use Rattle.ast.proofs.NodeLaws.{nodeOf-kind}
+use Rattle.judge.specs.Stack.{formOf, valueOf, nodes, Sized}
+use Rattle.judge.proofs.StackLaws.{stack-size, stack-empty, stack-top}
+use Rattle.checking.specs.Answers.{Accepts}
+use Rattle.checking.specs.Walk.{firstOf}
+use Rattle.checking.proofs.ApplyLaws.{Pushed, apply-pushes, operands-there, Applied, applied, unapplied}
+use Rattle.checking.proofs.BasesLaws.{first-right}
+use Rattle.checking.proofs.ProgressLaws.{Progress, progress-start, at-stack, progress-end, progress-over, progress-bad, progress-refused, progress-next}
+use Rattle.checking.proofs.TableLaws.{tables-start, tables-next, entry-of}
+use Rattle.checking.proofs.HeldLaws.{Arrays, stack-length, arrays-next}
+
+pub record Held (page starts firsts forms : List ℕ) (values : List Float) (bases : List ℕ) (top at count : ℕ) : Type 0 where
+  -- the trees of which the arrays hold the nodes
+  pub stack : List Expr
+  pub progress : Progress page at count stack
+  pub arrays : Arrays page forms values bases top count stack
+  pub tables : Tables page starts firsts count
+
+pub held-start : {page starts firsts forms : List ℕ} {values : List Float} {bases : List ℕ} → length page ≤ 8192 → Sized forms values → length bases ≡ 256
+    → length starts ≡ 256 → length firsts ≡ 256 → Held page starts firsts forms values bases 256 0 0
+held-start {page} {starts} {firsts} {forms} {values} {bases} short sized b s f = record {
+  stack = [];
+  progress = progress-start page short;
+  arrays = record {
+    sized = sized;
+    bases-size = b;
+    summaries = stack-empty forms values sized 256 (omega arith);
+    firsts = tt;
+    top-range = omega arith;
+    depth-range = omega arith;
+  };
+  tables = tables-start page starts firsts s f;
+}
+
+-- after a record that takes n operands and puts the node x
+pub record Next (page starts firsts forms : List ℕ) (values : List Float) (bases : List ℕ) (top at count n next : ℕ) (x : Node) : Type 0 where
+  pub high : top + n ≤ 256
+  pub low : 1 ≤ top + n
+  pub held-again :
+      let first = firstOf n count (drop top bases) in let place = top + n - 1 in
+      Held page (set starts count at) (set firsts count first) (set forms place (formOf x)) (set values place (valueOf x)) (set bases place first) place next (count + 1)
+
+module _ {page starts firsts forms : List ℕ} {values : List Float} {bases : List ℕ} {top at count : ℕ} (held : Held page starts firsts forms values bases top at count) where
+  abbrev trees : List Expr
+  trees = held .stack
+
+  -- ## The page's end
+
+  not-one : (s : List Expr) → (length s ≡ 1 → ⊥) → atEnd records.end count s ≡ refusedAt 2 count
+  not-one [] h = refl
+  not-one (e ∷ []) h = absurd (h refl)
+  not-one (e ∷ f ∷ s) h = refl
+
+  pub ends-refused : length page ≤ at → (top ≡ 255 → ⊥) → checkPage page ≡ refusedAt 2 count
+  ends-refused h other =
+      progress-end (held .progress) h ∙ not-one trees (λ e. other (omega (arith, e, stack-length (held .arrays), held .arrays .top-range)))
+
+  -- one tree is left, and its node lies on top
+  pub record Left : Type 0 where
+    pub tree : Expr
+    pub is : trees ≡ tree ∷ []
+    pub node : getD (nodes forms values) 255 stringNode ≡ nodeOf tree
+
+  left-one : top ≡ 255 → Left
+  left-one e = go trees refl (omega (arith, e, stack-length (held .arrays))) (sym (stack-top forms values (held .arrays .sized) 255 (omega arith)) ∙ rw e at (held .arrays .summaries))
+    where
+      go : (s : List Expr) → trees ≡ s → length s ≡ 1 → getD (nodes forms values) 255 stringNode ∷ drop (255 + 1) (nodes forms values) ≡ map nodeOf s → Left
+      go [] same h p = absurd (let z : ⊥ = omega arith in z)
+      go (t ∷ []) same h p = record { tree = t; is = same; node = cc }
+      go (t ∷ u ∷ s) same h p = absurd (let z : ⊥ = omega arith in z)
+
+  module _ (over : length page ≤ at) (one : top ≡ 255) where
+    left-tree : checkPage page ≡ accepted (left-one one .tree) count
+    left-tree = progress-end (held .progress) over ∙ ap (atEnd records.end count) (left-one one .is)
+
+    pub ends-accepted : {k : Kind} → k ≡ nodeKind (getD (nodes forms values) 255 stringNode) → Accepts page starts firsts k count
+    unfolding treeAt
+    ends-accepted {k} is =
+        let last : suc (count - 1) ≡ count = omega (arith, one, held .arrays .depth-range) in
+        let tree-is : newest (stackAt page (suc (count - 1))) ≡ left-one one .tree = ap (λ (n : ℕ). newest (stackAt page n)) last ∙ ap newest (at-stack (held .progress) ∙ left-one one .is) in
+        let kind-is : k ≡ valueType (left-one one .tree) = is ∙ ap nodeKind (left-one one .node) ∙ nodeOf-kind (left-one one .tree) in
+        record {
+          tables = held .tables;
+          tree = left-tree ∙ ap {B = Checked Expr} (λ t. accepted t count) (sym tree-is);
+          kind = ap valueType tree-is ∙ sym kind-is;
+        }
+
+  -- ## A record is left
+
+  module _ (more : at < length page) where
+    pub too-many : count ≡ 256 → checkPage page ≡ refusedAt 3 count
+    too-many e = progress-over (held .progress) more e
+
+    module _ (few : count ≡ 256 → ⊥) where
+      pub unreadable : (f : FieldFault) → refusedField f ≡ readRecord (drop at page) → checkPage page ≡ refusedAt (faultNumber f) count
+      unreadable f e = progress-bad (held .progress) more few f e
+
+      module _ {r : Record} (next : ℕ) (read : got r (drop next page) ≡ readRecord (drop at page)) where
+        pub unfit : {n : ℕ} → refused n ≡ judgement r (drop top (nodes forms values)) → checkPage page ≡ refusedAt n count
+        unfit e =
+            progress-refused (held .progress) more few next read
+            (unapplied r trees (held .progress .sound) (e ∙ ap (judgement r) (held .arrays .summaries)))
+
+        module _ (inside : next ≤ length page) {x : Node} (put : ok x ≡ judgement r (drop top (nodes forms values))) (n : ℕ) (takes : n ≡ operands r) where
+          done : Applied r trees x
+          done = applied r trees (held .progress .sound) (put ∙ ap (judgement r) (held .arrays .summaries))
+
+          abbrev after : List Expr
+          after = done .after
+
+          there : operands r ≤ length (drop top (nodes forms values))
+          there = operands-there r (drop top (nodes forms values)) x put
+
+          enough : top + n ≤ 256
+          enough = omega (arith, held .arrays .top-range, takes, rw (stack-size forms values (held .arrays .sized) top) at there)
+
+          room : 1 ≤ top + n
+          room = omega (arith, held .arrays .depth-range, held .progress .count-range, few)
+
+          new : Pushed trees (operands r) after
+          new = apply-pushes r trees (done .applies)
+
+          node-is : nodeOf (new .tree) ≡ x
+          node-is = head (ap (map nodeOf) (sym (new .is)) ∙ done .nodes)
+            where
+              head : {y z : Node} {ys zs : List Node} → y ∷ ys ≡ z ∷ zs → y ≡ z
+              head e = cc
+
+          first-is : (firstOf n count (drop top bases) ≤ count) × (stackAt page (firstOf n count (drop top bases)) ≡ drop n trees)
+          first-is = first-right page count n (drop top bases) trees (at-stack (held .progress)) (held .arrays .firsts) (omega (arith, enough, stack-length (held .arrays)))
+
+          onward : Progress page next (suc count) after
+          onward = progress-next (held .progress) more few next read inside after (done .applies)
+
+          held-next :
+              let first = firstOf n count (drop top bases) in let place = top + n - 1 in
+              Held page (set starts count at) (set firsts count first) (set forms place (formOf x)) (set values place (valueOf x)) (set bases place first) place next (suc count)
+          held-next = record {
+            stack = new .tree ∷ drop n trees;
+            progress = subst (λ (s : List Expr). Progress page next (suc count) s) (new .is ∙ ap {B = List Expr} (λ k. new .tree ∷ drop k trees) (sym takes)) onward;
+            arrays = arrays-next (held .arrays) n (firstOf n count (drop top bases)) x (new .tree) enough room node-is (omega (arith, first-is .0)) (first-is .1);
+            tables = tables-next (held .tables) (omega (arith, held .progress .count-range, few)) at (firstOf n count (drop top bases))
+                (entry-of page at (firstOf n count (drop top bases)) count (held .progress .stands) read (at-stack (held .progress)) (at-stack onward)
+                (omega (arith, enough, takes, stack-length (held .arrays))) (done .applies) (first-is .0) (first-is .1 ∙ ap (λ (k : ℕ). drop k trees) takes));
+          }
+
+          pub stepped : Next page starts firsts forms values bases top at count n next x
+          stepped = record { high = enough; low = room; held-again = rw add-one held-next }

@@ -1,0 +1,26 @@
+// The calls that write into a lent buffer. The length is known before a byte is written: a refusal leaves the buffer as it was.
+use checking::Outcome;
+use checking::walk::Walked;
+use checking::walk::walk;
+use judge::Refusal;
+ghost use Rattle.checking.specs.Answers.{outcomeMeant};
+ghost use Rattle.sandzguli.specs.Calls.{copy, Does};
+
+// The copy of an accepted page.
+pub fn copy(page: &[u8], out: &mut [u8]) -> Outcome
+    ensures { λ r. ⌜ Does (copy (now (page .entry)) (now (out .entry))) (outcomeMeant r) (now (out .exit)) ⌝ }
+{
+    let mut starts = [0u16; 256];
+    let mut firsts = [0u8; 256];
+    let walked = walk(page, &mut starts, &mut firsts);
+    match walked {
+        Walked::Accepted(kind, n) => {
+            if copy::copy_fits(page, &starts, n, out.len()) {
+                let written = copy::put_copy(page, &starts, n, out);
+                return Outcome::Accepted(kind, written);
+            }
+            Outcome::Refused(Refusal::OutputTooShort, n)
+        }
+        Walked::Refused(refusal, index) => Outcome::Refused(refusal, index),
+    }
+}

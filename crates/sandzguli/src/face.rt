@@ -1,0 +1,38 @@
+// The library's face for C: a slice passes as pointer and length, an outcome as one word.
+use crate::calls::copy;
+use crate::part::label_span;
+use crate::word::outcome_word;
+use checking::check;
+ghost use mathlib.Core.Path.{_≡_};
+ghost use Rattle.ast.specs.CheckPage.{check};
+ghost use Rattle.ast.specs.Part.{labelPart};
+ghost use Rattle.sandzguli.specs.Calls.{copy};
+ghost use Rattle.sandzguli.specs.Words.{outcomeWord, labelWord, DoesWord};
+
+#[no_mangle]
+pub extern "C" fn sandzguli_check(page: &[u8]) -> u64
+    ensures { λ r. ⌜ r ≡ outcomeWord (check (now (page .entry))) ⌝ }
+{
+    outcome_word(check(page))
+}
+
+#[no_mangle]
+pub extern "C" fn sandzguli_copy(page: &[u8], out: &mut [u8]) -> u64
+    ensures { λ r. ⌜ DoesWord (copy (now (page .entry)) (now (out .entry))) r (now (out .exit)) ⌝ }
+{
+    outcome_word(copy(page, out))
+}
+
+// The start and the size of the label of 19; 0 where there is none. A page above the limit is refused with 3, so the word fits.
+#[no_mangle]
+pub extern "C" fn sandzguli_joint_label(page: &[u8]) -> u64
+    ensures { λ r. ⌜ r ≡ labelWord (labelPart (now (page .entry)) (check (now (page .entry)))) ⌝ }
+{
+    if 8192 < page.len() {
+        return 0;
+    }
+    let label = label_span(page);
+    let start = label.start;
+    let end = label.end;
+    start as u64 * 256 + (end - start) as u64
+}

@@ -1,0 +1,29 @@
+// The label of refusal 19 (document 01, 'Outcomes of a page'): the part of the page itself that holds it.
+use checking::Outcome;
+use checking::check;
+use judge::refusal::refusal_number;
+use page::Span;
+use page::text_at;
+ghost use mathlib.Core.Path.{_≡_};
+ghost use Rattle.ast.specs.CheckPage.{check};
+ghost use Rattle.ast.specs.Part.{labelPart, partOf};
+ghost use Rattle.joint.specs.Answers.{IsPart};
+
+// Where it starts and ends; no bytes where the page is not refused with 19. Only the outcome says whether there is a label.
+pub fn label_span(page: &[u8]) -> Span
+    ensures { λ r. ⌜ IsPart (now (page .entry)) (labelPart (now (page .entry)) (check (now (page .entry)))) r ⌝ }
+{
+    match check(page) {
+        Outcome::Accepted(_, _) => Span { start: 0, end: 0 },
+        Outcome::Refused(refusal, index) => {
+            joint::joint_label(page, refusal_number(refusal), index)
+        }
+    }
+}
+
+// The first group label that is also in the on list, as that part of the lent page; an empty part otherwise.
+pub fn joint_label(page: &[u8]) -> &[u8]
+    ensures { λ r. ⌜ now r ≡ partOf (now (page .entry)) (labelPart (now (page .entry)) (check (now (page .entry)))) ⌝ }
+{
+    text_at(page, label_span(page))
+}

@@ -1,0 +1,34 @@
+// An outcome as one 64-bit word, for C (house format).
+use checking::Outcome;
+use judge::refusal::refusal_number;
+use records::Kind;
+ghost use mathlib.Core.Path.{_≡_};
+ghost use Rattle.records.specs.Kind.{kindNumber};
+ghost use Rattle.records.specs.Answers.{kindOf};
+ghost use Rattle.ast.specs.Table.{isInTable, InTable};
+ghost use Rattle.checking.specs.Answers.{outcomeMeant};
+ghost use Rattle.sandzguli.specs.Words.{outcomeWord};
+
+fn kind_number(kind: Kind) -> u64
+    ensures { λ r. ⌜ r ≡ kindNumber (kindOf kind) ⌝ }
+{
+    match kind {
+        Kind::Vector => 0,
+        Kind::Scalar => 1,
+        Kind::Matrix => 2,
+        Kind::String => 3,
+    }
+}
+
+// Accepted: four times the count of bytes, and the kind. Refused: the highest bit, the refusal's number, the record.
+pub fn outcome_word(outcome: Outcome) -> u64
+    requires { ⌜ InTable isInTable (outcomeMeant outcome) ⌝ }
+    ensures { λ r. ⌜ r ≡ outcomeWord (outcomeMeant outcome) ⌝ }
+{
+    match outcome {
+        Outcome::Accepted(kind, n) => n as u64 % 2305843009213693952 * 4 + kind_number(kind),
+        Outcome::Refused(refusal, index) => {
+            9223372036854775808 + refusal_number(refusal) * 65536 + index as u64
+        }
+    }
+}

@@ -1,0 +1,5 @@
+pub mod SelectorLaws
+pub mod ModifierLaws
+pub mod DeclaredLaws
+pub mod CallLaws
+pub mod RecordLaws

@@ -1,0 +1,3 @@
+pub mod Selector
+pub mod Call
+pub mod Judged
