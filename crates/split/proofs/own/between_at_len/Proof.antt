@@ -1,0 +1,94 @@
+-- `split::own::between_at_len` meets its contract: by the form. Assumes nothing.
+use Rattle.split.proofs.SplitLaws.{led, infixed-len, closed-len}
+use Rattle.view.proofs.ViewLaws.{layout-formed}
+use Rattle.view.specs.View.{layoutOn}
+use Rattle.text.proofs.CappedLaws.{len-as, len-plus}
+use Rattle.text.specs.Layout.{Layout, head, operator, suffix, indentIf, frontAt, betweenAt, rearAt}
+use Rattle.page.specs.Bytes.{bytes}
+use lib.ListN.{length}
+use mathlib.Core.List.{[], _∷_, _++_}
+use mathlib.Core.Bool.{true}
+use mathlib.Core.Path.{_≡_, sym, ap, _∙_}
+use native.Mathlib.Omega.{arith}
+use borrow.Author.Needs.{needs}
+use Rattle.split.proofs.own.between_at_len.Statement.{statement}
+use Rattle.split.proofs.own.between_at_len.Tie as tie
+use Rattle.split.proofs.own.between_at_len.Reads as reads
+use Rattle.split.proofs.own.between_at_len.Lts as lts
+use Rattle.split.proofs.own.indent_len.Reads as indent-len-reads
+use Rattle.pieces.proofs.operator_len.Reads as operator-len-reads
+use Rattle.util.proofs.capped_add.Reads as capped-add-reads
+use Rattle.view.proofs.form_of.Reads as form-of-reads
+
+form-of-requires : tie.Need-form-of-requires
+form-of-requires c κs = search needs
+
+enum-told : tie.Need-enum-told
+enum-told c = search needs
+
+enum-told-2 : tie.Need-enum-told-2
+enum-told-2 c = search needs
+
+enum-told-3 : tie.Need-enum-told-3
+enum-told-3 c = search needs
+
+enum-told-4 : tie.Need-enum-told-4
+enum-told-4 c = search needs
+
+capped-add-requires : tie.Need-capped-add-requires
+capped-add-requires c κs = search needs
+
+enum-told-5 : tie.Need-enum-told-5
+enum-told-5 c = search needs
+
+indent-len-requires : tie.Need-indent-len-requires
+indent-len-requires c κs = c .before .before .before .before .pre .1
+
+sub-operator-len : tie.Need-sub-operator-len
+sub-operator-len c = omega (arith, c .indent-len .ensures)
+
+operator-len-requires : tie.Need-operator-len-requires
+operator-len-requires c κs = c .before .before .before .before .before .pre .0
+
+add-capped-add : tie.Need-add-capped-add
+add-capped-add c = omega (arith, c .before .indent-len .ensures, c .operator-len .ensures)
+
+capped-add-requires-2 : tie.Need-capped-add-requires-2
+capped-add-requires-2 c κs = search needs
+
+returns : tie.Need-returns
+returns c = let e = layout-formed (c .before .before .before .before .args .page .now) (c .before .before .before .before .args .own) (sym (c .enum-told .given .1) ∙ c .before .before .form-of .ensures) in omega (arith, ap (λ (l : Layout). length (betweenAt (c .before .before .before .before .args .level) l)) e)
+
+returns-2 : tie.Need-returns-2
+returns-2 c = let e = layout-formed (c .before .before .before .before .args .page .now) (c .before .before .before .before .args .own) (sym (c .enum-told2 .given .1) ∙ c .before .before .form-of .ensures) in omega (arith, ap (λ (l : Layout). length (betweenAt (c .before .before .before .before .args .level) l)) e)
+
+returns-3 : tie.Need-returns-3
+returns-3 c = let e = layout-formed (c .before .before .before .before .args .page .now) (c .before .before .before .before .args .own) (sym (c .enum-told3 .given .1) ∙ c .before .before .form-of .ensures) in omega (arith, ap (λ (l : Layout). length (betweenAt (c .before .before .before .before .args .level) l)) e)
+
+returns-4 : tie.Need-returns-4
+returns-4 c = let e = layout-formed (c .before .before .before .before .before .args .page .now) (c .before .before .before .before .before .args .own) (sym (c .before .enum-told4 .given .1) ∙ c .before .before .before .form-of .ensures) in omega (arith, c .capped-add .ensures, ap (λ (l : Layout). length (betweenAt (c .before .before .before .before .before .args .level) l)) e)
+
+returns-5 : tie.Need-returns-5
+returns-5 c = let e = layout-formed (c .before .before .before .before .before .before .before .args .page .now) (c .before .before .before .before .before .before .before .args .own) (sym (c .before .before .before .enum-told5 .given .1) ∙ c .before .before .before .before .before .form-of .ensures) in len-as _ _ _ (ap (betweenAt (c .before .before .before .before .before .before .before .args .level)) e) (infixed-len (c .before .before .before .before .before .before .before .args .level) (operator (layoutOn (c .before .before .before .before .before .before .before .args .page .now) (c .before .before .before .before .before .before .before .args .own))) _ _ _ _ (c .before .before .indent-len .ensures) (c .before .operator-len .ensures) (c .capped-add2 .ensures))
+
+pub between-at-len-spec : {M : Type 1} → statement M
+between-at-len-spec =
+    tie.close
+    (tie.spec
+    form-of-requires
+    enum-told
+    enum-told-2
+    enum-told-3
+    enum-told-4
+    capped-add-requires
+    enum-told-5
+    indent-len-requires
+    sub-operator-len
+    operator-len-requires
+    add-capped-add
+    capped-add-requires-2
+    returns
+    returns-2
+    returns-3
+    returns-4
+    returns-5)

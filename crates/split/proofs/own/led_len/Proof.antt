@@ -1,0 +1,38 @@
+-- `split::own::led_len` meets its contract. Assumes nothing.
+use Rattle.split.proofs.SplitLaws.{led, infixed-len, closed-len}
+use Rattle.view.proofs.ViewLaws.{layout-formed}
+use Rattle.view.specs.View.{layoutOn}
+use Rattle.text.proofs.CappedLaws.{len-as, len-plus}
+use Rattle.text.specs.Layout.{Layout, head, operator, suffix, indentIf, frontAt, betweenAt, rearAt}
+use Rattle.page.specs.Bytes.{bytes}
+use lib.ListN.{length}
+use mathlib.Core.List.{[], _∷_, _++_}
+use mathlib.Core.Bool.{true}
+use mathlib.Core.Path.{_≡_, sym, ap, _∙_}
+use native.Mathlib.Omega.{arith}
+use borrow.Author.Needs.{needs}
+use Rattle.split.proofs.own.led_len.Statement.{statement}
+use Rattle.split.proofs.own.led_len.Tie as tie
+use Rattle.split.proofs.own.led_len.Reads as reads
+use Rattle.split.proofs.own.led_len.Lts as lts
+use Rattle.pieces.proofs.head_len.Reads as head-len-reads
+use Rattle.split.proofs.own.indent_len.Reads as indent-len-reads
+
+indent-len-requires : tie.Need-indent-len-requires
+indent-len-requires c κs = c .before .pre .1
+
+sub-head-len : tie.Need-sub-head-len
+sub-head-len c = omega (arith, c .indent-len .ensures)
+
+head-len-requires : tie.Need-head-len-requires
+head-len-requires c κs = c .before .before .pre .0
+
+add-result : tie.Need-add-result
+add-result c = omega (arith, c .before .indent-len .ensures, c .head-len .ensures)
+
+returns : tie.Need-returns
+returns c = led (indentIf (c .before .before .before .args .mark) (c .before .before .before .args .level)) (head (layoutOn (c .before .before .before .args .page .now) (c .before .before .before .args .own))) (c .before .before .before .args .cap) _ _ (c .before .indent-len .ensures) (c .head-len .ensures)
+
+pub led-len-spec : {M : Type 1} → statement M
+led-len-spec =
+    tie.close (tie.spec indent-len-requires sub-head-len head-len-requires add-result returns)

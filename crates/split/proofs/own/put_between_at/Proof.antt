@@ -1,0 +1,104 @@
+-- `split::own::put_between_at` meets its contract. Assumes nothing.
+use Rattle.split.proofs.SplitLaws.{run-infixed, run-closed}
+use Rattle.view.proofs.ViewLaws.{layout-formed}
+use Rattle.view.specs.View.{layoutOn}
+use Rattle.text.proofs.WriteLaws.{wrote-nothing, wrote-as, room-as, run-two}
+use Rattle.text.specs.Layout.{Layout, head, operator, suffix, indentIf, frontAt, betweenAt, rearAt}
+use Rattle.page.specs.Bytes.{bytes}
+use Rattle.base.specs.Splice.{fits, next, end}
+use lib.ListN.{length}
+use mathlib.Core.List.{[], _∷_, _++_}
+use mathlib.Core.Bool.{true}
+use mathlib.Core.Path.{_≡_, refl, sym, ap, _∙_}
+use native.Mathlib.Omega.{arith}
+use borrow.Author.Needs.{needs}
+use Rattle.split.proofs.own.put_between_at.Statement.{statement}
+use Rattle.split.proofs.own.put_between_at.Tie as tie
+use Rattle.split.proofs.own.put_between_at.Reads as reads
+use Rattle.split.proofs.own.put_between_at.Lts as lts
+use Rattle.page.proofs.put_byte.Reads as put-byte-reads
+use Rattle.page.proofs.put_bytes.Reads as put-bytes-reads
+use Rattle.pieces.proofs.put_operator.Reads as put-operator-reads
+use Rattle.split.proofs.own.put_spaces.Reads as put-spaces-reads
+use Rattle.view.proofs.form_of.Reads as form-of-reads
+
+form-of-requires : tie.Need-form-of-requires
+form-of-requires c κs = search needs
+
+enum-told : tie.Need-enum-told
+enum-told c = search needs
+
+enum-told-2 : tie.Need-enum-told-2
+enum-told-2 c = search needs
+
+enum-told-3 : tie.Need-enum-told-3
+enum-told-3 c = search needs
+
+enum-told-4 : tie.Need-enum-told-4
+enum-told-4 c = search needs
+
+slice-aggregate-put-bytes : tie.Need-slice-aggregate-put-bytes
+slice-aggregate-put-bytes c = search needs
+
+put-bytes-requires : tie.Need-put-bytes-requires
+put-bytes-requires c κs = let e = layout-formed (c .before .before .before .before .before .before .before .args .page .now) (c .before .before .before .before .before .before .before .args .own) (sym (c .before .before .enum-told4 .given .1) ∙ c .before .before .before .before .form-of .ensures) in room-as _ _ (c .before .before .before .before .before .before .before .args .at) _ (ap (betweenAt (c .before .before .before .before .before .before .before .args .level)) e) (c .before .before .before .before .before .before .before .pre .1)
+
+enum-told-5 : tie.Need-enum-told-5
+enum-told-5 c = search needs
+
+put-byte-requires : tie.Need-put-byte-requires
+put-byte-requires c κs = let e = layout-formed (c .before .before .before .before .before .before .args .page .now) (c .before .before .before .before .before .before .args .own) (sym (c .before .enum-told5 .given .1) ∙ c .before .before .before .form-of .ensures) in fits (run-infixed (c .before .before .before .before .before .before .args .level) (operator (layoutOn (c .before .before .before .before .before .before .args .page .now) (c .before .before .before .before .before .before .args .own))) (c .before .before .before .before .before .before .args .out .now) (c .before .before .before .before .before .before .args .at) (ap (betweenAt (c .before .before .before .before .before .before .args .level)) e) (c .before .before .before .before .before .before .pre .1))
+
+put-spaces-requires : tie.Need-put-spaces-requires
+put-spaces-requires c κs = let e = layout-formed (c .before .before .before .before .before .before .before .before .before .before .args .page .now) (c .before .before .before .before .before .before .before .before .before .before .args .own) (sym (c .before .before .before .before .before .enum-told5 .given .1) ∙ c .before .before .before .before .before .before .before .form-of .ensures) in fits (next (run-infixed (c .before .before .before .before .before .before .before .before .before .before .args .level) (operator (layoutOn (c .before .before .before .before .before .before .before .before .before .before .args .page .now) (c .before .before .before .before .before .before .before .before .before .before .args .own))) (c .before .before .before .before .before .before .before .before .before .before .args .out .now) (c .before .before .before .before .before .before .before .before .before .before .args .at) (ap (betweenAt (c .before .before .before .before .before .before .before .before .before .before .args .level)) e) (c .before .before .before .before .before .before .before .before .before .before .pre .1)) (c .before .before .before .put-byte .ensures))
+
+put-operator-requires : tie.Need-put-operator-requires
+put-operator-requires c κs = let e = layout-formed (c .before .before .before .before .before .before .before .before .before .before .before .before .before .before .args .page .now) (c .before .before .before .before .before .before .before .before .before .before .before .before .before .before .args .own) (sym (c .before .before .before .before .before .before .before .before .before .enum-told5 .given .1) ∙ c .before .before .before .before .before .before .before .before .before .before .before .form-of .ensures) in (c .before .before .before .before .before .before .before .before .before .before .before .before .before .before .pre .0, fits (next (next (run-infixed (c .before .before .before .before .before .before .before .before .before .before .before .before .before .before .args .level) (operator (layoutOn (c .before .before .before .before .before .before .before .before .before .before .before .before .before .before .args .page .now) (c .before .before .before .before .before .before .before .before .before .before .before .before .before .before .args .own))) (c .before .before .before .before .before .before .before .before .before .before .before .before .before .before .args .out .now) (c .before .before .before .before .before .before .before .before .before .before .before .before .before .before .args .at) (ap (betweenAt (c .before .before .before .before .before .before .before .before .before .before .before .before .before .before .args .level)) e) (c .before .before .before .before .before .before .before .before .before .before .before .before .before .before .pre .1)) (c .before .before .before .before .before .before .before .put-byte .ensures)) (c .before .before .before .put-spaces .ensures)))
+
+put-byte-requires-2 : tie.Need-put-byte-requires-2
+put-byte-requires-2 c κs = let e = layout-formed (c .before .before .before .before .before .before .before .before .before .before .before .before .before .before .before .before .before .before .args .page .now) (c .before .before .before .before .before .before .before .before .before .before .before .before .before .before .before .before .before .before .args .own) (sym (c .before .before .before .before .before .before .before .before .before .before .before .before .before .enum-told5 .given .1) ∙ c .before .before .before .before .before .before .before .before .before .before .before .before .before .before .before .form-of .ensures) in fits (next (next (next (run-infixed (c .before .before .before .before .before .before .before .before .before .before .before .before .before .before .before .before .before .before .args .level) (operator (layoutOn (c .before .before .before .before .before .before .before .before .before .before .before .before .before .before .before .before .before .before .args .page .now) (c .before .before .before .before .before .before .before .before .before .before .before .before .before .before .before .before .before .before .args .own))) (c .before .before .before .before .before .before .before .before .before .before .before .before .before .before .before .before .before .before .args .out .now) (c .before .before .before .before .before .before .before .before .before .before .before .before .before .before .before .before .before .before .args .at) (ap (betweenAt (c .before .before .before .before .before .before .before .before .before .before .before .before .before .before .before .before .before .before .args .level)) e) (c .before .before .before .before .before .before .before .before .before .before .before .before .before .before .before .before .before .before .pre .1)) (c .before .before .before .before .before .before .before .before .before .before .before .put-byte .ensures)) (c .before .before .before .before .before .before .before .put-spaces .ensures)) (c .before .before .before .put-operator .ensures))
+
+returns : tie.Need-returns
+returns c = let e = layout-formed (c .before .before .before .before .before .args .page .now) (c .before .before .before .before .before .args .own) (sym (c .enum-told .given .1) ∙ c .before .before .form-of .ensures) in wrote-nothing _ _ (ap (betweenAt (c .before .before .before .before .before .args .level)) e)
+
+returns-2 : tie.Need-returns-2
+returns-2 c = let e = layout-formed (c .before .before .before .before .before .args .page .now) (c .before .before .before .before .before .args .own) (sym (c .enum-told2 .given .1) ∙ c .before .before .form-of .ensures) in wrote-nothing _ _ (ap (betweenAt (c .before .before .before .before .before .args .level)) e)
+
+returns-3 : tie.Need-returns-3
+returns-3 c = let e = layout-formed (c .before .before .before .before .before .args .page .now) (c .before .before .before .before .before .args .own) (sym (c .enum-told3 .given .1) ∙ c .before .before .form-of .ensures) in wrote-nothing _ _ (ap (betweenAt (c .before .before .before .before .before .args .level)) e)
+
+same-length : tie.Need-same-length
+same-length c = c .before .before .put-bytes .kept .1 .0
+
+returns-4 : tie.Need-returns-4
+returns-4 c = let e = layout-formed (c .before .before .before .before .before .before .before .before .before .before .args .page .now) (c .before .before .before .before .before .before .before .before .before .before .args .own) (sym (c .before .before .before .before .before .enum-told4 .given .1) ∙ c .before .before .before .before .before .before .before .form-of .ensures) in wrote-as (ap (betweenAt (c .before .before .before .before .before .before .before .before .before .before .args .level)) e) (c .before .before .put-bytes .ensures)
+
+same-length-2 : tie.Need-same-length-2
+same-length-2 c = c .before .before .put-byte2 .kept .1 .0 ∙ c .before .before .before .before .before .before .put-operator .kept .1 .1 .0 ∙ c .before .before .before .before .before .before .before .before .before .before .put-spaces .kept .1 .0 ∙ c .before .before .before .before .before .before .before .before .before .before .before .before .before .before .put-byte .kept .1 .0
+
+returns-5 : tie.Need-returns-5
+returns-5 c = let e = layout-formed (c .before .before .before .before .before .before .before .before .before .before .before .before .before .before .before .before .before .before .before .before .before .args .page .now) (c .before .before .before .before .before .before .before .before .before .before .before .before .before .before .before .before .before .before .before .before .before .args .own) (sym (c .before .before .before .before .before .before .before .before .before .before .before .before .before .before .before .before .enum-told5 .given .1) ∙ c .before .before .before .before .before .before .before .before .before .before .before .before .before .before .before .before .before .before .form-of .ensures) in end (next (next (next (next (run-infixed (c .before .before .before .before .before .before .before .before .before .before .before .before .before .before .before .before .before .before .before .before .before .args .level) (operator (layoutOn (c .before .before .before .before .before .before .before .before .before .before .before .before .before .before .before .before .before .before .before .before .before .args .page .now) (c .before .before .before .before .before .before .before .before .before .before .before .before .before .before .before .before .before .before .before .before .before .args .own))) (c .before .before .before .before .before .before .before .before .before .before .before .before .before .before .before .before .before .before .before .before .before .args .out .now) (c .before .before .before .before .before .before .before .before .before .before .before .before .before .before .before .before .before .before .before .before .before .args .at) (ap (betweenAt (c .before .before .before .before .before .before .before .before .before .before .before .before .before .before .before .before .before .before .before .before .before .args .level)) e) (c .before .before .before .before .before .before .before .before .before .before .before .before .before .before .before .before .before .before .before .before .before .pre .1)) (c .before .before .before .before .before .before .before .before .before .before .before .before .before .before .put-byte .ensures)) (c .before .before .before .before .before .before .before .before .before .before .put-spaces .ensures)) (c .before .before .before .before .before .before .put-operator .ensures)) (c .before .before .put-byte2 .ensures))
+
+pub put-between-at-spec : {M : Type 1} → statement M
+put-between-at-spec =
+    tie.close
+    (tie.spec
+    form-of-requires
+    enum-told
+    enum-told-2
+    enum-told-3
+    enum-told-4
+    slice-aggregate-put-bytes
+    put-bytes-requires
+    enum-told-5
+    put-byte-requires
+    put-spaces-requires
+    put-operator-requires
+    put-byte-requires-2
+    returns
+    returns-2
+    returns-3
+    same-length
+    returns-4
+    same-length-2
+    returns-5)

@@ -1,0 +1,25 @@
+-- `split::own::put_indent` meets its contract. Assumes nothing.
+use Rattle.text.proofs.WriteLaws.{wrote-nothing}
+use native.Mathlib.Omega.{arith}
+use mathlib.Core.Path.{_≡_, refl}
+use borrow.Author.Needs.{needs}
+use Rattle.split.proofs.own.put_indent.Statement.{statement}
+use Rattle.split.proofs.own.put_indent.Tie as tie
+use Rattle.split.proofs.own.put_indent.Reads as reads
+use Rattle.split.proofs.own.put_indent.Lts as lts
+use Rattle.split.proofs.own.put_spaces.Reads as put-spaces-reads
+
+put-spaces-requires : tie.Need-put-spaces-requires
+put-spaces-requires c κs = rw (c .before .if1 .taken) at (c .before .before .before .pre)
+
+same-length : tie.Need-same-length
+same-length c = c .before .before .put-spaces .kept .1 .0
+
+returns : tie.Need-returns
+returns c = rw (c .before .before .before .before .if1 .taken) (c .before .before .put-spaces .ensures)
+
+returns-2 : tie.Need-returns-2
+returns-2 c = rw (c .if1 .left) (wrote-nothing _ _ refl)
+
+pub put-indent-spec : {M : Type 1} → statement M
+put-indent-spec = tie.close (tie.spec put-spaces-requires same-length returns returns-2)

@@ -1,0 +1,35 @@
+-- `split::own::put_led` meets its contract. Assumes nothing.
+use Rattle.split.proofs.SplitLaws.{run-infixed, run-closed}
+use Rattle.view.proofs.ViewLaws.{layout-formed}
+use Rattle.view.specs.View.{layoutOn}
+use Rattle.text.proofs.WriteLaws.{wrote-nothing, wrote-as, room-as, run-two}
+use Rattle.text.specs.Layout.{Layout, head, operator, suffix, indentIf, frontAt, betweenAt, rearAt}
+use Rattle.page.specs.Bytes.{bytes}
+use Rattle.base.specs.Splice.{fits, next, end}
+use lib.ListN.{length}
+use mathlib.Core.List.{[], _∷_, _++_}
+use mathlib.Core.Bool.{true}
+use mathlib.Core.Path.{_≡_, refl, sym, ap, _∙_}
+use native.Mathlib.Omega.{arith}
+use borrow.Author.Needs.{needs}
+use Rattle.split.proofs.own.put_led.Statement.{statement}
+use Rattle.split.proofs.own.put_led.Tie as tie
+use Rattle.split.proofs.own.put_led.Reads as reads
+use Rattle.split.proofs.own.put_led.Lts as lts
+use Rattle.pieces.proofs.put_head.Reads as put-head-reads
+use Rattle.split.proofs.own.put_indent.Reads as put-indent-reads
+
+put-indent-requires : tie.Need-put-indent-requires
+put-indent-requires c κs = fits (run-two (indentIf (c .before .before .before .args .mark) (c .before .before .before .args .level)) (head (layoutOn (c .before .before .before .args .page .now) (c .before .before .before .args .own))) (c .before .before .before .args .out .now) (c .before .before .before .args .at) refl (c .before .before .before .pre .1))
+
+put-head-requires : tie.Need-put-head-requires
+put-head-requires c κs = (c .before .before .before .before .before .before .before .pre .0, fits (next (run-two (indentIf (c .before .before .before .before .before .before .before .args .mark) (c .before .before .before .before .before .before .before .args .level)) (head (layoutOn (c .before .before .before .before .before .before .before .args .page .now) (c .before .before .before .before .before .before .before .args .own))) (c .before .before .before .before .before .before .before .args .out .now) (c .before .before .before .before .before .before .before .args .at) refl (c .before .before .before .before .before .before .before .pre .1)) (c .before .before .before .put-indent .ensures)))
+
+same-length : tie.Need-same-length
+same-length c = c .before .before .put-head .kept .1 .1 .0 ∙ c .before .before .before .before .before .before .put-indent .kept .1 .1 .0
+
+returns : tie.Need-returns
+returns c = end (next (next (run-two (indentIf (c .before .before .before .before .before .before .before .before .before .before .args .mark) (c .before .before .before .before .before .before .before .before .before .before .args .level)) (head (layoutOn (c .before .before .before .before .before .before .before .before .before .before .args .page .now) (c .before .before .before .before .before .before .before .before .before .before .args .own))) (c .before .before .before .before .before .before .before .before .before .before .args .out .now) (c .before .before .before .before .before .before .before .before .before .before .args .at) refl (c .before .before .before .before .before .before .before .before .before .before .pre .1)) (c .before .before .before .before .before .before .put-indent .ensures)) (c .before .before .put-head .ensures))
+
+pub put-led-spec : {M : Type 1} → statement M
+put-led-spec = tie.close (tie.spec put-indent-requires put-head-requires same-length returns)

@@ -1,0 +1,175 @@
+// What a node longer than a line writes of its own, by its form: before its operands' texts, between each two and behind them, with
+// line feeds and two spaces a level. Lengths are capped.
+use pieces::head_len;
+use pieces::operator_len;
+use pieces::put_head;
+use pieces::put_operator;
+use pieces::put_suffix;
+use pieces::suffix_len;
+use view::Form;
+use view::Own;
+ghost use mathlib.Core.Path.{_≡_};
+ghost use mathlib.Core.List.{_++_};
+ghost use Prim.Native.Nat.{_+_, _≤_, min};
+ghost use lib.ListN.{length};
+ghost use Rattle.base.specs.Splice.{Wrote};
+ghost use Rattle.text.specs.Pretty.{indent};
+ghost use Rattle.text.specs.Layout.{head, operator, suffix, indentIf, frontAt, betweenAt, rearAt};
+ghost use Rattle.view.specs.View.{layoutOn, OwnLies};
+
+pub fn indent_len(mark: bool, level: usize, cap: usize) -> usize
+    requires { ⌜ level ≤ 256 ⌝ }
+    ensures { λ r. ⌜ r ≡ min (length (indentIf mark level)) cap ⌝ }
+{
+    if mark {
+        return util::capped_add(0, level * 2, cap);
+    }
+    0
+}
+
+// Two spaces a level.
+fn put_spaces(level: usize, out: &mut [u8], at: usize) -> usize
+    requires { ⌜ at + length (indent level) ≤ length (now out) ⌝ }
+    ensures { λ r. ⌜ Wrote (now (out .entry)) (now (out .exit)) at (indent level) r ⌝ }
+{
+    if level == 0 {
+        return at;
+    }
+    let next = page::put_bytes(b"  ", out, at);
+    put_spaces(level - 1, out, next)
+}
+
+pub fn put_indent(mark: bool, level: usize, out: &mut [u8], at: usize) -> usize
+    requires { ⌜ at + length (indentIf mark level) ≤ length (now out) ⌝ }
+    ensures { λ r. ⌜ Wrote (now (out .entry)) (now (out .exit)) at (indentIf mark level) r ⌝ }
+{
+    if mark {
+        return put_spaces(level, out, at);
+    }
+    at
+}
+
+// The indentation and the head.
+fn led_len(page: &[u8], own: Own, mark: bool, level: usize, cap: usize) -> usize
+    requires { ⌜ OwnLies (now page) own ⌝ }
+    requires { ⌜ level ≤ 256 ⌝ }
+    ensures { λ r. ⌜ r ≡ min (length (indentIf mark level ++ head (layoutOn (now (page .entry)) own))) cap ⌝ }
+{
+    let lead = indent_len(mark, level, cap);
+    lead + head_len(page, own, cap - lead)
+}
+
+fn put_led(page: &[u8], own: Own, mark: bool, level: usize, out: &mut [u8], at: usize) -> usize
+    requires { ⌜ OwnLies (now page) own ⌝ }
+    requires { ⌜ at + length (indentIf mark level ++ head (layoutOn (now page) own)) ≤ length (now out) ⌝ }
+    ensures { λ r. ⌜ Wrote (now (out .entry)) (now (out .exit)) at (indentIf mark level ++ head (layoutOn (now (page .entry)) own)) r ⌝ }
+{
+    let next = put_indent(mark, level, out, at);
+    put_head(page, own, out, next)
+}
+
+pub fn front_at_len(page: &[u8], own: Own, mark: bool, level: usize, cap: usize) -> usize
+    requires { ⌜ OwnLies (now page) own ⌝ }
+    requires { ⌜ level ≤ 256 ⌝ }
+    ensures { λ r. ⌜ r ≡ min (length (frontAt mark level (layoutOn (now (page .entry)) own))) cap ⌝ }
+{
+    match view::form_of(own) {
+        Form::Whole => led_len(page, own, mark, level, cap),
+        Form::Minus => led_len(page, own, mark, level, cap),
+        Form::Suffixed => 0,
+        Form::Enclosed => util::capped_add(led_len(page, own, mark, level, cap), 2, cap),
+        Form::Infixed => 0,
+    }
+}
+
+pub fn between_at_len(page: &[u8], own: Own, level: usize, cap: usize) -> usize
+    requires { ⌜ OwnLies (now page) own ⌝ }
+    requires { ⌜ level ≤ 256 ⌝ }
+    ensures { λ r. ⌜ r ≡ min (length (betweenAt level (layoutOn (now (page .entry)) own))) cap ⌝ }
+{
+    match view::form_of(own) {
+        Form::Whole => 0,
+        Form::Minus => 0,
+        Form::Suffixed => 0,
+        Form::Enclosed => util::capped_add(0, 2, cap),
+        Form::Infixed => {
+            let lead = indent_len(true, level, cap);
+            util::capped_add(lead + operator_len(page, own, cap - lead), 2, cap)
+        }
+    }
+}
+
+pub fn rear_at_len(page: &[u8], own: Own, level: usize, cap: usize) -> usize
+    requires { ⌜ OwnLies (now page) own ⌝ }
+    requires { ⌜ level ≤ 256 ⌝ }
+    ensures { λ r. ⌜ r ≡ min (length (rearAt level (layoutOn (now (page .entry)) own))) cap ⌝ }
+{
+    match view::form_of(own) {
+        Form::Whole => 0,
+        Form::Minus => 0,
+        Form::Suffixed => suffix_len(page, own, cap),
+        Form::Enclosed => util::capped_add(indent_len(true, level, cap), 2, cap),
+        Form::Infixed => 0,
+    }
+}
+
+pub fn put_front_at(
+    page: &[u8],
+    own: Own,
+    mark: bool,
+    level: usize,
+    out: &mut [u8],
+    at: usize,
+) -> usize
+    requires { ⌜ OwnLies (now page) own ⌝ }
+    requires { ⌜ at + length (frontAt mark level (layoutOn (now page) own)) ≤ length (now out) ⌝ }
+    ensures { λ r. ⌜ Wrote (now (out .entry)) (now (out .exit)) at (frontAt mark level (layoutOn (now (page .entry)) own)) r ⌝ }
+{
+    match view::form_of(own) {
+        Form::Whole => put_led(page, own, mark, level, out, at),
+        Form::Minus => put_led(page, own, mark, level, out, at),
+        Form::Suffixed => at,
+        Form::Enclosed => {
+            let next = put_led(page, own, mark, level, out, at);
+            page::put_bytes(b"(\n", out, next)
+        }
+        Form::Infixed => at,
+    }
+}
+
+pub fn put_between_at(page: &[u8], own: Own, level: usize, out: &mut [u8], at: usize) -> usize
+    requires { ⌜ OwnLies (now page) own ⌝ }
+    requires { ⌜ at + length (betweenAt level (layoutOn (now page) own)) ≤ length (now out) ⌝ }
+    ensures { λ r. ⌜ Wrote (now (out .entry)) (now (out .exit)) at (betweenAt level (layoutOn (now (page .entry)) own)) r ⌝ }
+{
+    match view::form_of(own) {
+        Form::Whole => at,
+        Form::Minus => at,
+        Form::Suffixed => at,
+        Form::Enclosed => page::put_bytes(b",\n", out, at),
+        Form::Infixed => {
+            let lead = page::put_byte(b'\n', out, at);
+            let word = put_spaces(level, out, lead);
+            let behind = put_operator(page, own, out, word);
+            page::put_byte(b'\n', out, behind)
+        }
+    }
+}
+
+pub fn put_rear_at(page: &[u8], own: Own, level: usize, out: &mut [u8], at: usize) -> usize
+    requires { ⌜ OwnLies (now page) own ⌝ }
+    requires { ⌜ at + length (rearAt level (layoutOn (now page) own)) ≤ length (now out) ⌝ }
+    ensures { λ r. ⌜ Wrote (now (out .entry)) (now (out .exit)) at (rearAt level (layoutOn (now (page .entry)) own)) r ⌝ }
+{
+    match view::form_of(own) {
+        Form::Whole => at,
+        Form::Minus => at,
+        Form::Suffixed => put_suffix(page, own, out, at),
+        Form::Enclosed => {
+            let lead = page::put_byte(b'\n', out, at);
+            let last = put_spaces(level, out, lead);
+            page::put_byte(b')', out, last)
+        }
+        Form::Infixed => at,
+    }
+}
