@@ -4,7 +4,7 @@ use checking::walk::Walked;
 use checking::walk::walk;
 use judge::Refusal;
 ghost use Rattle.checking.specs.Answers.{outcomeMeant};
-ghost use Rattle.sandzguli.specs.Calls.{copy, Does};
+ghost use Rattle.sandzguli.specs.Calls.{copy, canonicalText, splitText, Does};
 
 // The copy of an accepted page.
 pub fn copy(page: &[u8], out: &mut [u8]) -> Outcome
@@ -17,6 +17,58 @@ pub fn copy(page: &[u8], out: &mut [u8]) -> Outcome
         Walked::Accepted(kind, n) => {
             if copy::copy_fits(page, &starts, n, out.len()) {
                 let written = copy::put_copy(page, &starts, n, out);
+                return Outcome::Accepted(kind, written);
+            }
+            Outcome::Refused(Refusal::OutputTooShort, n)
+        }
+        Walked::Refused(refusal, index) => Outcome::Refused(refusal, index),
+    }
+}
+
+// Canonical text of an accepted page. Measured up to one byte more than there is room for.
+pub fn canonical(page: &[u8], out: &mut [u8]) -> Outcome
+    ensures { λ r. ⌜ Does (canonicalText (now (page .entry)) (now (out .entry))) (outcomeMeant r) (now (out .exit)) ⌝ }
+{
+    let mut starts = [0u16; 256];
+    let mut firsts = [0u8; 256];
+    let walked = walk(page, &mut starts, &mut firsts);
+    match walked {
+        Walked::Accepted(kind, n) => {
+            let room = out.len();
+            let size = canonical::text_len(page, &starts, &firsts, n - 1, false, room + 1);
+            if size <= room {
+                let written = canonical::write_text(page, &starts, &firsts, n - 1, false, out, 0);
+                return Outcome::Accepted(kind, written);
+            }
+            Outcome::Refused(Refusal::OutputTooShort, n)
+        }
+        Walked::Refused(refusal, index) => Outcome::Refused(refusal, index),
+    }
+}
+
+// Split text of an accepted page, measured likewise.
+pub fn split(page: &[u8], out: &mut [u8]) -> Outcome
+    ensures { λ r. ⌜ Does (splitText (now (page .entry)) (now (out .entry))) (outcomeMeant r) (now (out .exit)) ⌝ }
+{
+    let mut starts = [0u16; 256];
+    let mut firsts = [0u8; 256];
+    let walked = walk(page, &mut starts, &mut firsts);
+    match walked {
+        Walked::Accepted(kind, n) => {
+            let room = out.len();
+            let size = split::split_len(page, &starts, &firsts, n - 1, false, true, 0, room + 1);
+            if size <= room {
+                let written = split::write_split(
+                    page,
+                    &starts,
+                    &firsts,
+                    n - 1,
+                    false,
+                    true,
+                    0,
+                    out,
+                    0,
+                );
                 return Outcome::Accepted(kind, written);
             }
             Outcome::Refused(Refusal::OutputTooShort, n)

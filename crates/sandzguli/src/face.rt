@@ -1,12 +1,14 @@
 // The library's face for C: a slice passes as pointer and length, an outcome as one word.
+use crate::calls::canonical;
 use crate::calls::copy;
+use crate::calls::split;
 use crate::part::label_span;
 use crate::word::outcome_word;
 use checking::check;
 ghost use mathlib.Core.Path.{_≡_};
 ghost use Rattle.ast.specs.CheckPage.{check};
 ghost use Rattle.ast.specs.Part.{labelPart};
-ghost use Rattle.sandzguli.specs.Calls.{copy};
+ghost use Rattle.sandzguli.specs.Calls.{copy, canonicalText, splitText};
 ghost use Rattle.sandzguli.specs.Words.{outcomeWord, labelWord, DoesWord};
 
 #[no_mangle]
@@ -35,4 +37,18 @@ pub extern "C" fn sandzguli_joint_label(page: &[u8]) -> u64
     let start = label.start;
     let end = label.end;
     start as u64 * 256 + (end - start) as u64
+}
+
+#[no_mangle]
+pub extern "C" fn sandzguli_canonical(page: &[u8], out: &mut [u8]) -> u64
+    ensures { λ r. ⌜ DoesWord (canonicalText (now (page .entry)) (now (out .entry))) r (now (out .exit)) ⌝ }
+{
+    outcome_word(canonical(page, out))
+}
+
+#[no_mangle]
+pub extern "C" fn sandzguli_split(page: &[u8], out: &mut [u8]) -> u64
+    ensures { λ r. ⌜ DoesWord (splitText (now (page .entry)) (now (out .entry))) r (now (out .exit)) ⌝ }
+{
+    outcome_word(split(page, out))
 }

@@ -1,0 +1,24 @@
+-- `sandzguli::face::sandzguli_canonical` meets its contract: every outcome is in the table, so its word fits. Assumes nothing.
+use mathlib.Core.Path.{ap, _∙_, subst, sym}
+use denote.Ref.{now}
+use borrow.Author.Needs.{needs}
+use Rattle.ast.specs.Table.{isInTable, InTable}
+use Rattle.sandzguli.specs.Words.{outcomeWord}
+use Rattle.sandzguli.proofs.CallsLaws.{canonicalText-demand1}
+use Rattle.sandzguli.proofs.face.sandzguli_canonical.Statement.{statement}
+use Rattle.sandzguli.proofs.face.sandzguli_canonical.Tie as tie
+
+canonical-requires : tie.Need-canonical-requires
+canonical-requires c κs = search needs
+
+outcome-word-requires : tie.Need-outcome-word-requires
+outcome-word-requires c κs = subst (InTable isInTable) (sym (c .before .before .canonical .ensures .answers)) (canonicalText-demand1 (now (c .before .before .before .before .before .before .args .page)) .inTable (now (c .before .before .before .before .before .before .args .out)))
+
+same-length : tie.Need-same-length
+same-length c = search needs
+
+returns : tie.Need-returns
+returns c = record { answers = c .outcome-word .ensures ∙ ap outcomeWord (c .before .before .before .canonical .ensures .answers); leaves = c .before .before .before .canonical .ensures .leaves }
+
+pub sandzguli-canonical-spec : {M : Type 1} → statement M
+sandzguli-canonical-spec = tie.close (tie.spec canonical-requires outcome-word-requires same-length returns)

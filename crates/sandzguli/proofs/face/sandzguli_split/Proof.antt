@@ -1,0 +1,24 @@
+-- `sandzguli::face::sandzguli_split` meets its contract: every outcome is in the table, so its word fits. Assumes nothing.
+use mathlib.Core.Path.{ap, _∙_, subst, sym}
+use denote.Ref.{now}
+use borrow.Author.Needs.{needs}
+use Rattle.ast.specs.Table.{isInTable, InTable}
+use Rattle.sandzguli.specs.Words.{outcomeWord}
+use Rattle.sandzguli.proofs.CallsLaws.{splitText-demand1}
+use Rattle.sandzguli.proofs.face.sandzguli_split.Statement.{statement}
+use Rattle.sandzguli.proofs.face.sandzguli_split.Tie as tie
+
+split-requires : tie.Need-split-requires
+split-requires c κs = search needs
+
+outcome-word-requires : tie.Need-outcome-word-requires
+outcome-word-requires c κs = subst (InTable isInTable) (sym (c .before .before .split .ensures .answers)) (splitText-demand1 (now (c .before .before .before .before .before .before .args .page)) .inTable (now (c .before .before .before .before .before .before .args .out)))
+
+same-length : tie.Need-same-length
+same-length c = search needs
+
+returns : tie.Need-returns
+returns c = record { answers = c .outcome-word .ensures ∙ ap outcomeWord (c .before .before .before .split .ensures .answers); leaves = c .before .before .before .split .ensures .leaves }
+
+pub sandzguli-split-spec : {M : Type 1} → statement M
+sandzguli-split-spec = tie.close (tie.spec split-requires outcome-word-requires same-length returns)
