@@ -2,9 +2,11 @@
 use checking::walk::Walked;
 use checking::walk::walk;
 use page::same_text;
+use sandzguli::face::sandzguli_canonical;
 use sandzguli::face::sandzguli_check;
 use sandzguli::face::sandzguli_copy;
 use sandzguli::face::sandzguli_joint_label;
+use sandzguli::face::sandzguli_split;
 
 // The lowest word of a refusal, 2^63.
 const REFUSED: u64 = 9223372036854775808;
@@ -20,11 +22,15 @@ pub fn check_equal(page: &[u8], outcome: u64, label: u64) -> bool {
 // The calls that write.
 pub enum Call {
     Copy,
+    Canonical,
+    Split,
 }
 
 fn ask(call: Call, page: &[u8], out: &mut [u8]) -> u64 {
     match call {
         Call::Copy => sandzguli_copy(page, out),
+        Call::Canonical => sandzguli_canonical(page, out),
+        Call::Split => sandzguli_split(page, out),
     }
 }
 

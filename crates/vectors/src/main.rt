@@ -28,20 +28,15 @@ fn replay_text(call: Call, page: &[u8], outcome: u64, text: &mut [u8], out: &mut
     writes_equal(call, page, outcome, &text[..size], out)
 }
 
-// A text whose call is not there yet.
-fn skip_text(text: &mut [u8]) -> bool {
-    let size = read_part(text);
-    size <= text.len()
-}
-
 fn replay_entry(page: &[u8], text: &mut [u8], out: &mut [u8]) -> Replayed {
     match read_word() {
         Word::Got(outcome) => match read_word() {
             Word::Got(label) => {
                 let checked = check_equal(page, outcome, label);
                 let copied = replay_text(Call::Copy, page, outcome, text, out);
-                let texts = skip_text(text) & skip_text(text);
-                if checked & copied & texts {
+                let canonical = replay_text(Call::Canonical, page, outcome, text, out);
+                let split = replay_text(Call::Split, page, outcome, text, out);
+                if checked & copied & canonical & split {
                     return Replayed::Equal;
                 }
                 Replayed::Different
