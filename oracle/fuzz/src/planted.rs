@@ -1,23 +1,47 @@
-//! The library with a fault that only a few pages show: a second offset is refused as an offset on no selector.
+//! The library with a fault that only a few pages show, those with a second offset on an expression. `PLANTED` names it.
 
-use compare::library::Library;
+use compare::library::{Asks, Library};
+use std::env;
 
 const OFFSET_TWICE: u64 = 12;
 
 pub fn library() -> Library {
-    Library {
-        check: Some(check),
-        ..Library::linked()
+    let whole = Library::linked();
+    match env::var("PLANTED").as_deref() {
+        Ok("number") => Library {
+            check: Some(misnumbering),
+            ..whole
+        },
+        Ok("straying") => Library {
+            check: Some(straying),
+            ..whole
+        },
+        other => panic!("PLANTED is {other:?}"),
     }
 }
 
-/// 13 for 12.
-unsafe extern "C" fn check(page: *const u8, length: usize) -> u64 {
-    let linked = Library::linked().check.expect("the call is linked");
+fn linked() -> Asks {
+    Library::linked().check.expect("the call is linked")
+}
+
+fn is_offset_twice(word: u64) -> bool {
+    word >> 63 == 1 && word >> 16 & 0xff == OFFSET_TWICE
+}
+
+/// Answers 13 for 12.
+unsafe extern "C" fn misnumbering(page: *const u8, length: usize) -> u64 {
     // SAFETY: the caller's page.
-    let word = unsafe { linked(page, length) };
-    if word >> 63 == 1 && word >> 16 & 0xff == OFFSET_TWICE {
-        return word + (1 << 16);
+    let word = unsafe { linked()(page, length) };
+    word + u64::from(is_offset_twice(word)) * 65_536
+}
+
+/// Reads a byte behind the page.
+unsafe extern "C" fn straying(page: *const u8, length: usize) -> u64 {
+    // SAFETY: the caller's page.
+    let word = unsafe { linked()(page, length) };
+    if is_offset_twice(word) {
+        // SAFETY: none; this is the fault.
+        unsafe { page.add(length).read_volatile() };
     }
     word
 }
