@@ -19,7 +19,8 @@
  * Where a text may be longer than the buffer, lend more after refusal 5, as examples/c/print_query.c does.
  *
  * Calls keep nothing between them, allocate nothing and use no global state: any thread may call at any time, with a page that
- * no one writes to meanwhile. They recurse over the records of a page, at most 256; docs/SPEED.md has the measured stack use.
+ * no one writes to meanwhile. Both texts recurse over the records of a page, at most 256 deep: the most stack that was measured
+ * is 250,455 bytes (docs/SPEED.md has each call's). Give a thread that prints a stack of 512 KiB or more.
  */
 #ifndef SANDZGULI_H
 #define SANDZGULI_H
