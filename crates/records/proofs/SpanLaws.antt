@@ -1,4 +1,4 @@
--- Parts of the page without bytes, and the rows of a selector. Assumes nothing.
+-- Parts of the page without bytes: a part is empty where its ends meet. Assumes nothing.
 use Prim.Native.Nat.{ℕ, _-_}
 use mathlib.Core.Path.{_≡_, refl, sym, _∙_}
 use mathlib.Core.Bool.{true, false}
