@@ -11,7 +11,7 @@ use lib.ListN.{length, take, drop, length-append, length-drop, length-replicate,
 use lib.Seq.{take-append-seam, take-all, drop-append-le, length-take-le}
 use lib.Dec.{leb}
 use Rattle.base.specs.Cases.{by-lt}
-use Rattle.base.specs.Splice.{Wrote, join, cut, cut-last, begin, step, finish}
+use Rattle.base.specs.Splice.{Wrote, wrote-length, join, cut, cut-last, begin, step, finish}
 use Rattle.page.specs.Bytes.{pick, bytes}
 use Rattle.records.specs.Kind.{Kind}
 use Rattle.records.specs.Outcome.{Outcome, answer, refusal}
@@ -99,12 +99,16 @@ line-short (answer k n) before after e h t =
     omega (arith, length-append (take n after) (bytes "\n"), length-take-le n after (omega (arith, h .0, h .1)), h .1)
 line-short (refusal n i) before after e h t = refusedLine-short n i (isInTable-small n (t .0)) (t .1)
 
-pub output-short : (page : List ℕ) → length (programOutput page) ≤ 65537
+output-short : (page : List ℕ) → length (programOutput page) ≤ 65537
 unfolding programOutput
 output-short page =
     let called : Called = splitText page programBuffer in
     let d = splitText-demand1 page in
     line-short (called .outcome) programBuffer (called .buffer) (length-replicate {A = ℕ} 65536 0) (d .keeps programBuffer) (d .inTable programBuffer)
+
+-- the end of what was written lies in the buffer
+pub output-within : (page out : List ℕ) {last : List ℕ} {r : ℕ} → 65537 ≡ length out → Wrote out last 0 (programOutput page) r → r ≤ length last
+output-within page out h w = omega (arith, w .ends, output-short page, wrote-length w (omega (arith, output-short page)))
 
 -- ## The whole buffer
 
