@@ -1,14 +1,14 @@
 // Operators with their modifier (ast.rs, `get_op_matching_string`) and aggregators with their grouping (`get_op_string`).
-use crate::fill::fills_len;
-use crate::fill::put_fills;
-use crate::modifier::cardinality_len;
-use crate::modifier::grouping_len;
-use crate::modifier::matching_len;
-use crate::modifier::put_cardinality;
-use crate::modifier::put_grouping;
-use crate::modifier::put_matching;
-use crate::word::put_word;
-use crate::word::word_len;
+use words::fills_len;
+use words::put_fills;
+use words::cardinality_len;
+use words::grouping_len;
+use words::matching_len;
+use words::put_cardinality;
+use words::put_grouping;
+use words::put_matching;
+use words::put_word;
+use words::word_len;
 use float::FillValues;
 use float::fill_values;
 use page::put_bytes;
