@@ -1,10 +1,10 @@
--- `vectors::input::read_part` is safe: the part read into lies in the buffer. Assumes nothing.
+-- `input::read_part` is safe: the part read into lies in the buffer. Assumes nothing.
 use mathlib.Core.Path.{sym}
 use native.Mathlib.Omega.{arith}
 use lib.Seq.{length-take-le}
 use borrow.Author.Needs.{needs}
-use Rattle.vectors.proofs.input.read_part.Statement.{statement}
-use Rattle.vectors.proofs.input.read_part.Tie as tie
+use Rattle.input.proofs.read_part.Statement.{statement}
+use Rattle.input.proofs.read_part.Tie as tie
 
 slice-aggregate-read-full : tie.Need-slice-aggregate-read-full
 slice-aggregate-read-full c = search needs

@@ -20,15 +20,3 @@ pub fn put_word(word: &[u8], line: &mut [u8], at: usize) -> usize {
     }
     page::put_bytes(word, line, at)
 }
-
-// The line so far, with a line feed in place of its last space.
-pub fn write_line(line: &mut [u8], end: usize) {
-    if end == 0 {
-        return;
-    }
-    if line.len() < end {
-        return;
-    }
-    line[end - 1] = 10;
-    io::write_all(1, &line[..end]);
-}

@@ -133,33 +133,48 @@ fn put_selector(page: &[u8], s: reader::Selector, line: &mut [u8], at: usize) ->
     put_matchers(page, s.matchers, s.count, line, after_name)
 }
 
+fn put_subquery(range: u64, step: Step, line: &mut [u8], at: usize) -> usize {
+    let next = put(range, line, at);
+    put_step(step, line, next)
+}
+
+fn put_binary(page: &[u8], code: u64, m: Modifier, line: &mut [u8], at: usize) -> usize {
+    let next = put(code, line, at);
+    put_modifier(page, m, line, next)
+}
+
+fn put_aggregate(
+    page: &[u8],
+    code: u64,
+    m: LabelModifier,
+    count: usize,
+    line: &mut [u8],
+    at: usize,
+) -> usize {
+    let next = put(code, line, at);
+    let after = put_label_modifier(page, m, line, next);
+    put(count as u64, line, after)
+}
+
+fn put_call(page: &[u8], f: records::Function, count: usize, line: &mut [u8], at: usize) -> usize {
+    let next = put_function(page, f, line, at);
+    put(count as u64, line, next)
+}
+
 fn put_fields(page: &[u8], r: Record, line: &mut [u8], at: usize) -> usize {
     match r {
         Record::Number(l) => put_literal(l, line, at),
         Record::String(text) => put_span(text, line, at),
         Record::Selector(s) => put_selector(page, s, line, at),
         Record::Range(n) => put(n, line, at),
-        Record::Subquery(n, s) => {
-            let next = put(n, line, at);
-            put_step(s, line, next)
-        }
+        Record::Subquery(n, s) => put_subquery(n, s, line, at),
         Record::At(a) => put_at_modifier(a, line, at),
         Record::Offset(o) => put_offset(o, line, at),
         Record::Unary => at,
         Record::Paren => at,
-        Record::Binary(code, m) => {
-            let next = put(code, line, at);
-            put_modifier(page, m, line, next)
-        }
-        Record::Aggregate(code, m, n) => {
-            let next = put(code, line, at);
-            let after = put_label_modifier(page, m, line, next);
-            put(n as u64, line, after)
-        }
-        Record::Call(f, n) => {
-            let next = put_function(page, f, line, at);
-            put(n as u64, line, next)
-        }
+        Record::Binary(code, m) => put_binary(page, code, m, line, at),
+        Record::Aggregate(code, m, n) => put_aggregate(page, code, m, n, line, at),
+        Record::Call(f, n) => put_call(page, f, n, line, at),
     }
 }
 

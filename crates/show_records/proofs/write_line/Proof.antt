@@ -1,11 +1,11 @@
--- `show_records::line::write_line` is safe: the part written lies in the line. Assumes nothing.
+-- `show_records::write_line` is safe: the part written lies in the line. Assumes nothing.
 use lib.ListN.{length-set}
 use lib.Seq.{length-take-le}
 use native.Mathlib.Omega.{arith}
 use mathlib.Core.Path.{sym}
 use borrow.Author.Needs.{needs}
-use Rattle.show_records.proofs.line.write_line.Statement.{statement}
-use Rattle.show_records.proofs.line.write_line.Tie as tie
+use Rattle.show_records.proofs.write_line.Statement.{statement}
+use Rattle.show_records.proofs.write_line.Tie as tie
 
 returns : tie.Need-returns
 returns c = search needs

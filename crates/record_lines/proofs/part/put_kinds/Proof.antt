@@ -1,9 +1,9 @@
--- `show_records::part::put_labels` is safe and ends: the buffer keeps its length, and the measure is the labels left. Assumes nothing.
+-- `record_lines::part::put_kinds` is safe and ends: the buffer keeps its length, and the measure is the kinds left. Assumes nothing.
 use lib.ListN.{length}
 use mathlib.Core.Path.{_≡_}
 use borrow.Author.Needs.{needs}
-use Rattle.show_records.proofs.part.put_labels.Statement.{statement}
-use Rattle.show_records.proofs.part.put_labels.Tie as tie
+use Rattle.record_lines.proofs.part.put_kinds.Statement.{statement}
+use Rattle.record_lines.proofs.part.put_kinds.Tie as tie
 
 abbrev Inv-loop : tie.InvT-loop
 Inv-loop page start count line₀ at end₀ from₀ left₀ line end from left = length line ≡ length line₀
@@ -17,14 +17,17 @@ put-requires c κs = search needs
 loop-holds : tie.Need-loop-holds Inv-loop μ-loop
 loop-holds c = search needs
 
-read-text-requires : tie.Need-read-text-requires Inv-loop μ-loop
-read-text-requires c κs = search needs
+read-kind-requires : tie.Need-read-kind-requires Inv-loop μ-loop
+read-kind-requires c κs = search needs
 
-enum-known-label : tie.Need-enum-known-label Inv-loop μ-loop
-enum-known-label c = search needs
+enum-known-k : tie.Need-enum-known-k Inv-loop μ-loop
+enum-known-k c = search needs
 
-put-span-requires : tie.Need-put-span-requires Inv-loop μ-loop
-put-span-requires c κs = search needs
+kind-number-requires : tie.Need-kind-number-requires Inv-loop μ-loop
+kind-number-requires c κs = search needs
+
+put-requires-2 : tie.Need-put-requires-2 Inv-loop μ-loop
+put-requires-2 c κs = search needs
 
 sub-left : tie.Need-sub-left Inv-loop μ-loop
 sub-left c = search needs
@@ -50,17 +53,18 @@ same-length-2 c = search needs
 returns-2 : tie.Need-returns-2 Inv-loop μ-loop
 returns-2 c = search needs
 
-pub put-labels-spec : {M : Type 1} → statement M
-put-labels-spec =
+pub put-kinds-spec : {M : Type 1} → statement M
+put-kinds-spec =
     tie.close
     (tie.spec
     Inv-loop
     μ-loop
     put-requires
     loop-holds
-    read-text-requires
-    enum-known-label
-    put-span-requires
+    read-kind-requires
+    enum-known-k
+    kind-number-requires
+    put-requires-2
     sub-left
     loop-less
     loop-again

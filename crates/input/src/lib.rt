@@ -1,4 +1,4 @@
-// The numbers and bytes of an entry, from standard input.
+// Numbers and parts of standard input, for programs that read kept pages. What is read no contract can say.
 ghost use Prim.Native.Nat.{_<_};
 
 fn wide(b: u8) -> u64

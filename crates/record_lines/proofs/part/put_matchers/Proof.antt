@@ -1,9 +1,9 @@
--- `show_records::part::put_matchers` is safe and ends: the buffer keeps its length, and the measure is the matchers left. Assumes nothing.
+-- `record_lines::part::put_matchers` is safe and ends: the buffer keeps its length, and the measure is the matchers left. Assumes nothing.
 use lib.ListN.{length}
 use mathlib.Core.Path.{_≡_}
 use borrow.Author.Needs.{needs}
-use Rattle.show_records.proofs.part.put_matchers.Statement.{statement}
-use Rattle.show_records.proofs.part.put_matchers.Tie as tie
+use Rattle.record_lines.proofs.part.put_matchers.Statement.{statement}
+use Rattle.record_lines.proofs.part.put_matchers.Tie as tie
 
 abbrev Inv-loop : tie.InvT-loop
 Inv-loop page start count line₀ at end₀ from₀ left₀ line end from left = length line ≡ length line₀
