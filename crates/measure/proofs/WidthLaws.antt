@@ -1,0 +1,26 @@
+-- A width is a length up to 101, so that a length up to any smaller cap is that of the width; and a table stays right when a right width is
+-- put into it. Assumes nothing.
+use Prim.Native.Nat.{ℕ, _+_, _≤_, _<_, min}
+use mathlib.Core.Path.{_≡_, sym, _∙_}
+use mathlib.Core.List.{List}
+use native.Mathlib.Omega.{arith}
+use lib.ListN.{length, getD, set, length-set}
+use lib.Seq.{getD-set-same, getD-set-other}
+use Rattle.base.specs.Cases.{by-eq}
+use Rattle.ast.specs.Tables.{treeAt}
+use Rattle.text.specs.Display.{display}
+use Rattle.measure.specs.Known.{Known}
+
+pub recapped : (len w cap r : ℕ) → w ≡ min len 101 → cap ≤ 101 → r ≡ min (w + 0) cap → r ≡ min len cap
+recapped len w cap r e h is = omega (arith, e, h, is)
+
+pub set-size : {page widths before : List ℕ} (i w : ℕ) → Known page widths → Known page before → length (set widths i w) ≡ length before
+set-size {page} {widths} i w known old = length-set widths i w ∙ known .size ∙ sym (old .size)
+
+pub known-set : {page widths : List ℕ} (i w : ℕ) → Known page widths → i < 256 → w ≡ min (length (display (treeAt page i))) 101 → Known page (set widths i w)
+known-set {page} {widths} i w known h e = record {
+  size = length-set widths i w ∙ known .size;
+  right = λ j set. by-eq j i
+      (λ same. rw same (getD-set-same widths i w 0 (rw (known .size) h) ∙ e))
+      (λ other. getD-set-other widths i j w 0 other ∙ known .right j (λ z. set (getD-set-other widths i j w 0 other ∙ z)));
+}

@@ -1,0 +1,136 @@
+// How wide the nodes of a page are: the lengths of their texts up to one byte more than a line, measured once for every node, each
+// from its operands' lengths, and kept in a table.
+use canonical::own::between_len;
+use canonical::own::front_len;
+use canonical::own::rear_len;
+use canonical::text_len;
+ghost use mathlib.Core.Path.{_≡_};
+ghost use Prim.Native.Nat.{suc, _-_, _≤_, min};
+ghost use lib.ListN.{length};
+ghost use Rattle.records.specs.Stack.{operandsOf};
+ghost use Rattle.ast.specs.Tables.{Tables, stackAt, treeAt};
+ghost use Rattle.text.specs.Display.{display};
+ghost use Rattle.text.specs.Layout.{joined};
+ghost use Rattle.text.specs.Measured.{Measured};
+ghost use Rattle.view.specs.View.{Unvalued};
+ghost use Rattle.measure.specs.Known.{Known};
+
+// The width of the tree that record i ends: from the table, or measured where the table does not have it.
+pub fn width(
+    page: &[u8],
+    starts: &[u16],
+    firsts: &[u8],
+    widths: &[u8],
+    i: usize,
+    unvalued: bool,
+) -> usize
+    requires { ⌜ Tables (now page) (now starts) (now firsts) (suc i) ⌝ }
+    requires { ⌜ Known (now page) (now widths) ⌝ }
+    requires { ⌜ Unvalued (now page) i unvalued ⌝ }
+    ensures { λ r. ⌜ r ≡ min (length (display (treeAt (now (page .entry)) i))) 101 ⌝ }
+{
+    let known = widths[i] as usize;
+    if known != 0 {
+        return known;
+    }
+    text_len(page, starts, firsts, i, unvalued, 101)
+}
+
+// Measures the tree that record i ends and all trees below it, puts their widths into the table, and returns its own.
+pub fn measure(
+    page: &[u8],
+    starts: &[u16],
+    firsts: &[u8],
+    i: usize,
+    unvalued: bool,
+    widths: &mut [u8],
+) -> usize
+    requires { ⌜ Tables (now page) (now starts) (now firsts) (suc i) ⌝ }
+    requires { ⌜ Unvalued (now page) i unvalued ⌝ }
+    requires { ⌜ Known (now page) (now widths) ⌝ }
+    ensures { λ r. ⌜ r ≡ min (length (display (treeAt (now (page .entry)) i))) 101 ⌝ }
+    ensures { λ r. ⌜ Known (now (page .entry)) (now (widths .exit)) ⌝ }
+{
+    let v = view::view_at(page, starts, i, unvalued);
+    let own = v.own;
+    let end = v.end;
+    let count = v.count;
+    let front = front_len(page, own, 101);
+    let gap = between_len(page, own, 101 - front);
+    let minus = view::is_minus(own);
+    let inner = measure_operands(
+        page,
+        starts,
+        firsts,
+        end,
+        count,
+        minus,
+        gap,
+        101 - front,
+        widths,
+    );
+    let rear = rear_len(page, own, 101 - front - inner);
+    let width = front + inner + rear;
+    widths[i] = width as u8;
+    width
+}
+
+// Measures the newest expressions behind the first `end` records, `count` of them, and returns the length of their texts with so many
+// bytes between each two, or `cap` where it is more. `unvalued` is said of the last one.
+fn measure_operands(
+    page: &[u8],
+    starts: &[u16],
+    firsts: &[u8],
+    end: usize,
+    count: usize,
+    unvalued: bool,
+    gap: usize,
+    cap: usize,
+    widths: &mut [u8],
+) -> usize
+    requires { ⌜ Tables (now page) (now starts) (now firsts) end ⌝ }
+    requires { ⌜ count ≤ length (stackAt (now page) end) ⌝ }
+    requires { ⌜ Unvalued (now page) (end - 1) unvalued ⌝ }
+    requires { ⌜ cap ≤ 101 ⌝ }
+    requires { ⌜ Known (now page) (now widths) ⌝ }
+    ensures { λ r. ⌜ Measured (λ separator. joined separator display display (operandsOf count (stackAt (now (page .entry)) end))) gap cap r ⌝ }
+    ensures { λ r. ⌜ Known (now (page .entry)) (now (widths .exit)) ⌝ }
+{
+    if count == 0 {
+        return 0;
+    }
+    let root = end - 1;
+    let width = measure(page, starts, firsts, root, unvalued, widths);
+    let last = util::capped_add(width, 0, cap);
+    if count == 1 {
+        return last;
+    }
+    let first = firsts[root] as usize;
+    let left = cap - last;
+    if left <= gap {
+        measure_operands(
+            page,
+            starts,
+            firsts,
+            first,
+            count - 1,
+            false,
+            gap,
+            0,
+            widths,
+        );
+        return cap;
+    }
+    let rest = measure_operands(
+        page,
+        starts,
+        firsts,
+        first,
+        count - 1,
+        false,
+        gap,
+        left - gap,
+        widths,
+    );
+    last + gap + rest
+}
