@@ -7,17 +7,17 @@ use std::process::{Child, Command, Stdio};
 use std::thread;
 use std::time::Duration;
 
-/// A page far beyond the limit.
-const OVERLONG: &str = "(0202757000)*20000;";
+/// Pages that the kept list has not: one of 100,000 bytes, far beyond the limit, and one whose text is longer than what the program lends.
+const BEYOND: [&str; 2] = ["(0202757000)*20000;", "0278 61*120; 00 08*180;"];
 
 /// Every so many pages one is sent in two pieces, and one without anyone to read the output.
 const SPECIAL: usize = 50;
 
-/// The kept list and an overlong page; the number of pages, or the first difference.
+/// The kept list, which has pages of 8,192 and 8,193 bytes, and the pages beyond; their number, or the first difference.
 pub fn compare(program: &str, words: &[&str]) -> Result<usize, String> {
     let entries = kept::entries().map_err(|failure| failure.0)?;
     let mut pages: Vec<Vec<u8>> = entries.into_iter().map(|entry| entry.0).collect();
-    pages.push(hex::bytes(OVERLONG));
+    pages.extend(BEYOND.map(hex::bytes));
     let start = || {
         Command::new(program)
             .args(words)

@@ -1,4 +1,1 @@
-pub mod WordLaws
-pub mod LabelledLaws
-pub mod FillLaws
 pub mod HeadLaws

@@ -1,11 +1,7 @@
 // What nodes have of their own (ast.rs, `Display`): operators with their modifiers, aggregators with their grouping, selectors.
 // Each has a length up to a cap and a writer; the definitions stand in crate text, specs/Display.
-pub mod fill;
 pub mod head;
-pub mod labelled;
-pub mod modifier;
 pub mod selector;
-pub mod word;
 
 pub use head::aggregator_len;
 pub use head::operator_len;

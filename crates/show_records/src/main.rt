@@ -10,20 +10,15 @@
 // Fields are decimal numbers. A text is its start and its size; a list is its count and its elements; a flag is 0 or 1; a choice is the
 // number of its form and the fields of that form. So a matcher is 0 to 3, name, value, and a flag for 2 and 3; a call is its name, its
 // kinds, 0 to 2 (2 with the upper), the result kind and the count of arguments.
-mod entry;
-mod line;
-mod part;
-
-use entry::put_record;
-ghost use mathlib.Core.Path.{_≡_};
-ghost use Prim.Native.Nat.{_<_};
-ghost use Rattle.page.specs.Read.{faultNumber};
-ghost use Rattle.page.specs.Answers.{faultOf};
-use line::put;
-use line::put_word;
-use line::write_line;
+use input::read_part;
 use reader::RecordField;
 use reader::read_record;
+use record_lines::put;
+use record_lines::put_record;
+use record_lines::put_word;
+ghost use mathlib.Core.Path.{_≡_};
+ghost use Rattle.page.specs.Read.{faultNumber};
+ghost use Rattle.page.specs.Answers.{faultOf};
 
 fn fault_number(f: page::Fault) -> u64
     ensures { λ r. ⌜ r ≡ faultNumber (faultOf f) ⌝ }
@@ -33,6 +28,18 @@ fn fault_number(f: page::Fault) -> u64
         page::Fault::PastLimit => 3,
         page::Fault::BadText => 4,
     }
+}
+
+// The line so far, with a line feed in place of its last space.
+fn write_line(line: &mut [u8], end: usize) {
+    if end == 0 {
+        return;
+    }
+    if line.len() < end {
+        return;
+    }
+    line[end - 1] = 10;
+    io::write_all(1, &line[..end]);
 }
 
 fn show_fault(f: page::Fault, index: u64, line: &mut [u8]) {
@@ -81,33 +88,9 @@ fn show_page(page: &[u8], line: &mut [u8]) {
     show_end(index, line);
 }
 
-fn wide(b: u8) -> usize
-    ensures { λ r. ⌜ r < 256 ⌝ }
-{
-    b as usize
-}
-
-// The next page into the buffer: its length, or what is no length of a page in the buffer at the end of the input.
-fn read_page(buffer: &mut [u8]) -> usize {
-    let mut size = [0u8; 4];
-    let got = io::read_full(0, &mut size);
-    if got < 4 {
-        return buffer.len() + 1;
-    }
-    let n = wide(size[0]) + 256 * wide(size[1]) + 65536 * wide(size[2]) + 16777216 * wide(size[3]);
-    if buffer.len() < n {
-        return n;
-    }
-    let read = io::read_full(0, &mut buffer[..n]);
-    if read < n {
-        return buffer.len() + 1;
-    }
-    n
-}
-
 // Shows the next page, and answers whether there was one.
 fn show_next(buffer: &mut [u8], line: &mut [u8]) -> bool {
-    let n = read_page(buffer);
+    let n = read_part(buffer);
     if buffer.len() < n {
         return false;
     }

@@ -36,11 +36,9 @@ marked-same p q e = ap₂ (λ (m : Bool) (l : ℕ). marked m l e) p q
 -- ## On one line
 
 module _ {page starts firsts : List ℕ} {i : ℕ} (t : Tables page starts firsts (suc i)) (mark : Bool) (level : ℕ) (h : length (display (treeAt page i)) ≤ 100) where
-  pub len-line : (cap lead r : ℕ) → lead ≡ min (length (indentIf mark level)) cap → r ≡ min (length (display (treeAt page i))) (cap - lead)
-      → lead + r ≡ min (length (marked mark level (treeAt page i))) cap
-  len-line cap lead r p q =
-      capped-then (length (indentIf mark level)) (length (display (treeAt page i))) cap lead r p q
-      ∙ ap (λ (n : ℕ). min n cap) (sym (ap length (marked-line t mark level h) ∙ length-append (indentIf mark level) (display (treeAt page i))))
+  pub len-line : (cap line lead r : ℕ) → line ≡ min (length (display (treeAt page i))) 101 → lead ≡ min (length (indentIf mark level)) cap → r ≡ min (lead + line) cap
+      → r ≡ min (length (marked mark level (treeAt page i))) cap
+  len-line cap line lead r e p q = omega (arith, h, ap length (marked-line t mark level h) ∙ length-append (indentIf mark level) (display (treeAt page i)))
 
   pub run-line : (o : List ℕ) (at : ℕ) → at + length (marked mark level (treeAt page i)) ≤ length o
       → Run o o at (marked mark level (treeAt page i)) (indentIf mark level ∷ display (treeAt page i) ∷ []) at

@@ -83,7 +83,7 @@ pub fn split_len(
     let line = text_len(page, starts, firsts, i, unvalued, 101);
     if line <= 100 {
         let lead = indent_len(mark, level, cap);
-        return lead + text_len(page, starts, firsts, i, unvalued, cap - lead);
+        return util::capped_add(lead, line, cap);
     }
     let v = view::view_at(page, starts, i, unvalued);
     let own = v.own;

@@ -4,7 +4,6 @@
 // into a buffer of exactly the entry's size, and then into one a byte shorter, which is refused with 5 and stays as it was.
 // Written is `N pages equal`, or `entry N differs` at the first one that is not equal, counted from 0.
 mod compare;
-mod input;
 
 use compare::Call;
 use compare::check_equal;

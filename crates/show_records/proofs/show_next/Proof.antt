@@ -6,8 +6,8 @@ use borrow.Author.Needs.{needs}
 use Rattle.show_records.proofs.show_next.Statement.{statement}
 use Rattle.show_records.proofs.show_next.Tie as tie
 
-read-page-requires : tie.Need-read-page-requires
-read-page-requires c κs = search needs
+read-part-requires : tie.Need-read-part-requires
+read-part-requires c κs = search needs
 
 same-length : tie.Need-same-length
 same-length c = search needs
@@ -37,7 +37,7 @@ pub show-next-spec : {M : Type 1} → statement M
 show-next-spec =
     tie.close
     (tie.spec
-    read-page-requires
+    read-part-requires
     same-length
     returns
     slice-reshare-prefix-show-page

@@ -27,6 +27,7 @@ use Rattle.split.proofs.inner_level.Reads as inner-level-reads
 use Rattle.split.proofs.inner_mark.Reads as inner-mark-reads
 use Rattle.split.proofs.own.rear_at_len.Reads as rear-at-len-reads
 use Rattle.canonical.proofs.text_len.Reads as text-len-reads
+use Rattle.util.proofs.capped.capped_add.Reads as capped-add-reads
 use Rattle.view.proofs.is_minus.Reads as is-minus-reads
 use Rattle.view.proofs.view_at.Reads as view-at-reads
 use Rattle.split.proofs.+split_len+split_operands_len.{statement}
@@ -62,7 +63,7 @@ split-operands-len-below t =
     split-operands-len.Pre
 
 abbrev split-len-claims : ℕ → split-len-lts.Claims
-split-len-claims t = (text-len-reads.Asked, text-len-reads.Learnt, indent-len-reads.Asked, indent-len-reads.Learnt, view-at-reads.Asked, view-at-reads.Learnt, front-at-len-reads.Asked, front-at-len-reads.Learnt, between-at-len-reads.Asked, between-at-len-reads.Learnt, is-minus-reads.Asked, is-minus-reads.Learnt, inner-mark-reads.Asked, inner-mark-reads.Learnt, inner-level-reads.Asked, inner-level-reads.Learnt, split-operands-len-below t, split-operands-len.Post, rear-at-len-reads.Asked, rear-at-len-reads.Learnt)
+split-len-claims t = (text-len-reads.Asked, text-len-reads.Learnt, indent-len-reads.Asked, indent-len-reads.Learnt, capped-add-reads.Asked, capped-add-reads.Learnt, view-at-reads.Asked, view-at-reads.Learnt, front-at-len-reads.Asked, front-at-len-reads.Learnt, between-at-len-reads.Asked, between-at-len-reads.Learnt, is-minus-reads.Asked, is-minus-reads.Learnt, inner-mark-reads.Asked, inner-mark-reads.Learnt, inner-level-reads.Asked, inner-level-reads.Learnt, split-operands-len-below t, split-operands-len.Post, rear-at-len-reads.Asked, rear-at-len-reads.Learnt)
 
 abbrev split-operands-len-claims : ℕ → split-operands-len-lts.Claims
 split-operands-len-claims t = (split-len-below t, split-len.Post, split-operands-len-below t, split-operands-len.Post)
@@ -76,17 +77,11 @@ split-len-text-len-requires t c κs = (c .before .before .before .before .pre .1
 split-len-indent-len-requires : (t : ℕ) → split-len-lts.Need-indent-len-requires (split-len-claims t) (split-len-at t) split-len.Post
 split-len-indent-len-requires t c κs = omega (arith, c .before .before .before .before .before .before .pre .1 .1 .1)
 
-split-len-sub-text-len : (t : ℕ) → split-len-lts.Need-sub-text-len (split-len-claims t) (split-len-at t) split-len.Post
-split-len-sub-text-len t c = omega (arith, c .indent-len .ensures)
-
-split-len-text-len-requires-2 : (t : ℕ) → split-len-lts.Need-text-len-requires-2 (split-len-claims t) (split-len-at t) split-len.Post
-split-len-text-len-requires-2 t c κs = (c .before .before .before .before .before .before .before .pre .1 .0, c .before .before .before .before .before .before .before .pre .1 .1 .0)
-
-split-len-add-result : (t : ℕ) → split-len-lts.Need-add-result (split-len-claims t) (split-len-at t) split-len.Post
-split-len-add-result t c = omega (arith, c .before .indent-len .ensures, c .text-len2 .ensures)
+split-len-capped-add-requires : (t : ℕ) → split-len-lts.Need-capped-add-requires (split-len-claims t) (split-len-at t) split-len.Post
+split-len-capped-add-requires t c κs = search needs
 
 split-len-returns-2 : (t : ℕ) → split-len-lts.Need-returns-2 (split-len-claims t) (split-len-at t) split-len.Post
-split-len-returns-2 t c = len-line (c .before .before .before .before .before .before .before .before .pre .1 .0) _ _ (fits-line _ _ (c .before .before .before .text-len .ensures) (c .before .before .if2 .taken)) _ _ _ (c .before .indent-len .ensures) (c .text-len2 .ensures)
+split-len-returns-2 t c = len-line (c .before .before .before .before .before .before .before .before .pre .1 .0) _ _ (fits-line _ _ (c .before .before .before .text-len .ensures) (c .before .before .if2 .taken)) _ _ _ _ (c .before .before .before .text-len .ensures) (c .before .indent-len .ensures) (c .capped-add .ensures)
 
 split-len-view-at-requires : (t : ℕ) → split-len-lts.Need-view-at-requires (split-len-claims t) (split-len-at t) split-len.Post
 split-len-view-at-requires t c κs = (starts-of (c .before .before .before .before .before .before .pre .1 .0), c .before .before .before .before .before .before .pre .1 .1 .0)
@@ -126,11 +121,11 @@ split-len-sub-rear-at-len-2 t c = omega (arith, c .before .before .before .befor
 split-len-rear-at-len-requires : (t : ℕ) → split-len-lts.Need-rear-at-len-requires (split-len-claims t) (split-len-at t) split-len.Post
 split-len-rear-at-len-requires t c κs = (c .before .before .before .before .before .before .view-at .ensures .lies, omega (arith, c .before .before .before .before .before .before .before .before .before .before .before .before .before .pre .1 .1 .1))
 
-split-len-add-result-2 : (t : ℕ) → split-len-lts.Need-add-result-2 (split-len-claims t) (split-len-at t) split-len.Post
-split-len-add-result-2 t c = omega (arith, c .before .before .before .before .before .before .front-at-len .ensures, c .before .split-operands-len .ensures .bound, c .before .before .before .before .before .before .before .before .before .before .before .before .before .before .fits)
+split-len-add-result : (t : ℕ) → split-len-lts.Need-add-result (split-len-claims t) (split-len-at t) split-len.Post
+split-len-add-result t c = omega (arith, c .before .before .before .before .before .before .front-at-len .ensures, c .before .split-operands-len .ensures .bound, c .before .before .before .before .before .before .before .before .before .before .before .before .before .before .fits)
 
-split-len-add-result-3 : (t : ℕ) → split-len-lts.Need-add-result-3 (split-len-claims t) (split-len-at t) split-len.Post
-split-len-add-result-3 t c = omega (arith, c .before .before .before .before .before .before .front-at-len .ensures, c .before .split-operands-len .ensures .bound, c .rear-at-len .ensures, c .before .before .before .before .before .before .before .before .before .before .before .before .before .before .fits)
+split-len-add-result-2 : (t : ℕ) → split-len-lts.Need-add-result-2 (split-len-claims t) (split-len-at t) split-len.Post
+split-len-add-result-2 t c = omega (arith, c .before .before .before .before .before .before .front-at-len .ensures, c .before .split-operands-len .ensures .bound, c .rear-at-len .ensures, c .before .before .before .before .before .before .before .before .before .before .before .before .before .before .fits)
 
 split-len-returns-3 : (t : ℕ) → split-len-lts.Need-returns-3 (split-len-claims t) (split-len-at t) split-len.Post
 split-len-returns-3 t c = len-split (c .before .before .before .before .before .before .before .before .before .before .before .before .before .before .pre .1 .0) (c .before .before .before .before .before .before .before .view-at .ensures .seen) _ _ (over-line _ _ (c .before .before .before .before .before .before .before .before .before .text-len .ensures) (c .before .before .before .before .before .before .before .before .if2 .left)) _ _ (c .before .before .before .inner-mark .ensures) (c .before .before .inner-level .ensures .0) _ _ _ _ _ (c .before .before .before .before .before .before .front-at-len .ensures) (c .before .before .before .before .before .between-at-len .ensures) (c .before .split-operands-len .ensures) (c .rear-at-len .ensures)
@@ -189,6 +184,6 @@ split-operands-len-returns-4 t c = len-more (marked (c .before .before .before .
 pub +split-len+split-operands-len-spec : {M : Type 1} → statement M
 +split-len+split-operands-len-spec = close μ-split-len μ-split-operands-len
     (λ t. split-len-lts.spec (split-len-claims t) (split-len-at t) split-len.Post
-    (split-len-returns t) (split-len-text-len-requires t) (split-len-indent-len-requires t) (split-len-sub-text-len t) (split-len-text-len-requires-2 t) (split-len-add-result t) (split-len-returns-2 t) (split-len-view-at-requires t) (split-len-front-at-len-requires t) (split-len-sub-between-at-len t) (split-len-between-at-len-requires t) (split-len-is-minus-requires t) (split-len-inner-mark-requires t) (split-len-inner-level-requires t) (split-len-sub-split-operands-len t) (split-len-split-operands-len-requires t) (split-len-sub-rear-at-len t) (split-len-sub-rear-at-len-2 t) (split-len-rear-at-len-requires t) (split-len-add-result-2 t) (split-len-add-result-3 t) (split-len-returns-3 t))
+    (split-len-returns t) (split-len-text-len-requires t) (split-len-indent-len-requires t) (split-len-capped-add-requires t) (split-len-returns-2 t) (split-len-view-at-requires t) (split-len-front-at-len-requires t) (split-len-sub-between-at-len t) (split-len-between-at-len-requires t) (split-len-is-minus-requires t) (split-len-inner-mark-requires t) (split-len-inner-level-requires t) (split-len-sub-split-operands-len t) (split-len-split-operands-len-requires t) (split-len-sub-rear-at-len t) (split-len-sub-rear-at-len-2 t) (split-len-rear-at-len-requires t) (split-len-add-result t) (split-len-add-result-2 t) (split-len-returns-3 t))
     (λ t. split-operands-len-lts.spec (split-operands-len-claims t) (split-operands-len-at t) split-operands-len.Post
     (split-operands-len-returns t) (split-operands-len-sub-root t) (split-operands-len-split-len-requires t) (split-operands-len-returns-2 t) (split-operands-len-split-len-requires-2 t) (split-operands-len-sub-left t) (split-operands-len-returns-3 t) (split-operands-len-shared-slice-read-first t) (split-operands-len-cast-first t) (split-operands-len-sub-split-operands-len t) (split-operands-len-sub-split-operands-len-2 t) (split-operands-len-split-operands-len-requires t) (split-operands-len-add-result t) (split-operands-len-add-result-2 t) (split-operands-len-returns-4 t))

@@ -1,0 +1,84 @@
+-- `input::read_part` is safe: the part read into lies in the buffer. Assumes nothing.
+use mathlib.Core.Path.{sym}
+use native.Mathlib.Omega.{arith}
+use lib.Seq.{length-take-le}
+use borrow.Author.Needs.{needs}
+use Rattle.input.proofs.read_part.Statement.{statement}
+use Rattle.input.proofs.read_part.Tie as tie
+
+slice-aggregate-read-full : tie.Need-slice-aggregate-read-full
+slice-aggregate-read-full c = search needs
+
+read-full-requires : tie.Need-read-full-requires
+read-full-requires c κs = search needs
+
+add-result : tie.Need-add-result
+add-result c = search needs
+
+returns : tie.Need-returns
+returns c = search needs
+
+array-read-number-of : tie.Need-array-read-number-of
+array-read-number-of c = search needs
+
+array-read-number-of-2 : tie.Need-array-read-number-of-2
+array-read-number-of-2 c = search needs
+
+array-read-number-of-3 : tie.Need-array-read-number-of-3
+array-read-number-of-3 c = search needs
+
+array-read-number-of-4 : tie.Need-array-read-number-of-4
+array-read-number-of-4 c = search needs
+
+number-of-requires : tie.Need-number-of-requires
+number-of-requires c κs = search needs
+
+returns-2 : tie.Need-returns-2
+returns-2 c = search needs
+
+slice-relend-prefix-read-full : tie.Need-slice-relend-prefix-read-full
+slice-relend-prefix-read-full c = search needs
+
+slice-aggregate-read-full-2 : tie.Need-slice-aggregate-read-full-2
+slice-aggregate-read-full-2 c = sym (length-take-le _ _ (omega arith))
+
+read-full-requires-2 : tie.Need-read-full-requires-2
+read-full-requires-2 c κs = search needs
+
+add-result-2 : tie.Need-add-result-2
+add-result-2 c = search needs
+
+same-length : tie.Need-same-length
+same-length c = search needs
+
+returns-3 : tie.Need-returns-3
+returns-3 c = search needs
+
+same-length-2 : tie.Need-same-length-2
+same-length-2 c = search needs
+
+returns-4 : tie.Need-returns-4
+returns-4 c = search needs
+
+pub read-part-spec : {M : Type 1} → statement M
+read-part-spec =
+    tie.close
+    (tie.spec
+    slice-aggregate-read-full
+    read-full-requires
+    add-result
+    returns
+    array-read-number-of
+    array-read-number-of-2
+    array-read-number-of-3
+    array-read-number-of-4
+    number-of-requires
+    returns-2
+    slice-relend-prefix-read-full
+    slice-aggregate-read-full-2
+    read-full-requires-2
+    add-result-2
+    same-length
+    returns-3
+    same-length-2
+    returns-4)

@@ -1,0 +1,91 @@
+// Fills (ast.rs, `VectorMatchFillValues`): equal as floats they print as one, with the right number; else each that is there.
+// The digits are the literals'; the comparison is the floats'.
+use float::FillValues;
+use float::same_fills;
+use page::put_byte;
+use page::put_bytes;
+use records::Fill;
+use records::Literal;
+use util::numeral_len;
+use util::put_fill;
+ghost use mathlib.Core.Path.{_≡_};
+ghost use Prim.Native.Nat.{_+_, _≤_};
+ghost use lib.ListN.{length};
+ghost use Rattle.base.specs.Splice.{Wrote};
+ghost use Rattle.records.specs.Answers.{literalOf, fillOf};
+ghost use Rattle.float.specs.Fills.{fillValues, FillExact};
+ghost use Rattle.util.specs.Numeral.{displayFill};
+ghost use Rattle.text.specs.Display.{displayFills};
+ghost use Rattle.words.specs.Labelled.{filledBytes, bothFills};
+
+// The length with a word of so many bytes.
+fn filled_len(word: usize, literal: Literal) -> usize
+    requires { ⌜ word ≤ 11 ⌝ }
+    ensures { λ r. ⌜ (r ≡ word + 3 + length (displayFill (literalOf literal))) × (r ≤ 35) ⌝ }
+{
+    word + 3 + numeral_len(literal)
+}
+
+fn put_filled(word: &[u8], literal: Literal, out: &mut [u8], at: usize) -> usize
+    requires { ⌜ at + length (filledBytes (now word) (literalOf literal)) ≤ length (now out) ⌝ }
+    ensures { λ r. ⌜ Wrote (now (out .entry)) (now (out .exit)) at (filledBytes (now (word .entry)) (literalOf literal)) r ⌝ }
+{
+    let bracket = put_bytes(word, out, at);
+    let number = put_bytes(b" (", out, bracket);
+    let closing = put_fill(literal, out, number);
+    put_byte(b')', out, closing)
+}
+
+// Both fills are there.
+fn both_len(same: bool, left: Literal, right: Literal) -> usize
+    ensures { λ r. ⌜ (r ≡ length (bothFills same (literalOf left) (literalOf right))) × (r ≤ 70) ⌝ }
+{
+    if same {
+        return filled_len(5, right);
+    }
+    filled_len(10, left) + filled_len(11, right)
+}
+
+fn put_both(same: bool, left: Literal, right: Literal, out: &mut [u8], at: usize) -> usize
+    requires { ⌜ at + length (bothFills same (literalOf left) (literalOf right)) ≤ length (now out) ⌝ }
+    ensures { λ r. ⌜ Wrote (now (out .entry)) (now (out .exit)) at (bothFills same (literalOf left) (literalOf right)) r ⌝ }
+{
+    if same {
+        return put_filled(b" fill", right, out, at);
+    }
+    let next = put_filled(b" fill_left", left, out, at);
+    put_filled(b" fill_right", right, out, next)
+}
+
+pub fn fills_len(values: FillValues, lhs: Fill, rhs: Fill) -> usize
+    requires { ⌜ (values ≡ fillValues (fillOf lhs) (fillOf rhs)) × FillExact (fillOf lhs) × FillExact (fillOf rhs) ⌝ }
+    ensures { λ r. ⌜ (r ≡ length (displayFills (fillOf lhs) (fillOf rhs))) × (r ≤ 70) ⌝ }
+{
+    match lhs {
+        Fill::None => match rhs {
+            Fill::None => 0,
+            Fill::Some(right) => filled_len(11, right),
+        },
+        Fill::Some(left) => match rhs {
+            Fill::None => filled_len(10, left),
+            Fill::Some(right) => both_len(same_fills(values), left, right),
+        },
+    }
+}
+
+pub fn put_fills(values: FillValues, lhs: Fill, rhs: Fill, out: &mut [u8], at: usize) -> usize
+    requires { ⌜ (values ≡ fillValues (fillOf lhs) (fillOf rhs)) × FillExact (fillOf lhs) × FillExact (fillOf rhs) ⌝ }
+    requires { ⌜ at + length (displayFills (fillOf lhs) (fillOf rhs)) ≤ length (now out) ⌝ }
+    ensures { λ r. ⌜ Wrote (now (out .entry)) (now (out .exit)) at (displayFills (fillOf lhs) (fillOf rhs)) r ⌝ }
+{
+    match lhs {
+        Fill::None => match rhs {
+            Fill::None => at,
+            Fill::Some(right) => put_filled(b" fill_right", right, out, at),
+        },
+        Fill::Some(left) => match rhs {
+            Fill::None => put_filled(b" fill_left", left, out, at),
+            Fill::Some(right) => put_both(same_fills(values), left, right, out, at),
+        },
+    }
+}
