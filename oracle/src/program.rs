@@ -1,6 +1,7 @@
 //! The program `sheet` held against the oracle: one run for each page, what it writes and how it ends.
 
 use crate::answer::{self, Failure};
+use crate::generate::limits;
 use crate::{hex, kept};
 use std::io::{self, Read, Write};
 use std::process::{Child, Command, Stdio};
@@ -8,7 +9,7 @@ use std::thread;
 use std::time::Duration;
 
 /// Pages that the kept list has not: one of 100,000 bytes, far beyond the limit, and one whose text is longer than what the program lends.
-const BEYOND: [&str; 2] = ["(0202757000)*20000;", "0278 61*120; 00 08*180;"];
+const BEYOND: [&str; 2] = [limits::OVERLONG, "0278 61*120; 00 08*180;"];
 
 /// Every so many pages one is sent in two pieces, and one without anyone to read the output.
 const SPECIAL: usize = 50;
