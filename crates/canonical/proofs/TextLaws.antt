@@ -7,7 +7,7 @@ use lib.ListN.{length, length-append}
 use Rattle.page.specs.Bytes.{bytes}
 use Rattle.base.specs.Splice.{Run}
 use Rattle.records.specs.Stack.{operandsOf}
-use Rattle.ast.specs.Tables.{Tables, stackAt, treeAt}
+use Rattle.ast.specs.Tables.{stackAt, treeAt}
 use Rattle.text.specs.Display.{display}
 use Rattle.text.specs.Layout.{Layout, front, between, rear, joined}
 use Rattle.text.specs.Seen.{Seen}

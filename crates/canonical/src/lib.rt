@@ -9,15 +9,13 @@ use own::put_front;
 use own::put_rear;
 use own::rear_len;
 ghost use mathlib.Core.Path.{_≡_};
-ghost use mathlib.Core.Bool.{true};
-ghost use mathlib.Core.List.{List};
-ghost use Prim.Native.Nat.{ℕ, suc, _+_, _-_, _≤_, min};
+ghost use Prim.Native.Nat.{suc, _+_, _-_, _≤_, min};
 ghost use lib.ListN.{length};
 ghost use Rattle.base.specs.Splice.{Wrote};
 ghost use Rattle.records.specs.Stack.{operandsOf};
 ghost use Rattle.ast.specs.Tables.{Tables, stackAt, treeAt};
 ghost use Rattle.text.specs.Display.{display};
-ghost use Rattle.text.specs.Layout.{Layout, negation, front, between, rear, joined};
+ghost use Rattle.text.specs.Layout.{front, between, rear, joined};
 ghost use Rattle.text.specs.Measured.{Measured};
 ghost use Rattle.view.specs.View.{layoutOn, OwnLies, Unvalued};
 

@@ -11,7 +11,7 @@ ghost use mathlib.Core.Path.{_≡_};
 ghost use Prim.Native.Nat.{_+_, _≤_, min};
 ghost use lib.ListN.{length};
 ghost use Rattle.base.specs.Splice.{Wrote};
-ghost use Rattle.text.specs.Layout.{head, operator, suffix, front, between, rear};
+ghost use Rattle.text.specs.Layout.{front, between, rear};
 ghost use Rattle.view.specs.View.{layoutOn, OwnLies};
 
 pub fn front_len(page: &[u8], own: Own, cap: usize) -> usize

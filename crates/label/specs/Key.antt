@@ -1,6 +1,5 @@
 -- A matcher's printed parts as one number, so that sixteen of them can be sorted in an array of numbers.
 use Prim.Native.Nat.{ℕ, _+_, _/_, _%_, _≤_, _<_}
-use mathlib.Core.Bool.{Bool}
 use mathlib.Core.List.{List, [], _∷_, map}
 use mathlib.Core.Path.{_≡_}
 use lib.Dec.{eqb}

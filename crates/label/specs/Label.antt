@@ -1,6 +1,5 @@
 -- Texts of labels and matchers (label/mod.rs, label/matcher.rs, util/mod.rs).
 use Prim.Native.Nat.{ℕ}
-use Prim.Native.String.{String}
 use mathlib.Core.Bool.{Bool, true, false, _&&_, _||_}
 use mathlib.Core.List.{List, [], _∷_, _++_, map}
 use lib.Dec.{eqb, ltb}

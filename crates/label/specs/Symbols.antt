@@ -4,7 +4,6 @@
 --     matcherSymbols ..        the same as symbols
 --     placed f h ks            h among ks, which are in the order of their texts
 use Prim.Native.Nat.{ℕ, _+_, _*_}
-use Prim.Native.String.{String}
 use mathlib.Core.Bool.{Bool}
 use mathlib.Core.List.{List, [], _∷_, _++_, map}
 use lib.ListN.{getD}

@@ -20,7 +20,7 @@ use util::quoted_len;
 ghost use mathlib.Core.Path.{_≡_};
 ghost use mathlib.Core.List.{map};
 ghost use Prim.Native.Nat.{_+_, _≤_, _<_, min};
-ghost use lib.ListN.{length, drop};
+ghost use lib.ListN.{length};
 ghost use Rattle.base.specs.Splice.{Wrote};
 ghost use Rattle.page.specs.Limits.{pageLimit, countLimit};
 ghost use Rattle.page.specs.Text.{isLabel};

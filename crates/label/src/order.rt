@@ -2,7 +2,7 @@
 // for itself or a backslash with its letter. A larger symbol has larger bytes, and no symbol's bytes begin another's.
 use util::escape_letter;
 ghost use mathlib.Core.Path.{_≡_};
-ghost use Prim.Native.Nat.{_+_, _≤_, _<_, _^_};
+ghost use Prim.Native.Nat.{_+_, _≤_, _<_};
 ghost use lib.ListN.{length, getD};
 ghost use Rattle.page.specs.Text.{isLabel};
 ghost use Rattle.label.specs.Label.{atMost};

@@ -4,9 +4,8 @@ ghost use mathlib.Core.Path.{_≡_};
 ghost use mathlib.Core.List.{_++_};
 ghost use Prim.Native.Nat.{_+_, _<_};
 ghost use lib.ListN.{length, take, drop};
-ghost use Rattle.label.specs.Label.{sort};
 ghost use Rattle.label.specs.Symbols.{placed};
-ghost use Rattle.label.specs.Key.{keyText, IsKey, AreKeys, keyTexts, Sorts};
+ghost use Rattle.label.specs.Key.{keyText, IsKey, AreKeys, Sorts};
 
 // `item` is put among the keys behind `at`, which are in order: those that come before it move down by one.
 fn place(page: &[u8], item: u64, order: &mut [u64], at: usize)

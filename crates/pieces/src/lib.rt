@@ -99,17 +99,10 @@ pub fn operator_len(page: &[u8], own: Own, cap: usize) -> usize
     requires { ⌜ OwnLies (now page) own ⌝ }
     ensures { λ r. ⌜ r ≡ min (length (operator (layoutOn (now (page .entry)) own))) cap ⌝ }
 {
-    match own {
-        Own::Number(_) => 0,
-        Own::String(_) => 0,
-        Own::Selector(_, _) => 0,
-        Own::Subquery(_, _, _) => 0,
-        Own::Unary => 0,
-        Own::Paren => 0,
-        Own::Binary(c, m) => heads::operator_len(page, c, m, cap),
-        Own::Aggregate(_, _) => 0,
-        Own::Call(_) => 0,
-    }
+    let Own::Binary(code, modifier) = own else {
+        return 0;
+    };
+    heads::operator_len(page, code, modifier, cap)
 }
 
 pub fn put_operator(page: &[u8], own: Own, out: &mut [u8], at: usize) -> usize
@@ -117,17 +110,10 @@ pub fn put_operator(page: &[u8], own: Own, out: &mut [u8], at: usize) -> usize
     requires { ⌜ at + length (operator (layoutOn (now page) own)) ≤ length (now out) ⌝ }
     ensures { λ r. ⌜ Wrote (now (out .entry)) (now (out .exit)) at (operator (layoutOn (now (page .entry)) own)) r ⌝ }
 {
-    match own {
-        Own::Number(_) => at,
-        Own::String(_) => at,
-        Own::Selector(_, _) => at,
-        Own::Subquery(_, _, _) => at,
-        Own::Unary => at,
-        Own::Paren => at,
-        Own::Binary(c, m) => heads::put_operator(page, c, m, out, at),
-        Own::Aggregate(_, _) => at,
-        Own::Call(_) => at,
-    }
+    let Own::Binary(code, modifier) = own else {
+        return at;
+    };
+    heads::put_operator(page, code, modifier, out, at)
 }
 
 // What stands behind a subquery's operand.
@@ -135,20 +121,11 @@ pub fn suffix_len(page: &[u8], own: Own, cap: usize) -> usize
     requires { ⌜ OwnLies (now page) own ⌝ }
     ensures { λ r. ⌜ r ≡ min (length (suffix (layoutOn (now (page .entry)) own))) cap ⌝ }
 {
-    match own {
-        Own::Number(_) => 0,
-        Own::String(_) => 0,
-        Own::Selector(_, _) => 0,
-        Own::Subquery(n, s, p) => {
-            let times = p.times;
-            util::capped_add(subquery_len(n, s, times), 0, cap)
-        }
-        Own::Unary => 0,
-        Own::Paren => 0,
-        Own::Binary(_, _) => 0,
-        Own::Aggregate(_, _) => 0,
-        Own::Call(_) => 0,
-    }
+    let Own::Subquery(range, step, parts) = own else {
+        return 0;
+    };
+    let times = parts.times;
+    util::capped_add(subquery_len(range, step, times), 0, cap)
 }
 
 pub fn put_suffix(page: &[u8], own: Own, out: &mut [u8], at: usize) -> usize
@@ -156,18 +133,9 @@ pub fn put_suffix(page: &[u8], own: Own, out: &mut [u8], at: usize) -> usize
     requires { ⌜ at + length (suffix (layoutOn (now page) own)) ≤ length (now out) ⌝ }
     ensures { λ r. ⌜ Wrote (now (out .entry)) (now (out .exit)) at (suffix (layoutOn (now (page .entry)) own)) r ⌝ }
 {
-    match own {
-        Own::Number(_) => at,
-        Own::String(_) => at,
-        Own::Selector(_, _) => at,
-        Own::Subquery(n, s, p) => {
-            let times = p.times;
-            put_subquery(n, s, times, out, at)
-        }
-        Own::Unary => at,
-        Own::Paren => at,
-        Own::Binary(_, _) => at,
-        Own::Aggregate(_, _) => at,
-        Own::Call(_) => at,
-    }
+    let Own::Subquery(range, step, parts) = own else {
+        return at;
+    };
+    let times = parts.times;
+    put_subquery(range, step, times, out, at)
 }

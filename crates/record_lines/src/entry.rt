@@ -18,31 +18,32 @@ use records::Offset;
 use records::Step;
 use records::Variadic;
 
+// A form with its list of labels.
+fn put_listed(
+    form: u64,
+    page: &[u8],
+    start: usize,
+    count: usize,
+    line: &mut [u8],
+    at: usize,
+) -> usize {
+    let next = put(form, line, at);
+    put_labels(page, start, count, line, next)
+}
+
 fn put_label_modifier(page: &[u8], m: LabelModifier, line: &mut [u8], at: usize) -> usize {
     match m {
         LabelModifier::None => put(0, line, at),
-        LabelModifier::Include(start, count) => {
-            let next = put(1, line, at);
-            put_labels(page, start, count, line, next)
-        }
-        LabelModifier::Exclude(start, count) => {
-            let next = put(2, line, at);
-            put_labels(page, start, count, line, next)
-        }
+        LabelModifier::Include(start, count) => put_listed(1, page, start, count, line, at),
+        LabelModifier::Exclude(start, count) => put_listed(2, page, start, count, line, at),
     }
 }
 
 fn put_cardinality(page: &[u8], c: Cardinality, line: &mut [u8], at: usize) -> usize {
     match c {
         Cardinality::OneToOne => put(0, line, at),
-        Cardinality::ManyToOne(start, count) => {
-            let next = put(1, line, at);
-            put_labels(page, start, count, line, next)
-        }
-        Cardinality::OneToMany(start, count) => {
-            let next = put(2, line, at);
-            put_labels(page, start, count, line, next)
-        }
+        Cardinality::ManyToOne(start, count) => put_listed(1, page, start, count, line, at),
+        Cardinality::OneToMany(start, count) => put_listed(2, page, start, count, line, at),
         Cardinality::ManyToMany => put(3, line, at),
     }
 }

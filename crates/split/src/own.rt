@@ -14,7 +14,7 @@ ghost use Prim.Native.Nat.{_+_, _≤_, min};
 ghost use lib.ListN.{length};
 ghost use Rattle.base.specs.Splice.{Wrote};
 ghost use Rattle.text.specs.Pretty.{indent};
-ghost use Rattle.text.specs.Layout.{head, operator, suffix, indentIf, frontAt, betweenAt, rearAt};
+ghost use Rattle.text.specs.Layout.{head, indentIf, frontAt, betweenAt, rearAt};
 ghost use Rattle.view.specs.View.{layoutOn, OwnLies};
 
 pub fn indent_len(mark: bool, level: usize, cap: usize) -> usize

@@ -1,8 +1,8 @@
 -- The node of record i, from the record at the foot of its chain: for each kind of record its law of `SeenLaws`, over what was read.
-use Prim.Native.Nat.{ℕ, suc, _-_, _≤_, _<_}
+use Prim.Native.Nat.{ℕ, suc, _-_, _<_}
 use native.Mathlib.Omega.{arith}
 use mathlib.Core.Path.{_≡_, refl, sym, ap, ap₂, _∙_}
-use mathlib.Core.Bool.{Bool, true}
+use mathlib.Core.Bool.{true}
 use mathlib.Core.List.{List}
 use mathlib.Core.Option.{Option, none, some}
 use Rattle.page.specs.Answers.{spanOn}
@@ -17,7 +17,7 @@ use Rattle.records.specs.Answers.{literalOf, stepOf, atModifierOf, offsetOf, mo
 use Rattle.records.specs.SignatureAnswers.{functionOn}
 use Rattle.reader.specs.Answers.{selectorOn}
 use Rattle.reader.specs.declared.Record.the-variants as code
-use Rattle.ast.specs.Expr.{Expr, scalarValue}
+use Rattle.ast.specs.Expr.{scalarValue}
 use Rattle.ast.specs.Construct.{noTimes}
 use Rattle.ast.specs.Tables.{treeAt, Tables}
 use Rattle.text.specs.Layout.{negation}

@@ -2,12 +2,11 @@
 use Prim.Native.Nat.{ℕ, suc, _-_, _≤_, _<_}
 use native.Mathlib.Omega.{arith}
 use mathlib.Core.Path.{_≡_, refl, sym, ap, _∙_}
-use mathlib.Core.Bool.{Bool, true, false, not}
+use mathlib.Core.Bool.{Bool, false, not}
 use mathlib.Core.List.{List}
-use mathlib.Core.Option.{Option, none, some}
-use lib.ListN.{length, drop, getD}
+use mathlib.Core.Option.{none, some}
+use lib.ListN.{drop, getD}
 use Rattle.page.specs.Read.{FieldFault, refused, got}
-use Rattle.records.specs.Literal as literal
 use Rattle.records.specs.Record as spec
 use Rattle.records.specs.Answers.{literalOf}
 use Rattle.reader.specs.Answers.{recordOn, TextsLie}
@@ -16,12 +15,11 @@ use Rattle.reader.specs.declared.Record.the-variants as code
 use Rattle.ast.specs.Expr.{scalarValue}
 use Rattle.ast.specs.Tables.{treeAt, Tables}
 use Rattle.text.specs.Layout.{head, operator, suffix}
-use Rattle.text.specs.Seen.{Reads}
 use Rattle.text.proofs.OperandLaws.{fewer}
 use Rattle.text.proofs.EntryLaws.{wrapped}
 use Rattle.text.proofs.ValueLaws.{signed, signed-none, signed-unary, signed-number, Unsigned, valueless}
 use Rattle.view.specs.View.{Starts, Standing, Unvalued, layoutOn, formOf, formed}
-use Rattle.view.specs.declared.Form.{Form}
+use Rattle.view.specs.declared.form.Form.{Form}
 use Rattle.view.specs.declared.Own.{Own}
 use Rattle.view.specs.declared.Own.the-variants as own
 

@@ -27,8 +27,8 @@ use Rattle.view.specs.declared.Own.{Own}
 use Rattle.view.specs.declared.Own.the-variants as own
 use Rattle.view.specs.declared.Signed.{Signed}
 use Rattle.view.specs.declared.Signed.the-variants as sign
-use Rattle.view.specs.declared.Form.{Form}
-use Rattle.view.specs.declared.Form.the-variants as form
+use Rattle.view.specs.declared.form.Form.{Form}
+use Rattle.view.specs.declared.form.Form.the-variants as form
 use Rattle.view.specs.declared.View.{View}
 
 -- the starts of the first n records, with some table of first records beside them

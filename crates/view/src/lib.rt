@@ -1,12 +1,17 @@
 // The node that a record ends, as it is printed: what it writes of its own and where its operands lie.
 // A selector with its range, @ and offset is one node of up to four records, a negated number one of several.
+pub mod form;
+
+pub use form::Form;
+pub use form::form_of;
+pub use form::is_minus;
 use reader::Record;
 use records::Step;
 use text::At;
 use text::Shift;
 use text::Times;
 ghost use mathlib.Core.Path.{_≡_};
-ghost use Prim.Native.Nat.{suc, _≤_};
+ghost use Prim.Native.Nat.{suc};
 ghost use Rattle.records.specs.Literal.{negate};
 ghost use Rattle.records.specs.Answers.{literalOf, stepOf, atModifierOf, offsetOf};
 ghost use Rattle.ast.specs.Expr.{scalarValue};
@@ -14,7 +19,7 @@ ghost use Rattle.ast.specs.Tables.{treeAt};
 ghost use mathlib.Core.Option.{some};
 ghost use Rattle.text.specs.Chain.{withAt, withOffset};
 ghost use Rattle.text.specs.Answers.{timesOf};
-ghost use Rattle.view.specs.View.{Starts, Standing, signedOf, Viewed, Unvalued, Below, isMinus, formOf};
+ghost use Rattle.view.specs.View.{Starts, Standing, signedOf, Viewed, Unvalued, Below};
 
 // What the records above a selector or a subquery have set. A subquery has no range of this kind.
 pub struct Parts {
@@ -212,47 +217,4 @@ pub fn view_at(page: &[u8], starts: &[u16], i: usize, unvalued: bool) -> View
         times: times,
     };
     view_from(page, starts, i, i, parts, unvalued)
-}
-
-// Whether the node is a minus before its operand.
-pub fn is_minus(own: Own) -> bool
-    ensures { λ r. ⌜ r ≡ isMinus own ⌝ }
-{
-    match own {
-        Own::Number(_) => false,
-        Own::String(_) => false,
-        Own::Selector(_, _) => false,
-        Own::Subquery(_, _, _) => false,
-        Own::Unary => true,
-        Own::Paren => false,
-        Own::Binary(_, _) => false,
-        Own::Aggregate(_, _) => false,
-        Own::Call(_) => false,
-    }
-}
-
-// The way in which a node's text is put together: a text of its own, a minus before the operand, a suffix behind it, operands in
-// brackets behind a head, an operator between two.
-pub enum Form {
-    Whole,
-    Minus,
-    Suffixed,
-    Enclosed,
-    Infixed,
-}
-
-pub fn form_of(own: Own) -> Form
-    ensures { λ r. ⌜ r ≡ formOf own ⌝ }
-{
-    match own {
-        Own::Number(_) => Form::Whole,
-        Own::String(_) => Form::Whole,
-        Own::Selector(_, _) => Form::Whole,
-        Own::Subquery(_, _, _) => Form::Suffixed,
-        Own::Unary => Form::Minus,
-        Own::Paren => Form::Enclosed,
-        Own::Binary(_, _) => Form::Infixed,
-        Own::Aggregate(_, _) => Form::Enclosed,
-        Own::Call(_) => Form::Enclosed,
-    }
 }

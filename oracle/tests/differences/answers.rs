@@ -15,7 +15,7 @@ fn bytes(text: &str) -> Vec<u8> {
     spelled(&text.replace("<01>", "\u{1}").replace("<0a>", "\n"))
 }
 
-fn is_told(page: &[u8], cell: &str) -> bool {
+pub fn is_told(page: &[u8], cell: &str) -> bool {
     let answer = answer::answer(page).expect("the Rust is foreseen");
     if let Outcome::Refused { number, record } = answer.outcome {
         return cell.starts_with(&format!("refused {number} at {record}"));

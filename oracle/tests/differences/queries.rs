@@ -15,17 +15,6 @@ fn records(page: &[u8]) -> Vec<Record<'_>> {
     records
 }
 
-pub fn says_nothing(modifier: &Modifier) -> bool {
-    *modifier
-        == Modifier {
-            is_bool: false,
-            matching: Matching::None,
-            cardinality: Cardinality::OneToOne,
-            left_fill: None,
-            right_fill: None,
-        }
-}
-
 /// The page of the same query without what may be left out.
 fn shortest(page: &[u8]) -> Vec<u8> {
     let mut kept: Vec<Record> = Vec::new();
@@ -36,7 +25,7 @@ fn shortest(page: &[u8]) -> Vec<u8> {
             }
             (Record::Binary { code, modifier }, _) => kept.push(Record::Binary {
                 code,
-                modifier: modifier.filter(|modifier| !says_nothing(modifier)),
+                modifier: modifier.filter(|modifier| *modifier != Modifier::EMPTY),
             }),
             (record, _) => kept.push(record),
         }

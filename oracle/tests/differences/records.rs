@@ -1,5 +1,5 @@
 //! Every record of at most so many bytes, as bytes. Codes, forms, counts, kinds and flags have all their values; a text is one
-//! of a given list; a number has the values 0 to 2 or the first one of its length.
+//! of a given list, an upper extra 1, 2 or 16, another number 0, 1, 2 or the first one of its length.
 
 pub type Strings = Vec<Vec<u8>>;
 
@@ -96,7 +96,8 @@ impl Records {
     }
 
     fn calls(&self) -> Strings {
-        let extra = either([any(0..=1), self.form(2, &[&any(1..=16)])]);
+        let upper = either([any(1..=2), any(16..=16)]);
+        let extra = either([any(0..=1), self.form(2, &[&upper])]);
         let kinds = self.list(&any(0..=3));
         let names = written(FUNCTION_NAMES);
         self.sequence(&[&names, &kinds, &extra, &any(0..=3), &any(0..=16)])

@@ -2,6 +2,7 @@
 
 use crate::records::{Records, Strings, KINDS};
 use oracle::answer::{self, Outcome, Worked};
+use oracle::page::read::Reader;
 use oracle::page::record::Record;
 
 pub fn worked(page: &[u8]) -> Worked<'_> {
@@ -23,34 +24,42 @@ fn passes(worked: &Worked) -> bool {
     }
 }
 
+/// Records with the number of operands that each takes; unreadable ones take none.
+fn counted(records: Strings) -> Vec<(usize, Vec<u8>)> {
+    let operands = |record: &[u8]| {
+        let read = Reader::new(record).record();
+        read.map_or(0, |record| record.operands())
+    };
+    let with_count = |record: Vec<u8>| (operands(&record), record);
+    records.into_iter().map(with_count).collect()
+}
+
+/// The page with one more record that finds its operands, within the limit.
+fn continued<'a>(
+    page: &'a [u8],
+    records: &'a [(usize, Vec<u8>)],
+    limit: usize,
+) -> impl Iterator<Item = Vec<u8>> + 'a {
+    let expressions = expressions(page);
+    let fitting = records.iter().filter(move |(operands, record)| {
+        *operands <= expressions && page.len() + record.len() <= limit
+    });
+    fitting.map(move |(_, record)| [page, record].concat())
+}
+
 /// Every sequence of accepted records of at most so many bytes.
 pub fn beginnings(limit: usize, texts: &'static [&'static str]) -> Strings {
     let records = Records { limit, texts };
-    let records: Strings = KINDS.flat_map(|kind| records.of_kind(kind)).collect();
+    let records = counted(KINDS.flat_map(|kind| records.of_kind(kind)).collect());
     let mut made: Strings = vec![Vec::new()];
     let mut done = 0;
     while done < made.len() {
         let longer = continued(&made[done], &records, limit);
-        made.extend(
-            longer
-                .filter(|page| passes(&worked(page)))
-                .collect::<Strings>(),
-        );
+        let passing: Strings = longer.filter(|page| passes(&worked(page))).collect();
+        made.extend(passing);
         done += 1;
     }
     made
-}
-
-/// The page with one more record, within the limit.
-fn continued<'a>(
-    page: &'a [u8],
-    records: &'a Strings,
-    limit: usize,
-) -> impl Iterator<Item = Vec<u8>> + 'a {
-    let fitting = records
-        .iter()
-        .filter(move |record| page.len() + record.len() <= limit);
-    fitting.map(move |record| [page, record].concat())
 }
 
 /// The pages of at most `limit` bytes that end in a record of this kind and of which `shows` is true.
@@ -60,9 +69,9 @@ pub fn search(
     texts: &'static [&'static str],
     shows: fn(&Worked) -> bool,
 ) -> Strings {
-    let last = Records { limit, texts }.of_kind(kind);
-    let shortest = last.iter().map(Vec::len).min().unwrap_or(limit);
-    let beginnings = beginnings(limit - shortest, texts);
+    let last = counted(Records { limit, texts }.of_kind(kind));
+    let shortest = last.iter().map(|(_, record)| record.len()).min();
+    let beginnings = beginnings(limit - shortest.unwrap_or(limit), texts);
     let pages = beginnings
         .iter()
         .flat_map(|beginning| continued(beginning, &last, limit));

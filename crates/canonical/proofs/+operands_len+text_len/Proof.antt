@@ -7,7 +7,6 @@ use Rattle.text.specs.Display.{display}
 use Rattle.view.proofs.NodeLaws.{minus-unvalued}
 use Rattle.text.proofs.OperandLaws.{fewer}
 use Prim.Native.Nat.{_+_, _-_}
-use mathlib.Core.Path.{_≡_, sym, ap, _∙_}
 use native.Mathlib.Omega.{arith}
 use borrow.Author.Needs.{needs}
 use Prim.Native.Nat.{ℕ, _<_}

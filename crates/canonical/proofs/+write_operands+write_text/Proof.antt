@@ -12,7 +12,7 @@ use Rattle.view.specs.View.{layoutOn}
 use Rattle.text.specs.Layout.{between}
 use lib.ListN.{length}
 use Prim.Native.Nat.{_+_, _-_}
-use mathlib.Core.Path.{_≡_, sym, ap, _∙_}
+use mathlib.Core.Path.{ap, _∙_}
 use native.Mathlib.Omega.{arith}
 use borrow.Author.Needs.{needs}
 use Prim.Native.Nat.{ℕ, _<_}

@@ -1,33 +1,12 @@
 -- `pieces::head_len` meets its contract: by what the node has of its own. Assumes nothing.
 use Prim.Native.Nat.{min}
-use Rattle.pieces.proofs.PieceLaws.{sum-three, bracketed-len, suffix-len, run-suffix}
-use Rattle.pieces.specs.Times.{spacedAt, spacedOffset}
-use Rattle.text.proofs.WriteLaws.{wrote-nothing, wrote-as, run-two, run-three}
-use Rattle.text.specs.Answers.{atOf, shiftOf, timesOf}
-use Rattle.text.specs.Layout.{displayRange}
-use Rattle.text.specs.Display.{optional, displaySelector, displayTimes}
-use Rattle.util.specs.Time.{displayAt, displayOffset}
-use Rattle.util.specs.Duration.{displayDuration}
 use Rattle.util.specs.Escape.{quote}
-use Rattle.reader.specs.Answers.{selectorOn}
-use Rattle.records.specs.Answers.{stepOf, atModifierOf, offsetOf}
-use Rattle.page.specs.Bytes.{bytes}
-use Rattle.base.specs.Splice.{fits, next, end}
-use lib.ListN.{length, length-append}
-use mathlib.Core.List.{[], _∷_, _++_, append-assoc}
-use mathlib.Core.Path.{_≡_, refl, sym, ap, _∙_}
+use lib.ListN.{length}
+use mathlib.Core.Path.{ap, _∙_}
 use native.Mathlib.Omega.{arith}
 use borrow.Author.Needs.{needs}
 use Rattle.pieces.proofs.head_len.Statement.{statement}
 use Rattle.pieces.proofs.head_len.Tie as tie
-use Rattle.pieces.proofs.head_len.Reads as reads
-use Rattle.pieces.proofs.head_len.Lts as lts
-use Rattle.heads.proofs.aggregator_len.Reads as aggregator-len-reads
-use Rattle.page.proofs.text_at.Reads as text-at-reads
-use Rattle.pieces.proofs.selector_len.Reads as selector-len-reads
-use Rattle.util.proofs.capped_add.Reads as capped-add-reads
-use Rattle.util.proofs.numeral_len.Reads as numeral-len-reads
-use Rattle.util.proofs.quoted_len.Reads as quoted-len-reads
 
 enum-known-own : tie.Need-enum-known-own
 enum-known-own c = search needs

@@ -1,34 +1,10 @@
 -- `pieces::put_head` meets its contract: by what the node has of its own. Assumes nothing.
-use Prim.Native.Nat.{min}
-use Rattle.pieces.proofs.PieceLaws.{sum-three, bracketed-len, suffix-len, run-suffix}
-use Rattle.pieces.specs.Times.{spacedAt, spacedOffset}
-use Rattle.text.proofs.WriteLaws.{wrote-nothing, wrote-as, run-two, run-three}
-use Rattle.text.specs.Answers.{atOf, shiftOf, timesOf}
-use Rattle.text.specs.Layout.{displayRange}
-use Rattle.text.specs.Display.{optional, displaySelector, displayTimes}
-use Rattle.util.specs.Time.{displayAt, displayOffset}
-use Rattle.util.specs.Duration.{displayDuration}
+use Rattle.text.proofs.WriteLaws.{wrote-nothing, wrote-as}
 use Rattle.util.specs.Escape.{quote}
-use Rattle.reader.specs.Answers.{selectorOn}
-use Rattle.records.specs.Answers.{stepOf, atModifierOf, offsetOf}
-use Rattle.page.specs.Bytes.{bytes}
-use Rattle.base.specs.Splice.{fits, next, end}
-use lib.ListN.{length, length-append}
-use mathlib.Core.List.{[], _∷_, _++_, append-assoc}
-use mathlib.Core.Path.{_≡_, refl, sym, ap, _∙_}
-use native.Mathlib.Omega.{arith}
+use mathlib.Core.Path.{refl, sym, ap}
 use borrow.Author.Needs.{needs}
 use Rattle.pieces.proofs.put_head.Statement.{statement}
 use Rattle.pieces.proofs.put_head.Tie as tie
-use Rattle.pieces.proofs.put_head.Reads as reads
-use Rattle.pieces.proofs.put_head.Lts as lts
-use Rattle.heads.proofs.put_aggregator.Reads as put-aggregator-reads
-use Rattle.page.proofs.text_at.Reads as text-at-reads
-use Rattle.page.proofs.put_byte.Reads as put-byte-reads
-use Rattle.page.proofs.put_bytes.Reads as put-bytes-reads
-use Rattle.pieces.proofs.put_selector.Reads as put-selector-reads
-use Rattle.util.proofs.put_literal.Reads as put-literal-reads
-use Rattle.util.proofs.put_quoted.Reads as put-quoted-reads
 
 enum-known-own : tie.Need-enum-known-own
 enum-known-own c = search needs

@@ -1,30 +1,15 @@
 -- `pieces::put_selector` meets its contract: name and braces, range, times. Assumes nothing.
-use Prim.Native.Nat.{min}
-use Rattle.pieces.proofs.PieceLaws.{sum-three, bracketed-len, suffix-len, run-suffix}
-use Rattle.pieces.specs.Times.{spacedAt, spacedOffset}
-use Rattle.text.proofs.WriteLaws.{wrote-nothing, wrote-as, run-two, run-three}
-use Rattle.text.specs.Answers.{atOf, shiftOf, timesOf}
+use Rattle.text.proofs.WriteLaws.{run-three}
+use Rattle.text.specs.Answers.{timesOf}
 use Rattle.text.specs.Layout.{displayRange}
-use Rattle.text.specs.Display.{optional, displaySelector, displayTimes}
-use Rattle.util.specs.Time.{displayAt, displayOffset}
-use Rattle.util.specs.Duration.{displayDuration}
-use Rattle.util.specs.Escape.{quote}
+use Rattle.text.specs.Display.{displaySelector, displayTimes}
 use Rattle.reader.specs.Answers.{selectorOn}
-use Rattle.records.specs.Answers.{stepOf, atModifierOf, offsetOf}
-use Rattle.page.specs.Bytes.{bytes}
+use Rattle.records.specs.Answers.{stepOf}
 use Rattle.base.specs.Splice.{fits, next, end}
-use lib.ListN.{length, length-append}
-use mathlib.Core.List.{[], _∷_, _++_, append-assoc}
-use mathlib.Core.Path.{_≡_, refl, sym, ap, _∙_}
-use native.Mathlib.Omega.{arith}
+use mathlib.Core.Path.{refl}
 use borrow.Author.Needs.{needs}
 use Rattle.pieces.proofs.put_selector.Statement.{statement}
 use Rattle.pieces.proofs.put_selector.Tie as tie
-use Rattle.pieces.proofs.put_selector.Reads as reads
-use Rattle.pieces.proofs.put_selector.Lts as lts
-use Rattle.heads.proofs.put_selector.Reads as put-selector-reads
-use Rattle.pieces.proofs.times.put_range.Reads as put-range-reads
-use Rattle.pieces.proofs.times.put_times.Reads as put-times-reads
 
 put-selector-requires : tie.Need-put-selector-requires
 put-selector-requires c κs = (c .before .before .before .before .pre .0 .name, ((c .before .before .before .before .pre .0 .few, c .before .before .before .before .pre .0 .short), fits (run-three (displaySelector (selectorOn (c .before .before .before .before .args .page .now) (c .before .before .before .before .args .selector))) (displayRange (stepOf (c .before .before .before .before .args .parts .range))) (displayTimes (timesOf (c .before .before .before .before .args .parts .times))) (c .before .before .before .before .args .out .now) (c .before .before .before .before .args .at) refl (c .before .before .before .before .pre .1))))

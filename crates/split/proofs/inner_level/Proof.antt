@@ -4,8 +4,6 @@ use native.Mathlib.Omega.{arith}
 use borrow.Author.Needs.{needs}
 use Rattle.split.proofs.inner_level.Statement.{statement}
 use Rattle.split.proofs.inner_level.Tie as tie
-use Rattle.split.proofs.inner_level.Reads as reads
-use Rattle.split.proofs.inner_level.Lts as lts
 
 enum-told : tie.Need-enum-told
 enum-told c = search needs

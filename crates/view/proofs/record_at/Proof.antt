@@ -3,9 +3,6 @@ use Rattle.view.proofs.ViewLaws.{standing, unreadable}
 use borrow.Author.Needs.{needs}
 use Rattle.view.proofs.record_at.Statement.{statement}
 use Rattle.view.proofs.record_at.Tie as tie
-use Rattle.view.proofs.record_at.Reads as reads
-use Rattle.view.proofs.record_at.Lts as lts
-use Rattle.reader.proofs.read_record.Reads as read-record-reads
 
 mul-start : tie.Need-mul-start
 mul-start c = search needs

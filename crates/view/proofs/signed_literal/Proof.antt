@@ -1,16 +1,12 @@
 use Rattle.view.proofs.ViewLaws.{starts-fewer, Descends, descends-start, unary-some, descends-unary, value-number, value-other}
 use native.Mathlib.Omega.{arith}
 use mathlib.Core.Option.{some}
-use mathlib.Core.Path.{_≡_, ap, _∙_}
+use mathlib.Core.Path.{ap, _∙_}
 -- The measure is j. Assumes nothing.
 -- `view::signed_literal` meets its contract. Invariant: the value is that of record j's tree, with the sign of the unary records passed.
 use borrow.Author.Needs.{needs}
 use Rattle.view.proofs.signed_literal.Statement.{statement}
 use Rattle.view.proofs.signed_literal.Tie as tie
-use Rattle.view.proofs.signed_literal.Reads as reads
-use Rattle.view.proofs.signed_literal.Lts as lts
-use Rattle.view.proofs.negated.Reads as negated-reads
-use Rattle.view.proofs.record_at.Reads as record-at-reads
 
 abbrev Inv-loop : tie.InvT-loop
 Inv-loop page starts i j₀ odd₀ j odd = Descends page i j odd

@@ -1,15 +1,11 @@
 use Rattle.view.proofs.NodeLaws.{unvalued-below, view-unary, view-literal}
 use Rattle.view.proofs.ViewLaws.{starts-fewer}
 use native.Mathlib.Omega.{arith}
-use mathlib.Core.Path.{_≡_, sym, _∙_}
+use mathlib.Core.Path.{sym}
 -- `view::unary_view` meets its contract: the value of the tree says whether the minus is a number's sign. Assumes nothing.
 use borrow.Author.Needs.{needs}
 use Rattle.view.proofs.unary_view.Statement.{statement}
 use Rattle.view.proofs.unary_view.Tie as tie
-use Rattle.view.proofs.unary_view.Reads as reads
-use Rattle.view.proofs.unary_view.Lts as lts
-use Rattle.view.proofs.node.Reads as node-reads
-use Rattle.view.proofs.signed_literal.Reads as signed-literal-reads
 
 node-requires : tie.Need-node-requires
 node-requires c κs = search needs

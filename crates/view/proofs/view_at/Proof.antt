@@ -1,12 +1,8 @@
 use Rattle.view.proofs.NodeLaws.{below-start}
 use mathlib.Core.Path.{refl}
 -- `view::view_at` meets its contract: it starts at record i itself, where nothing is set. Assumes nothing.
-use borrow.Author.Needs.{needs}
 use Rattle.view.proofs.view_at.Statement.{statement}
 use Rattle.view.proofs.view_at.Tie as tie
-use Rattle.view.proofs.view_at.Reads as reads
-use Rattle.view.proofs.view_at.Lts as lts
-use Rattle.view.proofs.view_from.Reads as view-from-reads
 
 view-from-requires : tie.Need-view-from-requires
 view-from-requires c κs = (c .before .before .pre .0, (below-start _ _ _ refl refl, c .before .before .pre .1))

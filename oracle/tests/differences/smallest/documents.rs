@@ -2,10 +2,10 @@
 
 use super::is_smallest;
 use crate::document::row;
-use crate::queries::says_nothing;
 use crate::search::worked;
 use oracle::answer::Worked;
 use oracle::hex;
+use oracle::page::code::is_set_operator;
 use oracle::page::record::*;
 use promql_parser::parser::token::{T_LIMITK, T_LIMIT_RATIO};
 use promql_parser::parser::value::ValueType;
@@ -104,10 +104,9 @@ fn modifier<'w>(page: &'w Worked) -> Option<(u8, &'w Modifier<'w>)> {
 
 #[test]
 fn row_e4_many_to_many_on_arithmetic() {
-    const SET_OPERATORS: [u8; 3] = [6, 7, 10];
     is_smallest("E4", 9, |page| {
         modifier(page).is_some_and(|(code, modifier)| {
-            !SET_OPERATORS.contains(&code) && modifier.cardinality == Cardinality::ManyToMany
+            !is_set_operator(code) && modifier.cardinality == Cardinality::ManyToMany
         })
     });
 }
@@ -115,7 +114,7 @@ fn row_e4_many_to_many_on_arithmetic() {
 #[test]
 fn row_e5_empty_modifier() {
     is_smallest("E5", 9, |page| {
-        modifier(page).is_some_and(|(_, modifier)| says_nothing(modifier))
+        modifier(page).is_some_and(|(_, modifier)| *modifier == Modifier::EMPTY)
     });
     let without = hex::bytes("00020002090100");
     let text = |page: &[u8]| tree(&worked(page)).map(Expr::to_string);

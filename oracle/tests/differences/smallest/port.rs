@@ -7,7 +7,7 @@ use crate::records::Records;
 use crate::search::{beginnings, expressions, worked};
 use oracle::answer::{Domain, Outcome, Worked};
 use oracle::page::record::*;
-use oracle::{generate, hex};
+use oracle::{generate, hex, tree};
 use std::collections::HashSet;
 
 fn is_refused(worked: &Worked, refusal: u8) -> bool {
@@ -21,22 +21,10 @@ fn row_1_no_declared_kinds() {
 
 /// Two labels or more stand in both lists, so that the Rust may name either.
 fn has_two_common_labels(record: &Record) -> bool {
-    let Record::Binary {
-        modifier: Some(modifier),
-        ..
-    } = record
-    else {
-        return false;
-    };
-    let texts = |list: &Labels| -> HashSet<String> {
-        list.iter().map(|label| label.text.to_string()).collect()
-    };
-    match (&modifier.matching, &modifier.cardinality) {
-        (Matching::On(on), Cardinality::GroupLeft(group) | Cardinality::GroupRight(group)) => {
-            texts(on).intersection(&texts(group)).count() >= 2
-        }
-        _ => false,
-    }
+    let distinct: HashSet<_> = tree::joint_labels(record)
+        .map(|label| &label.text)
+        .collect();
+    distinct.len() >= 2
 }
 
 /// Three bytes make one expression at most, so two operands have four; the record would have to be shorter than the row's.

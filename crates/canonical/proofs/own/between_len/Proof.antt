@@ -2,21 +2,13 @@
 use Rattle.canonical.proofs.TextLaws.{spaced}
 use Rattle.view.proofs.ViewLaws.{layout-formed}
 use Rattle.view.specs.View.{layoutOn}
-use Rattle.text.proofs.CappedLaws.{len-as, len-plus}
-use Rattle.text.specs.Layout.{Layout, head, operator, suffix, front, between, rear}
-use Rattle.page.specs.Bytes.{bytes}
+use Rattle.text.specs.Layout.{Layout, operator, between}
 use lib.ListN.{length}
-use mathlib.Core.List.{[], _∷_}
-use mathlib.Core.Path.{_≡_, sym, ap, _∙_}
+use mathlib.Core.Path.{sym, ap, _∙_}
 use native.Mathlib.Omega.{arith}
 use borrow.Author.Needs.{needs}
 use Rattle.canonical.proofs.own.between_len.Statement.{statement}
 use Rattle.canonical.proofs.own.between_len.Tie as tie
-use Rattle.canonical.proofs.own.between_len.Reads as reads
-use Rattle.canonical.proofs.own.between_len.Lts as lts
-use Rattle.pieces.proofs.operator_len.Reads as operator-len-reads
-use Rattle.util.proofs.capped_add.Reads as capped-add-reads
-use Rattle.view.proofs.form_of.Reads as form-of-reads
 
 form-of-requires : tie.Need-form-of-requires
 form-of-requires c κs = search needs

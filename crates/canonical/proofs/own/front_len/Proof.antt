@@ -1,22 +1,15 @@
 -- `canonical::own::front_len` meets its contract: by the form, the head and a bracket. Assumes nothing.
-use Rattle.canonical.proofs.TextLaws.{spaced}
 use Rattle.view.proofs.ViewLaws.{layout-formed}
 use Rattle.view.specs.View.{layoutOn}
 use Rattle.text.proofs.CappedLaws.{len-as, len-plus}
-use Rattle.text.specs.Layout.{Layout, head, operator, suffix, front, between, rear}
+use Rattle.text.specs.Layout.{Layout, head, front}
 use Rattle.page.specs.Bytes.{bytes}
 use lib.ListN.{length}
-use mathlib.Core.List.{[], _∷_}
-use mathlib.Core.Path.{_≡_, sym, ap, _∙_}
+use mathlib.Core.Path.{sym, ap, _∙_}
 use native.Mathlib.Omega.{arith}
 use borrow.Author.Needs.{needs}
 use Rattle.canonical.proofs.own.front_len.Statement.{statement}
 use Rattle.canonical.proofs.own.front_len.Tie as tie
-use Rattle.canonical.proofs.own.front_len.Reads as reads
-use Rattle.canonical.proofs.own.front_len.Lts as lts
-use Rattle.pieces.proofs.head_len.Reads as head-len-reads
-use Rattle.util.proofs.capped_add.Reads as capped-add-reads
-use Rattle.view.proofs.form_of.Reads as form-of-reads
 
 form-of-requires : tie.Need-form-of-requires
 form-of-requires c κs = search needs

@@ -1,22 +1,14 @@
 -- `canonical::own::put_front` meets its contract. Assumes nothing.
 use Rattle.view.proofs.ViewLaws.{layout-formed}
 use Rattle.view.specs.View.{layoutOn}
-use Rattle.text.proofs.WriteLaws.{wrote-nothing, wrote-as, room-as, run-two, run-three}
-use Rattle.text.specs.Layout.{Layout, head, operator, suffix, front, between, rear}
+use Rattle.text.proofs.WriteLaws.{wrote-nothing, wrote-as, room-as, run-two}
+use Rattle.text.specs.Layout.{head, front}
 use Rattle.page.specs.Bytes.{bytes}
 use Rattle.base.specs.Splice.{fits, next, end}
-use lib.ListN.{length}
-use mathlib.Core.List.{[], _∷_, _++_, append-assoc}
-use mathlib.Core.Path.{_≡_, sym, ap, _∙_}
-use native.Mathlib.Omega.{arith}
+use mathlib.Core.Path.{sym, ap, _∙_}
 use borrow.Author.Needs.{needs}
 use Rattle.canonical.proofs.own.put_front.Statement.{statement}
 use Rattle.canonical.proofs.own.put_front.Tie as tie
-use Rattle.canonical.proofs.own.put_front.Reads as reads
-use Rattle.canonical.proofs.own.put_front.Lts as lts
-use Rattle.pieces.proofs.put_head.Reads as put-head-reads
-use Rattle.page.proofs.put_byte.Reads as put-byte-reads
-use Rattle.view.proofs.form_of.Reads as form-of-reads
 
 form-of-requires : tie.Need-form-of-requires
 form-of-requires c κs = search needs

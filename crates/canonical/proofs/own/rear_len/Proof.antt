@@ -1,22 +1,13 @@
 -- `canonical::own::rear_len` meets its contract: the suffix, or a bracket. Assumes nothing.
-use Rattle.canonical.proofs.TextLaws.{spaced}
 use Rattle.view.proofs.ViewLaws.{layout-formed}
-use Rattle.view.specs.View.{layoutOn}
-use Rattle.text.proofs.CappedLaws.{len-as, len-plus}
-use Rattle.text.specs.Layout.{Layout, head, operator, suffix, front, between, rear}
-use Rattle.page.specs.Bytes.{bytes}
+use Rattle.text.proofs.CappedLaws.{len-as}
+use Rattle.text.specs.Layout.{Layout, rear}
 use lib.ListN.{length}
-use mathlib.Core.List.{[], _∷_}
-use mathlib.Core.Path.{_≡_, sym, ap, _∙_}
+use mathlib.Core.Path.{sym, ap, _∙_}
 use native.Mathlib.Omega.{arith}
 use borrow.Author.Needs.{needs}
 use Rattle.canonical.proofs.own.rear_len.Statement.{statement}
 use Rattle.canonical.proofs.own.rear_len.Tie as tie
-use Rattle.canonical.proofs.own.rear_len.Reads as reads
-use Rattle.canonical.proofs.own.rear_len.Lts as lts
-use Rattle.pieces.proofs.suffix_len.Reads as suffix-len-reads
-use Rattle.util.proofs.capped_add.Reads as capped-add-reads
-use Rattle.view.proofs.form_of.Reads as form-of-reads
 
 form-of-requires : tie.Need-form-of-requires
 form-of-requires c κs = search needs

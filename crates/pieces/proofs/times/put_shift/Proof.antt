@@ -1,29 +1,13 @@
 -- `pieces::times::put_shift` meets its contract: the word and the offset. Assumes nothing.
-use Prim.Native.Nat.{min}
-use Rattle.pieces.proofs.PieceLaws.{sum-three, bracketed-len, suffix-len, run-suffix}
-use Rattle.pieces.specs.Times.{spacedAt, spacedOffset}
-use Rattle.text.proofs.WriteLaws.{wrote-nothing, wrote-as, run-two, run-three}
-use Rattle.text.specs.Answers.{atOf, shiftOf, timesOf}
-use Rattle.text.specs.Layout.{displayRange}
-use Rattle.text.specs.Display.{optional, displaySelector, displayTimes}
-use Rattle.util.specs.Time.{displayAt, displayOffset}
-use Rattle.util.specs.Duration.{displayDuration}
-use Rattle.util.specs.Escape.{quote}
-use Rattle.reader.specs.Answers.{selectorOn}
-use Rattle.records.specs.Answers.{stepOf, atModifierOf, offsetOf}
+use Rattle.text.proofs.WriteLaws.{wrote-nothing, run-two}
+use Rattle.util.specs.Time.{displayOffset}
+use Rattle.records.specs.Answers.{offsetOf}
 use Rattle.page.specs.Bytes.{bytes}
 use Rattle.base.specs.Splice.{fits, next, end}
-use lib.ListN.{length, length-append}
-use mathlib.Core.List.{[], _∷_, _++_, append-assoc}
-use mathlib.Core.Path.{_≡_, refl, sym, ap, _∙_}
-use native.Mathlib.Omega.{arith}
+use mathlib.Core.Path.{refl}
 use borrow.Author.Needs.{needs}
 use Rattle.pieces.proofs.times.put_shift.Statement.{statement}
 use Rattle.pieces.proofs.times.put_shift.Tie as tie
-use Rattle.pieces.proofs.times.put_shift.Reads as reads
-use Rattle.pieces.proofs.times.put_shift.Lts as lts
-use Rattle.page.proofs.put_bytes.Reads as put-bytes-reads
-use Rattle.util.proofs.put_offset.Reads as put-offset-reads
 
 enum-told : tie.Need-enum-told
 enum-told c = search needs

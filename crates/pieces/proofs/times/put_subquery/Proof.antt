@@ -1,31 +1,13 @@
 -- `pieces::times::put_subquery` meets its contract: two durations in brackets, then the times. Assumes nothing.
-use Prim.Native.Nat.{min}
-use Rattle.pieces.proofs.PieceLaws.{sum-three, bracketed-len, suffix-len, run-suffix}
-use Rattle.pieces.specs.Times.{spacedAt, spacedOffset}
-use Rattle.text.proofs.WriteLaws.{wrote-nothing, wrote-as, run-two, run-three}
-use Rattle.text.specs.Answers.{atOf, shiftOf, timesOf}
-use Rattle.text.specs.Layout.{displayRange}
-use Rattle.text.specs.Display.{optional, displaySelector, displayTimes}
-use Rattle.util.specs.Time.{displayAt, displayOffset}
+use Rattle.pieces.proofs.PieceLaws.{run-suffix}
+use Rattle.text.specs.Answers.{timesOf}
+use Rattle.text.specs.Display.{optional, displayTimes}
 use Rattle.util.specs.Duration.{displayDuration}
-use Rattle.util.specs.Escape.{quote}
-use Rattle.reader.specs.Answers.{selectorOn}
-use Rattle.records.specs.Answers.{stepOf, atModifierOf, offsetOf}
-use Rattle.page.specs.Bytes.{bytes}
+use Rattle.records.specs.Answers.{stepOf}
 use Rattle.base.specs.Splice.{fits, next, end}
-use lib.ListN.{length, length-append}
-use mathlib.Core.List.{[], _∷_, _++_, append-assoc}
-use mathlib.Core.Path.{_≡_, refl, sym, ap, _∙_}
-use native.Mathlib.Omega.{arith}
 use borrow.Author.Needs.{needs}
 use Rattle.pieces.proofs.times.put_subquery.Statement.{statement}
 use Rattle.pieces.proofs.times.put_subquery.Tie as tie
-use Rattle.pieces.proofs.times.put_subquery.Reads as reads
-use Rattle.pieces.proofs.times.put_subquery.Lts as lts
-use Rattle.page.proofs.put_byte.Reads as put-byte-reads
-use Rattle.pieces.proofs.times.put_step.Reads as put-step-reads
-use Rattle.pieces.proofs.times.put_times.Reads as put-times-reads
-use Rattle.util.proofs.put_duration.Reads as put-duration-reads
 
 put-byte-requires : tie.Need-put-byte-requires
 put-byte-requires c κs = search needs

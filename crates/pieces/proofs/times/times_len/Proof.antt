@@ -1,29 +1,12 @@
 -- `pieces::times::times_len` meets its contract: @, then offset. Assumes nothing.
-use Prim.Native.Nat.{min}
-use Rattle.pieces.proofs.PieceLaws.{sum-three, bracketed-len, suffix-len, run-suffix}
 use Rattle.pieces.specs.Times.{spacedAt, spacedOffset}
-use Rattle.text.proofs.WriteLaws.{wrote-nothing, wrote-as, run-two, run-three}
-use Rattle.text.specs.Answers.{atOf, shiftOf, timesOf}
-use Rattle.text.specs.Layout.{displayRange}
-use Rattle.text.specs.Display.{optional, displaySelector, displayTimes}
-use Rattle.util.specs.Time.{displayAt, displayOffset}
-use Rattle.util.specs.Duration.{displayDuration}
-use Rattle.util.specs.Escape.{quote}
-use Rattle.reader.specs.Answers.{selectorOn}
-use Rattle.records.specs.Answers.{stepOf, atModifierOf, offsetOf}
-use Rattle.page.specs.Bytes.{bytes}
-use Rattle.base.specs.Splice.{fits, next, end}
-use lib.ListN.{length, length-append}
-use mathlib.Core.List.{[], _∷_, _++_, append-assoc}
-use mathlib.Core.Path.{_≡_, refl, sym, ap, _∙_}
+use Rattle.text.specs.Answers.{atOf, shiftOf}
+use Rattle.text.specs.Display.{optional}
+use lib.ListN.{length-append}
 use native.Mathlib.Omega.{arith}
 use borrow.Author.Needs.{needs}
 use Rattle.pieces.proofs.times.times_len.Statement.{statement}
 use Rattle.pieces.proofs.times.times_len.Tie as tie
-use Rattle.pieces.proofs.times.times_len.Reads as reads
-use Rattle.pieces.proofs.times.times_len.Lts as lts
-use Rattle.pieces.proofs.times.at_len.Reads as at-len-reads
-use Rattle.pieces.proofs.times.shift_len.Reads as shift-len-reads
 
 at-len-requires : tie.Need-at-len-requires
 at-len-requires c κs = search needs

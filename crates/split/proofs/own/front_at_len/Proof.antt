@@ -1,23 +1,16 @@
 -- `split::own::front_at_len` meets its contract: by the form. Assumes nothing.
-use Rattle.split.proofs.SplitLaws.{led, infixed-len, closed-len}
 use Rattle.view.proofs.ViewLaws.{layout-formed}
 use Rattle.view.specs.View.{layoutOn}
 use Rattle.text.proofs.CappedLaws.{len-as, len-plus}
-use Rattle.text.specs.Layout.{Layout, head, operator, suffix, indentIf, frontAt, betweenAt, rearAt}
+use Rattle.text.specs.Layout.{Layout, head, indentIf, frontAt}
 use Rattle.page.specs.Bytes.{bytes}
 use lib.ListN.{length}
-use mathlib.Core.List.{[], _∷_, _++_}
-use mathlib.Core.Bool.{true}
-use mathlib.Core.Path.{_≡_, sym, ap, _∙_}
+use mathlib.Core.List.{_++_}
+use mathlib.Core.Path.{sym, ap, _∙_}
 use native.Mathlib.Omega.{arith}
 use borrow.Author.Needs.{needs}
 use Rattle.split.proofs.own.front_at_len.Statement.{statement}
 use Rattle.split.proofs.own.front_at_len.Tie as tie
-use Rattle.split.proofs.own.front_at_len.Reads as reads
-use Rattle.split.proofs.own.front_at_len.Lts as lts
-use Rattle.split.proofs.own.led_len.Reads as led-len-reads
-use Rattle.util.proofs.capped_add.Reads as capped-add-reads
-use Rattle.view.proofs.form_of.Reads as form-of-reads
 
 form-of-requires : tie.Need-form-of-requires
 form-of-requires c κs = search needs

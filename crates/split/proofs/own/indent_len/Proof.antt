@@ -4,9 +4,6 @@ use native.Mathlib.Omega.{arith}
 use borrow.Author.Needs.{needs}
 use Rattle.split.proofs.own.indent_len.Statement.{statement}
 use Rattle.split.proofs.own.indent_len.Tie as tie
-use Rattle.split.proofs.own.indent_len.Reads as reads
-use Rattle.split.proofs.own.indent_len.Lts as lts
-use Rattle.util.proofs.capped_add.Reads as capped-add-reads
 
 mul-capped-add : tie.Need-mul-capped-add
 mul-capped-add c = omega (arith, c .before .pre)

@@ -1,22 +1,10 @@
 -- `split::own::led_len` meets its contract. Assumes nothing.
-use Rattle.split.proofs.SplitLaws.{led, infixed-len, closed-len}
-use Rattle.view.proofs.ViewLaws.{layout-formed}
+use Rattle.split.proofs.SplitLaws.{led}
 use Rattle.view.specs.View.{layoutOn}
-use Rattle.text.proofs.CappedLaws.{len-as, len-plus}
-use Rattle.text.specs.Layout.{Layout, head, operator, suffix, indentIf, frontAt, betweenAt, rearAt}
-use Rattle.page.specs.Bytes.{bytes}
-use lib.ListN.{length}
-use mathlib.Core.List.{[], _∷_, _++_}
-use mathlib.Core.Bool.{true}
-use mathlib.Core.Path.{_≡_, sym, ap, _∙_}
+use Rattle.text.specs.Layout.{head, indentIf}
 use native.Mathlib.Omega.{arith}
-use borrow.Author.Needs.{needs}
 use Rattle.split.proofs.own.led_len.Statement.{statement}
 use Rattle.split.proofs.own.led_len.Tie as tie
-use Rattle.split.proofs.own.led_len.Reads as reads
-use Rattle.split.proofs.own.led_len.Lts as lts
-use Rattle.pieces.proofs.head_len.Reads as head-len-reads
-use Rattle.split.proofs.own.indent_len.Reads as indent-len-reads
 
 indent-len-requires : tie.Need-indent-len-requires
 indent-len-requires c κs = c .before .pre .1

@@ -1,26 +1,14 @@
 -- `split::own::put_between_at` meets its contract. Assumes nothing.
-use Rattle.split.proofs.SplitLaws.{run-infixed, run-closed}
+use Rattle.split.proofs.SplitLaws.{run-infixed}
 use Rattle.view.proofs.ViewLaws.{layout-formed}
 use Rattle.view.specs.View.{layoutOn}
-use Rattle.text.proofs.WriteLaws.{wrote-nothing, wrote-as, room-as, run-two}
-use Rattle.text.specs.Layout.{Layout, head, operator, suffix, indentIf, frontAt, betweenAt, rearAt}
-use Rattle.page.specs.Bytes.{bytes}
+use Rattle.text.proofs.WriteLaws.{wrote-nothing, wrote-as, room-as}
+use Rattle.text.specs.Layout.{operator, betweenAt}
 use Rattle.base.specs.Splice.{fits, next, end}
-use lib.ListN.{length}
-use mathlib.Core.List.{[], _∷_, _++_}
-use mathlib.Core.Bool.{true}
-use mathlib.Core.Path.{_≡_, refl, sym, ap, _∙_}
-use native.Mathlib.Omega.{arith}
+use mathlib.Core.Path.{sym, ap, _∙_}
 use borrow.Author.Needs.{needs}
 use Rattle.split.proofs.own.put_between_at.Statement.{statement}
 use Rattle.split.proofs.own.put_between_at.Tie as tie
-use Rattle.split.proofs.own.put_between_at.Reads as reads
-use Rattle.split.proofs.own.put_between_at.Lts as lts
-use Rattle.page.proofs.put_byte.Reads as put-byte-reads
-use Rattle.page.proofs.put_bytes.Reads as put-bytes-reads
-use Rattle.pieces.proofs.put_operator.Reads as put-operator-reads
-use Rattle.split.proofs.own.put_spaces.Reads as put-spaces-reads
-use Rattle.view.proofs.form_of.Reads as form-of-reads
 
 form-of-requires : tie.Need-form-of-requires
 form-of-requires c κs = search needs

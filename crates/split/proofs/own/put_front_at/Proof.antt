@@ -1,24 +1,15 @@
 -- `split::own::put_front_at` meets its contract. Assumes nothing.
-use Rattle.split.proofs.SplitLaws.{run-infixed, run-closed}
 use Rattle.view.proofs.ViewLaws.{layout-formed}
 use Rattle.view.specs.View.{layoutOn}
 use Rattle.text.proofs.WriteLaws.{wrote-nothing, wrote-as, room-as, run-two}
-use Rattle.text.specs.Layout.{Layout, head, operator, suffix, indentIf, frontAt, betweenAt, rearAt}
+use Rattle.text.specs.Layout.{Layout, head, indentIf, frontAt}
 use Rattle.page.specs.Bytes.{bytes}
 use Rattle.base.specs.Splice.{fits, next, end}
-use lib.ListN.{length}
-use mathlib.Core.List.{[], _∷_, _++_}
-use mathlib.Core.Bool.{true}
-use mathlib.Core.Path.{_≡_, refl, sym, ap, _∙_}
-use native.Mathlib.Omega.{arith}
+use mathlib.Core.List.{_++_}
+use mathlib.Core.Path.{sym, ap, _∙_}
 use borrow.Author.Needs.{needs}
 use Rattle.split.proofs.own.put_front_at.Statement.{statement}
 use Rattle.split.proofs.own.put_front_at.Tie as tie
-use Rattle.split.proofs.own.put_front_at.Reads as reads
-use Rattle.split.proofs.own.put_front_at.Lts as lts
-use Rattle.page.proofs.put_bytes.Reads as put-bytes-reads
-use Rattle.split.proofs.own.put_led.Reads as put-led-reads
-use Rattle.view.proofs.form_of.Reads as form-of-reads
 
 form-of-requires : tie.Need-form-of-requires
 form-of-requires c κs = search needs

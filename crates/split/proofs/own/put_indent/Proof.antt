@@ -1,13 +1,8 @@
 -- `split::own::put_indent` meets its contract. Assumes nothing.
 use Rattle.text.proofs.WriteLaws.{wrote-nothing}
-use native.Mathlib.Omega.{arith}
-use mathlib.Core.Path.{_≡_, refl}
-use borrow.Author.Needs.{needs}
+use mathlib.Core.Path.{refl}
 use Rattle.split.proofs.own.put_indent.Statement.{statement}
 use Rattle.split.proofs.own.put_indent.Tie as tie
-use Rattle.split.proofs.own.put_indent.Reads as reads
-use Rattle.split.proofs.own.put_indent.Lts as lts
-use Rattle.split.proofs.own.put_spaces.Reads as put-spaces-reads
 
 put-spaces-requires : tie.Need-put-spaces-requires
 put-spaces-requires c κs = rw (c .before .if1 .taken) at (c .before .before .before .pre)

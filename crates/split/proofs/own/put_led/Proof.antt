@@ -1,23 +1,11 @@
 -- `split::own::put_led` meets its contract. Assumes nothing.
-use Rattle.split.proofs.SplitLaws.{run-infixed, run-closed}
-use Rattle.view.proofs.ViewLaws.{layout-formed}
 use Rattle.view.specs.View.{layoutOn}
-use Rattle.text.proofs.WriteLaws.{wrote-nothing, wrote-as, room-as, run-two}
-use Rattle.text.specs.Layout.{Layout, head, operator, suffix, indentIf, frontAt, betweenAt, rearAt}
-use Rattle.page.specs.Bytes.{bytes}
+use Rattle.text.proofs.WriteLaws.{run-two}
+use Rattle.text.specs.Layout.{head, indentIf}
 use Rattle.base.specs.Splice.{fits, next, end}
-use lib.ListN.{length}
-use mathlib.Core.List.{[], _∷_, _++_}
-use mathlib.Core.Bool.{true}
-use mathlib.Core.Path.{_≡_, refl, sym, ap, _∙_}
-use native.Mathlib.Omega.{arith}
-use borrow.Author.Needs.{needs}
+use mathlib.Core.Path.{refl, _∙_}
 use Rattle.split.proofs.own.put_led.Statement.{statement}
 use Rattle.split.proofs.own.put_led.Tie as tie
-use Rattle.split.proofs.own.put_led.Reads as reads
-use Rattle.split.proofs.own.put_led.Lts as lts
-use Rattle.pieces.proofs.put_head.Reads as put-head-reads
-use Rattle.split.proofs.own.put_indent.Reads as put-indent-reads
 
 put-indent-requires : tie.Need-put-indent-requires
 put-indent-requires c κs = fits (run-two (indentIf (c .before .before .before .args .mark) (c .before .before .before .args .level)) (head (layoutOn (c .before .before .before .args .page .now) (c .before .before .before .args .own))) (c .before .before .before .args .out .now) (c .before .before .before .args .at) refl (c .before .before .before .pre .1))

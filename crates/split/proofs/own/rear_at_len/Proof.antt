@@ -1,24 +1,14 @@
 -- `split::own::rear_at_len` meets its contract: by the form. Assumes nothing.
-use Rattle.split.proofs.SplitLaws.{led, infixed-len, closed-len}
+use Rattle.split.proofs.SplitLaws.{closed-len}
 use Rattle.view.proofs.ViewLaws.{layout-formed}
-use Rattle.view.specs.View.{layoutOn}
-use Rattle.text.proofs.CappedLaws.{len-as, len-plus}
-use Rattle.text.specs.Layout.{Layout, head, operator, suffix, indentIf, frontAt, betweenAt, rearAt}
-use Rattle.page.specs.Bytes.{bytes}
+use Rattle.text.proofs.CappedLaws.{len-as}
+use Rattle.text.specs.Layout.{Layout, rearAt}
 use lib.ListN.{length}
-use mathlib.Core.List.{[], _∷_, _++_}
-use mathlib.Core.Bool.{true}
-use mathlib.Core.Path.{_≡_, sym, ap, _∙_}
+use mathlib.Core.Path.{sym, ap, _∙_}
 use native.Mathlib.Omega.{arith}
 use borrow.Author.Needs.{needs}
 use Rattle.split.proofs.own.rear_at_len.Statement.{statement}
 use Rattle.split.proofs.own.rear_at_len.Tie as tie
-use Rattle.split.proofs.own.rear_at_len.Reads as reads
-use Rattle.split.proofs.own.rear_at_len.Lts as lts
-use Rattle.split.proofs.own.indent_len.Reads as indent-len-reads
-use Rattle.pieces.proofs.suffix_len.Reads as suffix-len-reads
-use Rattle.util.proofs.capped_add.Reads as capped-add-reads
-use Rattle.view.proofs.form_of.Reads as form-of-reads
 
 form-of-requires : tie.Need-form-of-requires
 form-of-requires c κs = search needs

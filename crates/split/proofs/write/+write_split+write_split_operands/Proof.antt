@@ -13,18 +13,18 @@ use Rattle.base.specs.Splice.{fits, next, next-as, end}
 use lib.ListN.{length}
 use Prim.Native.Nat.{_+_, _-_}
 use mathlib.Core.Bool.{true}
-use mathlib.Core.Path.{_≡_, refl, sym, ap, _∙_}
+use mathlib.Core.Path.{refl, sym, ap, _∙_}
 use native.Mathlib.Omega.{arith}
 use borrow.Author.Needs.{needs}
 use Prim.Native.Nat.{ℕ, _<_}
 use borrow.Fn.Kinds.{In}
 use borrow.Fn.PlainCycle.{Measures, is, falls, and}
-use Rattle.split.proofs.write_split.Reads as write-split
-use Rattle.split.proofs.write_split.Kinds as write-split-kinds
-use Rattle.split.proofs.+write_split+write_split_operands.Lts-write_split as write-split-lts
-use Rattle.split.proofs.write_split_operands.Reads as write-split-operands
-use Rattle.split.proofs.write_split_operands.Kinds as write-split-operands-kinds
-use Rattle.split.proofs.+write_split+write_split_operands.Lts-write_split_operands as write-split-operands-lts
+use Rattle.split.proofs.write.write_split.Reads as write-split
+use Rattle.split.proofs.write.write_split.Kinds as write-split-kinds
+use Rattle.split.proofs.write.+write_split+write_split_operands.Lts-write_split as write-split-lts
+use Rattle.split.proofs.write.write_split_operands.Reads as write-split-operands
+use Rattle.split.proofs.write.write_split_operands.Kinds as write-split-operands-kinds
+use Rattle.split.proofs.write.+write_split+write_split_operands.Lts-write_split_operands as write-split-operands-lts
 use Rattle.split.proofs.inner_level.Reads as inner-level-reads
 use Rattle.split.proofs.inner_mark.Reads as inner-mark-reads
 use Rattle.split.proofs.own.put_between_at.Reads as put-between-at-reads
@@ -35,8 +35,8 @@ use Rattle.canonical.proofs.text_len.Reads as text-len-reads
 use Rattle.canonical.proofs.write_text.Reads as write-text-reads
 use Rattle.view.proofs.is_minus.Reads as is-minus-reads
 use Rattle.view.proofs.view_at.Reads as view-at-reads
-use Rattle.split.proofs.+write_split+write_split_operands.{statement}
-use Rattle.split.proofs.+write_split+write_split_operands.Tie.{close}
+use Rattle.split.proofs.write.+write_split+write_split_operands.{statement}
+use Rattle.split.proofs.write.+write_split+write_split_operands.Tie.{close}
 
 abbrev μ-write-split : Measures 4 write-split-kinds.ps ℕ
 μ-write-split κs a = a .1 .1 .1 .0 + a .1 .1 .1 .0 + 1

@@ -8,18 +8,17 @@ use Rattle.text.proofs.OperandLaws.{fewer}
 use Rattle.text.specs.Layout.{marked}
 use Prim.Native.Nat.{_+_, _-_}
 use mathlib.Core.Bool.{true}
-use mathlib.Core.Path.{_≡_, sym, ap, _∙_}
 use native.Mathlib.Omega.{arith}
 use borrow.Author.Needs.{needs}
 use Prim.Native.Nat.{ℕ, _<_}
 use borrow.Fn.Kinds.{In}
 use borrow.Fn.PlainCycle.{Measures, is, falls, and}
-use Rattle.split.proofs.split_len.Reads as split-len
-use Rattle.split.proofs.split_len.Kinds as split-len-kinds
-use Rattle.split.proofs.+split_len+split_operands_len.Lts-split_len as split-len-lts
-use Rattle.split.proofs.split_operands_len.Reads as split-operands-len
-use Rattle.split.proofs.split_operands_len.Kinds as split-operands-len-kinds
-use Rattle.split.proofs.+split_len+split_operands_len.Lts-split_operands_len as split-operands-len-lts
+use Rattle.split.proofs.length.split_len.Reads as split-len
+use Rattle.split.proofs.length.split_len.Kinds as split-len-kinds
+use Rattle.split.proofs.length.+split_len+split_operands_len.Lts-split_len as split-len-lts
+use Rattle.split.proofs.length.split_operands_len.Reads as split-operands-len
+use Rattle.split.proofs.length.split_operands_len.Kinds as split-operands-len-kinds
+use Rattle.split.proofs.length.+split_len+split_operands_len.Lts-split_operands_len as split-operands-len-lts
 use Rattle.split.proofs.own.between_at_len.Reads as between-at-len-reads
 use Rattle.split.proofs.own.front_at_len.Reads as front-at-len-reads
 use Rattle.split.proofs.own.indent_len.Reads as indent-len-reads
@@ -30,8 +29,8 @@ use Rattle.canonical.proofs.text_len.Reads as text-len-reads
 use Rattle.util.proofs.capped.capped_add.Reads as capped-add-reads
 use Rattle.view.proofs.is_minus.Reads as is-minus-reads
 use Rattle.view.proofs.view_at.Reads as view-at-reads
-use Rattle.split.proofs.+split_len+split_operands_len.{statement}
-use Rattle.split.proofs.+split_len+split_operands_len.Tie.{close}
+use Rattle.split.proofs.length.+split_len+split_operands_len.{statement}
+use Rattle.split.proofs.length.+split_len+split_operands_len.Tie.{close}
 
 abbrev μ-split-len : Measures 3 split-len-kinds.ps ℕ
 μ-split-len κs a = a .1 .1 .1 .0 + a .1 .1 .1 .0 + 1

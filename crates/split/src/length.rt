@@ -1,0 +1,114 @@
+// The length of split text, up to a cap.
+use crate::inner_level;
+use crate::inner_mark;
+use crate::own::between_at_len;
+use crate::own::front_at_len;
+use crate::own::indent_len;
+use crate::own::rear_at_len;
+use canonical::text_len;
+ghost use mathlib.Core.Path.{_≡_};
+ghost use mathlib.Core.Bool.{true};
+ghost use Prim.Native.Nat.{suc, _+_, _-_, _≤_, min};
+ghost use lib.ListN.{length};
+ghost use Rattle.records.specs.Stack.{operandsOf};
+ghost use Rattle.ast.specs.Tables.{Tables, stackAt, treeAt};
+ghost use Rattle.text.specs.Layout.{marked, joined};
+ghost use Rattle.text.specs.Measured.{Measured};
+ghost use Rattle.view.specs.View.{Unvalued};
+
+// The length of the split text of the tree that record i ends, or `cap` where it is more.
+pub fn split_len(
+    page: &[u8],
+    starts: &[u16],
+    firsts: &[u8],
+    i: usize,
+    unvalued: bool,
+    mark: bool,
+    level: usize,
+    cap: usize,
+) -> usize
+    requires { ⌜ Tables (now page) (now starts) (now firsts) (suc i) ⌝ }
+    requires { ⌜ Unvalued (now page) i unvalued ⌝ }
+    requires { ⌜ level + i ≤ 256 ⌝ }
+    ensures { λ r. ⌜ r ≡ min (length (marked mark level (treeAt (now (page .entry)) i))) cap ⌝ }
+{
+    if cap == 0 {
+        return 0;
+    }
+    let line = text_len(page, starts, firsts, i, unvalued, 101);
+    if line <= 100 {
+        let lead = indent_len(mark, level, cap);
+        return util::capped_add(lead, line, cap);
+    }
+    let v = view::view_at(page, starts, i, unvalued);
+    let own = v.own;
+    let end = v.end;
+    let count = v.count;
+    let front = front_at_len(page, own, mark, level, cap);
+    let gap = between_at_len(page, own, level, cap - front);
+    let minus = view::is_minus(own);
+    let first = inner_mark(page, own, mark);
+    let deeper = inner_level(page, own, level);
+    let inner = split_operands_len(
+        page,
+        starts,
+        firsts,
+        end,
+        count,
+        minus,
+        first,
+        deeper,
+        gap,
+        cap - front,
+    );
+    let rear = rear_at_len(page, own, level, cap - front - inner);
+    front + inner + rear
+}
+
+// The length of the split texts of the newest expressions behind the first `end` records, `count` of them, with so many bytes between
+// each two, or `cap` where it is more. `unvalued` is said of the last one, the mark of the first.
+fn split_operands_len(
+    page: &[u8],
+    starts: &[u16],
+    firsts: &[u8],
+    end: usize,
+    count: usize,
+    unvalued: bool,
+    mark: bool,
+    level: usize,
+    gap: usize,
+    cap: usize,
+) -> usize
+    requires { ⌜ Tables (now page) (now starts) (now firsts) end ⌝ }
+    requires { ⌜ count ≤ length (stackAt (now page) end) ⌝ }
+    requires { ⌜ Unvalued (now page) (end - 1) unvalued ⌝ }
+    requires { ⌜ level + end ≤ 257 ⌝ }
+    ensures { λ r. ⌜ Measured (λ separator. joined separator (marked mark level) (marked true level) (operandsOf count (stackAt (now (page .entry)) end))) gap cap r ⌝ }
+{
+    if count == 0 {
+        return 0;
+    }
+    let root = end - 1;
+    if count == 1 {
+        return split_len(page, starts, firsts, root, unvalued, mark, level, cap);
+    }
+    let last = split_len(page, starts, firsts, root, unvalued, true, level, cap);
+    let left = cap - last;
+    if left <= gap {
+        return cap;
+    }
+    let first = firsts[root] as usize;
+    let rest = split_operands_len(
+        page,
+        starts,
+        firsts,
+        first,
+        count - 1,
+        false,
+        mark,
+        level,
+        gap,
+        left - gap,
+    );
+    last + gap + rest
+}
