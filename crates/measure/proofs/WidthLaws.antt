@@ -1,10 +1,10 @@
 -- A width is a length up to 101, so that a length up to any smaller cap is that of the width; and a table stays right when a right width is
 -- put into it. Assumes nothing.
-use Prim.Native.Nat.{ℕ, _+_, _≤_, _<_, min}
-use mathlib.Core.Path.{_≡_, sym, _∙_}
+use Prim.Native.Nat.{ℕ, zero, suc, _+_, _≤_, _<_, min}
+use mathlib.Core.Path.{_≡_, refl, sym, _∙_}
 use mathlib.Core.List.{List}
 use native.Mathlib.Omega.{arith}
-use lib.ListN.{length, getD, set, length-set}
+use lib.ListN.{length, getD, set, replicate, length-set}
 use lib.Seq.{getD-set-same, getD-set-other}
 use Rattle.base.specs.Cases.{by-eq}
 use Rattle.ast.specs.Tables.{treeAt}
@@ -24,3 +24,15 @@ known-set {page} {widths} i w known h e = record {
       (λ same. rw same (getD-set-same widths i w 0 (rw (known .size) h) ∙ e))
       (λ other. getD-set-other widths i j w 0 other ∙ known .right j (λ z. set (getD-set-other widths i j w 0 other ∙ z)));
 }
+
+abbrev unmeasured : ℕ → List ℕ
+unmeasured n = replicate n 0
+
+no-width : (n i : ℕ) → getD (unmeasured n) i 0 ≡ 0
+no-width zero i = refl
+no-width (suc n) zero = refl
+no-width (suc n) (suc i) = no-width n i
+
+-- before anything is measured
+pub known-none : (page : List ℕ) → Known page (unmeasured 256)
+known-none page = record { size = refl; right = λ i set. absurd (set (no-width 256 i)) }

@@ -37,7 +37,7 @@ pub fn width(
 }
 
 // Measures the tree that record i ends and all trees below it, puts their widths into the table, and returns its own.
-pub fn measure(
+fn measure(
     page: &[u8],
     starts: &[u16],
     firsts: &[u8],
@@ -133,4 +133,14 @@ fn measure_operands(
         widths,
     );
     last + gap + rest
+}
+
+// The widths of the tree that record i ends and of all trees below it.
+pub fn widths_of(page: &[u8], starts: &[u16], firsts: &[u8], i: usize) -> [u8; 256]
+    requires { ⌜ Tables (now page) (now starts) (now firsts) (suc i) ⌝ }
+    ensures { λ r. ⌜ Known (now (page .entry)) r ⌝ }
+{
+    let mut widths = [0u8; 256];
+    measure(page, starts, firsts, i, false, &mut widths);
+    widths
 }

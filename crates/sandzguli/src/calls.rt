@@ -3,6 +3,9 @@ use checking::Outcome;
 use checking::walk::Walked;
 use checking::walk::walk;
 use judge::Refusal;
+use measure::widths_of;
+use split::prettify_len;
+use split::put_prettify;
 ghost use Rattle.checking.specs.Answers.{outcomeMeant};
 ghost use Rattle.sandzguli.specs.Calls.{copy, canonicalText, splitText, Does};
 
@@ -56,19 +59,10 @@ pub fn split(page: &[u8], out: &mut [u8]) -> Outcome
     match walked {
         Walked::Accepted(kind, n) => {
             let room = out.len();
-            let size = split::split_len(page, &starts, &firsts, n - 1, false, true, 0, room + 1);
+            let widths = widths_of(page, &starts, &firsts, n - 1);
+            let size = prettify_len(page, &starts, &firsts, &widths, n - 1, room + 1);
             if size <= room {
-                let written = split::write_split(
-                    page,
-                    &starts,
-                    &firsts,
-                    n - 1,
-                    false,
-                    true,
-                    0,
-                    out,
-                    0,
-                );
+                let written = put_prettify(page, &starts, &firsts, &widths, n - 1, out);
                 return Outcome::Accepted(kind, written);
             }
             Outcome::Refused(Refusal::OutputTooShort, n)

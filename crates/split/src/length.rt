@@ -5,7 +5,7 @@ use crate::own::between_at_len;
 use crate::own::front_at_len;
 use crate::own::indent_len;
 use crate::own::rear_at_len;
-use canonical::text_len;
+use measure::width;
 ghost use mathlib.Core.Path.{_≡_};
 ghost use mathlib.Core.Bool.{true};
 ghost use Prim.Native.Nat.{suc, _+_, _-_, _≤_, min};
@@ -14,6 +14,7 @@ ghost use Rattle.records.specs.Stack.{operandsOf};
 ghost use Rattle.ast.specs.Tables.{Tables, stackAt, treeAt};
 ghost use Rattle.text.specs.Layout.{marked, joined};
 ghost use Rattle.text.specs.Measured.{Measured};
+ghost use Rattle.measure.specs.Known.{Known};
 ghost use Rattle.view.specs.View.{Unvalued};
 
 // The length of the split text of the tree that record i ends, or `cap` where it is more.
@@ -21,6 +22,7 @@ pub fn split_len(
     page: &[u8],
     starts: &[u16],
     firsts: &[u8],
+    widths: &[u8],
     i: usize,
     unvalued: bool,
     mark: bool,
@@ -28,6 +30,7 @@ pub fn split_len(
     cap: usize,
 ) -> usize
     requires { ⌜ Tables (now page) (now starts) (now firsts) (suc i) ⌝ }
+    requires { ⌜ Known (now page) (now widths) ⌝ }
     requires { ⌜ Unvalued (now page) i unvalued ⌝ }
     requires { ⌜ level + i ≤ 256 ⌝ }
     ensures { λ r. ⌜ r ≡ min (length (marked mark level (treeAt (now (page .entry)) i))) cap ⌝ }
@@ -35,7 +38,7 @@ pub fn split_len(
     if cap == 0 {
         return 0;
     }
-    let line = text_len(page, starts, firsts, i, unvalued, 101);
+    let line = width(page, starts, firsts, widths, i, unvalued);
     if line <= 100 {
         let lead = indent_len(mark, level, cap);
         return util::capped_add(lead, line, cap);
@@ -53,6 +56,7 @@ pub fn split_len(
         page,
         starts,
         firsts,
+        widths,
         end,
         count,
         minus,
@@ -71,6 +75,7 @@ fn split_operands_len(
     page: &[u8],
     starts: &[u16],
     firsts: &[u8],
+    widths: &[u8],
     end: usize,
     count: usize,
     unvalued: bool,
@@ -80,6 +85,7 @@ fn split_operands_len(
     cap: usize,
 ) -> usize
     requires { ⌜ Tables (now page) (now starts) (now firsts) end ⌝ }
+    requires { ⌜ Known (now page) (now widths) ⌝ }
     requires { ⌜ count ≤ length (stackAt (now page) end) ⌝ }
     requires { ⌜ Unvalued (now page) (end - 1) unvalued ⌝ }
     requires { ⌜ level + end ≤ 257 ⌝ }
@@ -90,9 +96,29 @@ fn split_operands_len(
     }
     let root = end - 1;
     if count == 1 {
-        return split_len(page, starts, firsts, root, unvalued, mark, level, cap);
+        return split_len(
+            page,
+            starts,
+            firsts,
+            widths,
+            root,
+            unvalued,
+            mark,
+            level,
+            cap,
+        );
     }
-    let last = split_len(page, starts, firsts, root, unvalued, true, level, cap);
+    let last = split_len(
+        page,
+        starts,
+        firsts,
+        widths,
+        root,
+        unvalued,
+        true,
+        level,
+        cap,
+    );
     let left = cap - last;
     if left <= gap {
         return cap;
@@ -102,6 +128,7 @@ fn split_operands_len(
         page,
         starts,
         firsts,
+        widths,
         first,
         count - 1,
         false,

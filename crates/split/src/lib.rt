@@ -2,10 +2,11 @@
 // says whether the first line is indented: it is not behind the minus of a unary expression.
 pub mod length;
 pub mod own;
+pub mod whole;
 pub mod write;
 
-pub use length::split_len;
-pub use write::write_split;
+pub use whole::prettify_len;
+pub use whole::put_prettify;
 ghost use mathlib.Core.Path.{_≡_};
 ghost use Prim.Native.Nat.{suc, _≤_};
 ghost use Rattle.text.specs.Layout.{innerMark, innerLevel};

@@ -5,14 +5,15 @@ use crate::own::put_between_at;
 use crate::own::put_front_at;
 use crate::own::put_indent;
 use crate::own::put_rear_at;
-use canonical::text_len;
 use canonical::write_text;
+use measure::width;
 ghost use mathlib.Core.Bool.{true};
 ghost use Prim.Native.Nat.{suc, _+_, _-_, _≤_};
 ghost use lib.ListN.{length};
 ghost use Rattle.base.specs.Splice.{Wrote};
 ghost use Rattle.ast.specs.Tables.{Tables, stackAt, treeAt};
 ghost use Rattle.text.specs.Layout.{marked};
+ghost use Rattle.measure.specs.Known.{Known};
 ghost use Rattle.view.specs.View.{OwnLies, Unvalued};
 ghost use Rattle.split.specs.Operands.{Operands};
 
@@ -21,6 +22,7 @@ pub fn write_split(
     page: &[u8],
     starts: &[u16],
     firsts: &[u8],
+    widths: &[u8],
     i: usize,
     unvalued: bool,
     mark: bool,
@@ -29,12 +31,13 @@ pub fn write_split(
     at: usize,
 ) -> usize
     requires { ⌜ Tables (now page) (now starts) (now firsts) (suc i) ⌝ }
+    requires { ⌜ Known (now page) (now widths) ⌝ }
     requires { ⌜ Unvalued (now page) i unvalued ⌝ }
     requires { ⌜ level + i ≤ 256 ⌝ }
     requires { ⌜ at + length (marked mark level (treeAt (now page) i)) ≤ length (now out) ⌝ }
     ensures { λ r. ⌜ Wrote (now (out .entry)) (now (out .exit)) at (marked mark level (treeAt (now (page .entry)) i)) r ⌝ }
 {
-    let line = text_len(page, starts, firsts, i, unvalued, 101);
+    let line = width(page, starts, firsts, widths, i, unvalued);
     if line <= 100 {
         let text = put_indent(mark, level, out, at);
         return write_text(page, starts, firsts, i, unvalued, out, text);
@@ -49,6 +52,7 @@ pub fn write_split(
         page,
         starts,
         firsts,
+        widths,
         own,
         end,
         count,
@@ -67,6 +71,7 @@ fn write_split_operands(
     page: &[u8],
     starts: &[u16],
     firsts: &[u8],
+    widths: &[u8],
     own: view::Own,
     end: usize,
     count: usize,
@@ -77,6 +82,7 @@ fn write_split_operands(
     at: usize,
 ) -> usize
     requires { ⌜ Tables (now page) (now starts) (now firsts) end ⌝ }
+    requires { ⌜ Known (now page) (now widths) ⌝ }
     requires { ⌜ OwnLies (now page) own ⌝ }
     requires { ⌜ count ≤ length (stackAt (now page) end) ⌝ }
     requires { ⌜ Unvalued (now page) (end - 1) unvalued ⌝ }
@@ -91,13 +97,25 @@ fn write_split_operands(
     let deeper = inner_level(page, own, level);
     if count == 1 {
         let first = inner_mark(page, own, mark);
-        return write_split(page, starts, firsts, root, unvalued, first, deeper, out, at);
+        return write_split(
+            page,
+            starts,
+            firsts,
+            widths,
+            root,
+            unvalued,
+            first,
+            deeper,
+            out,
+            at,
+        );
     }
     let first = firsts[root] as usize;
     let gap = write_split_operands(
         page,
         starts,
         firsts,
+        widths,
         own,
         first,
         count - 1,
@@ -112,6 +130,7 @@ fn write_split_operands(
         page,
         starts,
         firsts,
+        widths,
         root,
         unvalued,
         true,

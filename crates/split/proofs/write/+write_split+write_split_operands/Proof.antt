@@ -31,159 +31,159 @@ use Rattle.split.proofs.own.put_between_at.Reads as put-between-at-read
 use Rattle.split.proofs.own.put_front_at.Reads as put-front-at-reads
 use Rattle.split.proofs.own.put_indent.Reads as put-indent-reads
 use Rattle.split.proofs.own.put_rear_at.Reads as put-rear-at-reads
-use Rattle.canonical.proofs.text_len.Reads as text-len-reads
+use Rattle.measure.proofs.width.Reads as width-reads
 use Rattle.canonical.proofs.write_text.Reads as write-text-reads
 use Rattle.view.proofs.is_minus.Reads as is-minus-reads
 use Rattle.view.proofs.view_at.Reads as view-at-reads
 use Rattle.split.proofs.write.+write_split+write_split_operands.{statement}
 use Rattle.split.proofs.write.+write_split+write_split_operands.Tie.{close}
 
-abbrev μ-write-split : Measures 4 write-split-kinds.ps ℕ
-μ-write-split κs a = a .1 .1 .1 .0 + a .1 .1 .1 .0 + 1
+abbrev μ-write-split : Measures 5 write-split-kinds.ps ℕ
+μ-write-split κs a = a .1 .1 .1 .1 .0 + a .1 .1 .1 .1 .0 + 1
 
-abbrev μ-write-split-operands : Measures 4 write-split-operands-kinds.ps ℕ
-μ-write-split-operands κs a = a .1 .1 .1 .1 .0 + a .1 .1 .1 .1 .0
+abbrev μ-write-split-operands : Measures 5 write-split-operands-kinds.ps ℕ
+μ-write-split-operands κs a = a .1 .1 .1 .1 .1 .0 + a .1 .1 .1 .1 .1 .0
 
-abbrev write-split-at : ℕ → In 4 write-split-kinds.ps
+abbrev write-split-at : ℕ → In 5 write-split-kinds.ps
 write-split-at t =
-    and 4 write-split-kinds.ps (is 4 write-split-kinds.ps μ-write-split t) write-split.Pre
+    and 5 write-split-kinds.ps (is 5 write-split-kinds.ps μ-write-split t) write-split.Pre
 
-abbrev write-split-below : ℕ → In 4 write-split-kinds.ps
+abbrev write-split-below : ℕ → In 5 write-split-kinds.ps
 write-split-below t =
-    and 4 write-split-kinds.ps (falls 4 write-split-kinds.ps _<_ μ-write-split t) write-split.Pre
+    and 5 write-split-kinds.ps (falls 5 write-split-kinds.ps _<_ μ-write-split t) write-split.Pre
 
-abbrev write-split-operands-at : ℕ → In 4 write-split-operands-kinds.ps
+abbrev write-split-operands-at : ℕ → In 5 write-split-operands-kinds.ps
 write-split-operands-at t =
     and
-    4
+    5
     write-split-operands-kinds.ps
-    (is 4 write-split-operands-kinds.ps μ-write-split-operands t)
+    (is 5 write-split-operands-kinds.ps μ-write-split-operands t)
     write-split-operands.Pre
 
-abbrev write-split-operands-below : ℕ → In 4 write-split-operands-kinds.ps
+abbrev write-split-operands-below : ℕ → In 5 write-split-operands-kinds.ps
 write-split-operands-below t =
     and
-    4
+    5
     write-split-operands-kinds.ps
-    (falls 4 write-split-operands-kinds.ps _<_ μ-write-split-operands t)
+    (falls 5 write-split-operands-kinds.ps _<_ μ-write-split-operands t)
     write-split-operands.Pre
 
 abbrev write-split-claims : ℕ → write-split-lts.Claims
-write-split-claims t = (text-len-reads.Asked, text-len-reads.Learnt, put-indent-reads.Asked, put-indent-reads.Learnt, write-text-reads.Asked, write-text-reads.Learnt, view-at-reads.Asked, view-at-reads.Learnt, is-minus-reads.Asked, is-minus-reads.Learnt, put-front-at-reads.Asked, put-front-at-reads.Learnt, write-split-operands-below t, write-split-operands.Post, put-rear-at-reads.Asked, put-rear-at-reads.Learnt)
+write-split-claims t = (width-reads.Asked, width-reads.Learnt, put-indent-reads.Asked, put-indent-reads.Learnt, write-text-reads.Asked, write-text-reads.Learnt, view-at-reads.Asked, view-at-reads.Learnt, is-minus-reads.Asked, is-minus-reads.Learnt, put-front-at-reads.Asked, put-front-at-reads.Learnt, write-split-operands-below t, write-split-operands.Post, put-rear-at-reads.Asked, put-rear-at-reads.Learnt)
 
 abbrev write-split-operands-claims : ℕ → write-split-operands-lts.Claims
 write-split-operands-claims t = (inner-level-reads.Asked, inner-level-reads.Learnt, inner-mark-reads.Asked, inner-mark-reads.Learnt, write-split-below t, write-split.Post, write-split-operands-below t, write-split-operands.Post, put-between-at-reads.Asked, put-between-at-reads.Learnt)
 
-write-split-text-len-requires : (t : ℕ) → write-split-lts.Need-text-len-requires (write-split-claims t) (write-split-at t) write-split.Post
-write-split-text-len-requires t c κs = (c .before .before .before .before .pre .1 .0, c .before .before .before .before .pre .1 .1 .0)
+write-split-width-requires : (t : ℕ) → write-split-lts.Need-width-requires (write-split-claims t) (write-split-at t) write-split.Post
+write-split-width-requires t c κs = (c .before .before .before .before .before .pre .1 .0, (c .before .before .before .before .before .pre .1 .1 .0, c .before .before .before .before .before .pre .1 .1 .1 .0))
 
 write-split-put-indent-requires : (t : ℕ) → write-split-lts.Need-put-indent-requires (write-split-claims t) (write-split-at t) write-split.Post
-write-split-put-indent-requires t c κs = fits (run-line (c .before .before .before .before .before .before .before .pre .1 .0) _ _ (fits-line _ _ (c .before .before .text-len .ensures) (c .before .if1 .taken)) (c .before .before .before .before .before .before .before .args .out .now) (c .before .before .before .before .before .before .before .args .at) (c .before .before .before .before .before .before .before .pre .1 .1 .1 .1))
+write-split-put-indent-requires t c κs = fits (run-line (c .before .before .before .before .before .before .before .before .pre .1 .0) _ _ (fits-line _ _ (c .before .before .width .ensures) (c .before .if1 .taken)) (c .before .before .before .before .before .before .before .before .args .out .now) (c .before .before .before .before .before .before .before .before .args .at) (c .before .before .before .before .before .before .before .before .pre .1 .1 .1 .1 .1))
 
 write-split-write-text-requires : (t : ℕ) → write-split-lts.Need-write-text-requires (write-split-claims t) (write-split-at t) write-split.Post
-write-split-write-text-requires t c κs = (c .before .before .before .before .before .before .before .before .before .before .before .pre .1 .0, (c .before .before .before .before .before .before .before .before .before .before .before .pre .1 .1 .0, fits (next (run-line (c .before .before .before .before .before .before .before .before .before .before .before .pre .1 .0) _ _ (fits-line _ _ (c .before .before .before .before .before .before .text-len .ensures) (c .before .before .before .before .before .if1 .taken)) (c .before .before .before .before .before .before .before .before .before .before .before .args .out .now) (c .before .before .before .before .before .before .before .before .before .before .before .args .at) (c .before .before .before .before .before .before .before .before .before .before .before .pre .1 .1 .1 .1)) (c .before .before .before .put-indent .ensures))))
+write-split-write-text-requires t c κs = (c .before .before .before .before .before .before .before .before .before .before .before .before .pre .1 .0, (c .before .before .before .before .before .before .before .before .before .before .before .before .pre .1 .1 .1 .0, fits (next (run-line (c .before .before .before .before .before .before .before .before .before .before .before .before .pre .1 .0) _ _ (fits-line _ _ (c .before .before .before .before .before .before .width .ensures) (c .before .before .before .before .before .if1 .taken)) (c .before .before .before .before .before .before .before .before .before .before .before .before .args .out .now) (c .before .before .before .before .before .before .before .before .before .before .before .before .args .at) (c .before .before .before .before .before .before .before .before .before .before .before .before .pre .1 .1 .1 .1 .1)) (c .before .before .before .put-indent .ensures))))
 
 write-split-same-length : (t : ℕ) → write-split-lts.Need-same-length (write-split-claims t) (write-split-at t) write-split.Post
 write-split-same-length t c = c .before .before .write-text .kept .1 .1 .1 .1 .1 .0 ∙ c .before .before .before .before .before .before .put-indent .kept .1 .1 .0
 
 write-split-returns : (t : ℕ) → write-split-lts.Need-returns (write-split-claims t) (write-split-at t) write-split.Post
-write-split-returns t c = end (next (next (run-line (c .before .before .before .before .before .before .before .before .before .before .before .before .before .before .pre .1 .0) _ _ (fits-line _ _ (c .before .before .before .before .before .before .before .before .before .text-len .ensures) (c .before .before .before .before .before .before .before .before .if1 .taken)) (c .before .before .before .before .before .before .before .before .before .before .before .before .before .before .args .out .now) (c .before .before .before .before .before .before .before .before .before .before .before .before .before .before .args .at) (c .before .before .before .before .before .before .before .before .before .before .before .before .before .before .pre .1 .1 .1 .1)) (c .before .before .before .before .before .before .put-indent .ensures)) (c .before .before .write-text .ensures))
+write-split-returns t c = end (next (next (run-line (c .before .before .before .before .before .before .before .before .before .before .before .before .before .before .before .pre .1 .0) _ _ (fits-line _ _ (c .before .before .before .before .before .before .before .before .before .width .ensures) (c .before .before .before .before .before .before .before .before .if1 .taken)) (c .before .before .before .before .before .before .before .before .before .before .before .before .before .before .before .args .out .now) (c .before .before .before .before .before .before .before .before .before .before .before .before .before .before .before .args .at) (c .before .before .before .before .before .before .before .before .before .before .before .before .before .before .before .pre .1 .1 .1 .1 .1)) (c .before .before .before .before .before .before .put-indent .ensures)) (c .before .before .write-text .ensures))
 
 write-split-view-at-requires : (t : ℕ) → write-split-lts.Need-view-at-requires (write-split-claims t) (write-split-at t) write-split.Post
-write-split-view-at-requires t c κs = (starts-of (c .before .before .before .before .before .before .pre .1 .0), c .before .before .before .before .before .before .pre .1 .1 .0)
+write-split-view-at-requires t c κs = (starts-of (c .before .before .before .before .before .before .before .pre .1 .0), c .before .before .before .before .before .before .before .pre .1 .1 .1 .0)
 
 write-split-is-minus-requires : (t : ℕ) → write-split-lts.Need-is-minus-requires (write-split-claims t) (write-split-at t) write-split.Post
 write-split-is-minus-requires t c κs = search needs
 
 write-split-put-front-at-requires : (t : ℕ) → write-split-lts.Need-put-front-at-requires (write-split-claims t) (write-split-at t) write-split.Post
-write-split-put-front-at-requires t c κs = (c .before .before .view-at .ensures .lies, fits (run-split (c .before .before .before .before .before .before .before .before .before .pre .1 .0) (c .before .before .view-at .ensures .seen) _ _ (over-line _ _ (c .before .before .before .before .text-len .ensures) (c .before .before .before .if1 .left)) (c .before .before .before .before .before .before .before .before .before .args .out .now) (c .before .before .before .before .before .before .before .before .before .args .at) (c .before .before .before .before .before .before .before .before .before .pre .1 .1 .1 .1)))
+write-split-put-front-at-requires t c κs = (c .before .before .view-at .ensures .lies, fits (run-split (c .before .before .before .before .before .before .before .before .before .before .pre .1 .0) (c .before .before .view-at .ensures .seen) _ _ (over-line _ _ (c .before .before .before .before .width .ensures) (c .before .before .before .if1 .left)) (c .before .before .before .before .before .before .before .before .before .before .args .out .now) (c .before .before .before .before .before .before .before .before .before .before .args .at) (c .before .before .before .before .before .before .before .before .before .before .pre .1 .1 .1 .1 .1)))
 
 write-split-write-split-operands-requires : (t : ℕ) → write-split-lts.Need-write-split-operands-requires (write-split-claims t) (write-split-at t) write-split.Post
 write-split-write-split-operands-requires t c κs =
     let seen = c .before .before .before .before .before .before .view-at .ensures .seen in
-    let run = next (run-split (c .before .before .before .before .before .before .before .before .before .before .before .before .before .pre .1 .0) seen _ _ (over-line _ _ (c .before .before .before .before .before .before .before .before .text-len .ensures) (c .before .before .before .before .before .before .before .if1 .left)) (c .before .before .before .before .before .before .before .before .before .before .before .before .before .args .out .now) (c .before .before .before .before .before .before .before .before .before .before .before .before .before .args .at) (c .before .before .before .before .before .before .before .before .before .before .before .before .before .pre .1 .1 .1 .1)) (c .before .before .before .put-front-at .ensures) in
-    (omega (arith, seen .low, c .before .before .before .before .before .before .before .before .before .before .before .before .before .pre .0), (fewer (c .before .before .before .before .before .before .before .before .before .before .before .before .before .pre .1 .0) (omega (arith, seen .low)), (c .before .before .before .before .before .before .view-at .ensures .lies, (seen .enough, (rw (c .before .before .before .before .before .is-minus .ensures) (minus-unvalued (c .before .before .before .before .before .before .view-at .ensures)), (omega (arith, seen .low, c .before .before .before .before .before .before .before .before .before .before .before .before .before .pre .1 .1 .1 .0), fits run))))))
+    let run = next (run-split (c .before .before .before .before .before .before .before .before .before .before .before .before .before .before .pre .1 .0) seen _ _ (over-line _ _ (c .before .before .before .before .before .before .before .before .width .ensures) (c .before .before .before .before .before .before .before .if1 .left)) (c .before .before .before .before .before .before .before .before .before .before .before .before .before .before .args .out .now) (c .before .before .before .before .before .before .before .before .before .before .before .before .before .before .args .at) (c .before .before .before .before .before .before .before .before .before .before .before .before .before .before .pre .1 .1 .1 .1 .1)) (c .before .before .before .put-front-at .ensures) in
+    (omega (arith, seen .low, c .before .before .before .before .before .before .before .before .before .before .before .before .before .before .pre .0), (fewer (c .before .before .before .before .before .before .before .before .before .before .before .before .before .before .pre .1 .0) (omega (arith, seen .low)), (c .before .before .before .before .before .before .before .before .before .before .before .before .before .before .pre .1 .1 .0, (c .before .before .before .before .before .before .view-at .ensures .lies, (seen .enough, (rw (c .before .before .before .before .before .is-minus .ensures) (minus-unvalued (c .before .before .before .before .before .before .view-at .ensures)), (omega (arith, seen .low, c .before .before .before .before .before .before .before .before .before .before .before .before .before .before .pre .1 .1 .1 .1 .0), fits run)))))))
 
 write-split-put-rear-at-requires : (t : ℕ) → write-split-lts.Need-put-rear-at-requires (write-split-claims t) (write-split-at t) write-split.Post
-write-split-put-rear-at-requires t c κs = (c .before .before .before .before .before .before .before .before .before .before .view-at .ensures .lies, fits (next (next (run-split (c .before .before .before .before .before .before .before .before .before .before .before .before .before .before .before .before .before .pre .1 .0) (c .before .before .before .before .before .before .before .before .before .before .view-at .ensures .seen) _ _ (over-line _ _ (c .before .before .before .before .before .before .before .before .before .before .before .before .text-len .ensures) (c .before .before .before .before .before .before .before .before .before .before .before .if1 .left)) (c .before .before .before .before .before .before .before .before .before .before .before .before .before .before .before .before .before .args .out .now) (c .before .before .before .before .before .before .before .before .before .before .before .before .before .before .before .before .before .args .at) (c .before .before .before .before .before .before .before .before .before .before .before .before .before .before .before .before .before .pre .1 .1 .1 .1)) (c .before .before .before .before .before .before .before .put-front-at .ensures)) (c .before .before .before .write-split-operands .ensures)))
+write-split-put-rear-at-requires t c κs = (c .before .before .before .before .before .before .before .before .before .before .view-at .ensures .lies, fits (next (next (run-split (c .before .before .before .before .before .before .before .before .before .before .before .before .before .before .before .before .before .before .pre .1 .0) (c .before .before .before .before .before .before .before .before .before .before .view-at .ensures .seen) _ _ (over-line _ _ (c .before .before .before .before .before .before .before .before .before .before .before .before .width .ensures) (c .before .before .before .before .before .before .before .before .before .before .before .if1 .left)) (c .before .before .before .before .before .before .before .before .before .before .before .before .before .before .before .before .before .before .args .out .now) (c .before .before .before .before .before .before .before .before .before .before .before .before .before .before .before .before .before .before .args .at) (c .before .before .before .before .before .before .before .before .before .before .before .before .before .before .before .before .before .before .pre .1 .1 .1 .1 .1)) (c .before .before .before .before .before .before .before .put-front-at .ensures)) (c .before .before .before .write-split-operands .ensures)))
 
 write-split-same-length-2 : (t : ℕ) → write-split-lts.Need-same-length-2 (write-split-claims t) (write-split-at t) write-split.Post
-write-split-same-length-2 t c = c .before .before .put-rear-at .kept .1 .1 .1 .0 ∙ c .before .before .before .before .before .before .write-split-operands .kept .1 .1 .1 .1 .1 .1 .1 .1 .1 .0 ∙ c .before .before .before .before .before .before .before .before .before .before .put-front-at .kept .1 .1 .1 .1 .0
+write-split-same-length-2 t c = c .before .before .put-rear-at .kept .1 .1 .1 .0 ∙ c .before .before .before .before .before .before .write-split-operands .kept .1 .1 .1 .1 .1 .1 .1 .1 .1 .1 .0 ∙ c .before .before .before .before .before .before .before .before .before .before .put-front-at .kept .1 .1 .1 .1 .0
 
 write-split-returns-2 : (t : ℕ) → write-split-lts.Need-returns-2 (write-split-claims t) (write-split-at t) write-split.Post
-write-split-returns-2 t c = end (next (next (next (run-split (c .before .before .before .before .before .before .before .before .before .before .before .before .before .before .before .before .before .before .before .before .pre .1 .0) (c .before .before .before .before .before .before .before .before .before .before .before .before .before .view-at .ensures .seen) _ _ (over-line _ _ (c .before .before .before .before .before .before .before .before .before .before .before .before .before .before .before .text-len .ensures) (c .before .before .before .before .before .before .before .before .before .before .before .before .before .before .if1 .left)) (c .before .before .before .before .before .before .before .before .before .before .before .before .before .before .before .before .before .before .before .before .args .out .now) (c .before .before .before .before .before .before .before .before .before .before .before .before .before .before .before .before .before .before .before .before .args .at) (c .before .before .before .before .before .before .before .before .before .before .before .before .before .before .before .before .before .before .before .before .pre .1 .1 .1 .1)) (c .before .before .before .before .before .before .before .before .before .before .put-front-at .ensures)) (c .before .before .before .before .before .before .write-split-operands .ensures)) (c .before .before .put-rear-at .ensures))
+write-split-returns-2 t c = end (next (next (next (run-split (c .before .before .before .before .before .before .before .before .before .before .before .before .before .before .before .before .before .before .before .before .before .pre .1 .0) (c .before .before .before .before .before .before .before .before .before .before .before .before .before .view-at .ensures .seen) _ _ (over-line _ _ (c .before .before .before .before .before .before .before .before .before .before .before .before .before .before .before .width .ensures) (c .before .before .before .before .before .before .before .before .before .before .before .before .before .before .if1 .left)) (c .before .before .before .before .before .before .before .before .before .before .before .before .before .before .before .before .before .before .before .before .before .args .out .now) (c .before .before .before .before .before .before .before .before .before .before .before .before .before .before .before .before .before .before .before .before .before .args .at) (c .before .before .before .before .before .before .before .before .before .before .before .before .before .before .before .before .before .before .before .before .before .pre .1 .1 .1 .1 .1)) (c .before .before .before .before .before .before .before .before .before .before .put-front-at .ensures)) (c .before .before .before .before .before .before .write-split-operands .ensures)) (c .before .before .put-rear-at .ensures))
 
 write-split-operands-returns : (t : ℕ) → write-split-operands-lts.Need-returns (write-split-operands-claims t) (write-split-operands-at t) write-split-operands.Post
 write-split-operands-returns t c =
-    let own = layoutOn (c .before .before .before .before .before .args .page .now) (c .before .before .before .before .before .args .own) in
-    wrote-nothing _ _ (text-none (marked (innerMark (c .before .before .before .before .before .args .mark) own) (innerLevel (c .before .before .before .before .before .args .level) own)) (marked true (innerLevel (c .before .before .before .before .before .args .level) own)) (c .before .before .before .before .before .pre .1 .0) _ (c .before .before .before .before .before .pre .1 .1 .1 .0) (betweenAt (c .before .before .before .before .before .args .level) own) (c .if1 .taken))
+    let own = layoutOn (c .before .before .before .before .before .before .args .page .now) (c .before .before .before .before .before .before .args .own) in
+    wrote-nothing _ _ (text-none (marked (innerMark (c .before .before .before .before .before .before .args .mark) own) (innerLevel (c .before .before .before .before .before .before .args .level) own)) (marked true (innerLevel (c .before .before .before .before .before .before .args .level) own)) (c .before .before .before .before .before .before .pre .1 .0) _ (c .before .before .before .before .before .before .pre .1 .1 .1 .1 .0) (betweenAt (c .before .before .before .before .before .before .args .level) own) (c .if1 .taken))
 
 write-split-operands-sub-root : (t : ℕ) → write-split-operands-lts.Need-sub-root (write-split-operands-claims t) (write-split-operands-at t) write-split-operands.Post
-write-split-operands-sub-root t c = last-operand (c .before .before .before .before .before .pre .1 .0) _ (c .before .before .before .before .before .pre .1 .1 .1 .0) (c .if1 .left) .some
+write-split-operands-sub-root t c = last-operand (c .before .before .before .before .before .before .pre .1 .0) _ (c .before .before .before .before .before .before .pre .1 .1 .1 .1 .0) (c .if1 .left) .some
 
 write-split-operands-inner-level-requires : (t : ℕ) → write-split-operands-lts.Need-inner-level-requires (write-split-operands-claims t) (write-split-operands-at t) write-split-operands.Post
-write-split-operands-inner-level-requires t c κs = omega (arith, c .before .before .before .before .before .pre .1 .1 .1 .1 .1 .0)
+write-split-operands-inner-level-requires t c κs = omega (arith, c .before .before .before .before .before .before .pre .1 .1 .1 .1 .1 .1 .0)
 
 write-split-operands-inner-mark-requires : (t : ℕ) → write-split-operands-lts.Need-inner-mark-requires (write-split-operands-claims t) (write-split-operands-at t) write-split-operands.Post
 write-split-operands-inner-mark-requires t c κs = search needs
 
 write-split-operands-write-split-requires : (t : ℕ) → write-split-operands-lts.Need-write-split-requires (write-split-operands-claims t) (write-split-operands-at t) write-split-operands.Post
 write-split-operands-write-split-requires t c κs =
-    let w = last-operand (c .before .before .before .before .before .before .before .before .before .pre .1 .0) _ (c .before .before .before .before .before .before .before .before .before .pre .1 .1 .1 .0) (c .before .before .before .before .if1 .left) in
-    let own = layoutOn (c .before .before .before .before .before .before .before .before .before .args .page .now) (c .before .before .before .before .before .before .before .before .before .args .own) in
-    let one = text-one (marked (innerMark (c .before .before .before .before .before .before .before .before .before .args .mark) own) (innerLevel (c .before .before .before .before .before .before .before .before .before .args .level) own)) (marked true (innerLevel (c .before .before .before .before .before .before .before .before .before .args .level) own)) (c .before .before .before .before .before .before .before .before .before .pre .1 .0) _ (c .before .before .before .before .before .before .before .before .before .pre .1 .1 .1 .0) (betweenAt (c .before .before .before .before .before .before .before .before .before .args .level) own) (c .before .before .if2 .taken) in
-    (omega (arith, w .some, c .before .before .before .before .before .before .before .before .before .pre .0), (fewer (c .before .before .before .before .before .before .before .before .before .pre .1 .0) (omega (arith, w .some)), (c .before .before .before .before .before .before .before .before .before .pre .1 .1 .1 .1 .0, (omega (arith, w .some, c .before .before .before .before .before .before .before .before .before .pre .1 .1 .1 .1 .1 .0, c .before .before .before .inner-level .ensures .1), omega (arith, ap length (one ∙ sym (marked-same (c .before .inner-mark .ensures) (c .before .before .before .inner-level .ensures .0) (treeAt (c .before .before .before .before .before .before .before .before .before .args .page .now) (c .before .before .before .before .before .before .before .before .before .args .end - 1)))), c .before .before .before .before .before .before .before .before .before .pre .1 .1 .1 .1 .1 .1)))))
+    let w = last-operand (c .before .before .before .before .before .before .before .before .before .before .pre .1 .0) _ (c .before .before .before .before .before .before .before .before .before .before .pre .1 .1 .1 .1 .0) (c .before .before .before .before .if1 .left) in
+    let own = layoutOn (c .before .before .before .before .before .before .before .before .before .before .args .page .now) (c .before .before .before .before .before .before .before .before .before .before .args .own) in
+    let one = text-one (marked (innerMark (c .before .before .before .before .before .before .before .before .before .before .args .mark) own) (innerLevel (c .before .before .before .before .before .before .before .before .before .before .args .level) own)) (marked true (innerLevel (c .before .before .before .before .before .before .before .before .before .before .args .level) own)) (c .before .before .before .before .before .before .before .before .before .before .pre .1 .0) _ (c .before .before .before .before .before .before .before .before .before .before .pre .1 .1 .1 .1 .0) (betweenAt (c .before .before .before .before .before .before .before .before .before .before .args .level) own) (c .before .before .if2 .taken) in
+    (omega (arith, w .some, c .before .before .before .before .before .before .before .before .before .before .pre .0), (fewer (c .before .before .before .before .before .before .before .before .before .before .pre .1 .0) (omega (arith, w .some)), (c .before .before .before .before .before .before .before .before .before .before .pre .1 .1 .0, (c .before .before .before .before .before .before .before .before .before .before .pre .1 .1 .1 .1 .1 .0, (omega (arith, w .some, c .before .before .before .before .before .before .before .before .before .before .pre .1 .1 .1 .1 .1 .1 .0, c .before .before .before .inner-level .ensures .1), omega (arith, ap length (one ∙ sym (marked-same (c .before .inner-mark .ensures) (c .before .before .before .inner-level .ensures .0) (treeAt (c .before .before .before .before .before .before .before .before .before .before .args .page .now) (c .before .before .before .before .before .before .before .before .before .before .args .end - 1)))), c .before .before .before .before .before .before .before .before .before .before .pre .1 .1 .1 .1 .1 .1 .1))))))
 
 write-split-operands-same-length : (t : ℕ) → write-split-operands-lts.Need-same-length (write-split-operands-claims t) (write-split-operands-at t) write-split-operands.Post
-write-split-operands-same-length t c = c .before .before .write-split .kept .1 .1 .1 .1 .1 .1 .1 .0
+write-split-operands-same-length t c = c .before .before .write-split .kept .1 .1 .1 .1 .1 .1 .1 .1 .0
 
 write-split-operands-returns-2 : (t : ℕ) → write-split-operands-lts.Need-returns-2 (write-split-operands-claims t) (write-split-operands-at t) write-split-operands.Post
 write-split-operands-returns-2 t c =
-    let own = layoutOn (c .before .before .before .before .before .before .before .before .before .before .before .before .args .page .now) (c .before .before .before .before .before .before .before .before .before .before .before .before .args .own) in
-    let one = text-one (marked (innerMark (c .before .before .before .before .before .before .before .before .before .before .before .before .args .mark) own) (innerLevel (c .before .before .before .before .before .before .before .before .before .before .before .before .args .level) own)) (marked true (innerLevel (c .before .before .before .before .before .before .before .before .before .before .before .before .args .level) own)) (c .before .before .before .before .before .before .before .before .before .before .before .before .pre .1 .0) _ (c .before .before .before .before .before .before .before .before .before .before .before .before .pre .1 .1 .1 .0) (betweenAt (c .before .before .before .before .before .before .before .before .before .before .before .before .args .level) own) (c .before .before .before .before .before .if2 .taken) in
-    wrote-as (one ∙ sym (marked-same (c .before .before .before .before .inner-mark .ensures) (c .before .before .before .before .before .before .inner-level .ensures .0) (treeAt (c .before .before .before .before .before .before .before .before .before .before .before .before .args .page .now) (c .before .before .before .before .before .before .before .before .before .before .before .before .args .end - 1)))) (c .before .before .write-split .ensures)
+    let own = layoutOn (c .before .before .before .before .before .before .before .before .before .before .before .before .before .args .page .now) (c .before .before .before .before .before .before .before .before .before .before .before .before .before .args .own) in
+    let one = text-one (marked (innerMark (c .before .before .before .before .before .before .before .before .before .before .before .before .before .args .mark) own) (innerLevel (c .before .before .before .before .before .before .before .before .before .before .before .before .before .args .level) own)) (marked true (innerLevel (c .before .before .before .before .before .before .before .before .before .before .before .before .before .args .level) own)) (c .before .before .before .before .before .before .before .before .before .before .before .before .before .pre .1 .0) _ (c .before .before .before .before .before .before .before .before .before .before .before .before .before .pre .1 .1 .1 .1 .0) (betweenAt (c .before .before .before .before .before .before .before .before .before .before .before .before .before .args .level) own) (c .before .before .before .before .before .if2 .taken) in
+    wrote-as (one ∙ sym (marked-same (c .before .before .before .before .inner-mark .ensures) (c .before .before .before .before .before .before .inner-level .ensures .0) (treeAt (c .before .before .before .before .before .before .before .before .before .before .before .before .before .args .page .now) (c .before .before .before .before .before .before .before .before .before .before .before .before .before .args .end - 1)))) (c .before .before .write-split .ensures)
 
 write-split-operands-shared-slice-read-first : (t : ℕ) → write-split-operands-lts.Need-shared-slice-read-first (write-split-operands-claims t) (write-split-operands-at t) write-split-operands.Post
-write-split-operands-shared-slice-read-first t c = omega (arith, last-operand (c .before .before .before .before .before .before .before .before .pre .1 .0) _ (c .before .before .before .before .before .before .before .before .pre .1 .1 .1 .0) (c .before .before .before .if1 .left) .some, c .before .before .before .before .before .before .before .before .pre .1 .0 .firsts-size, c .before .before .before .before .before .before .before .before .pre .1 .0 .few)
+write-split-operands-shared-slice-read-first t c = omega (arith, last-operand (c .before .before .before .before .before .before .before .before .before .pre .1 .0) _ (c .before .before .before .before .before .before .before .before .before .pre .1 .1 .1 .1 .0) (c .before .before .before .if1 .left) .some, c .before .before .before .before .before .before .before .before .before .pre .1 .0 .firsts-size, c .before .before .before .before .before .before .before .before .before .pre .1 .0 .few)
 
 write-split-operands-cast-first : (t : ℕ) → write-split-operands-lts.Need-cast-first (write-split-operands-claims t) (write-split-operands-at t) write-split-operands.Post
-write-split-operands-cast-first t c = omega (arith, c .shared-slice-known4 .given (c .before .before .before .before .before .before .before .before .args .end - 1))
+write-split-operands-cast-first t c = omega (arith, c .shared-slice-known5 .given (c .before .before .before .before .before .before .before .before .before .args .end - 1))
 
 write-split-operands-sub-write-split-operands : (t : ℕ) → write-split-operands-lts.Need-sub-write-split-operands (write-split-operands-claims t) (write-split-operands-at t) write-split-operands.Post
 write-split-operands-sub-write-split-operands t c = omega (arith, c .before .before .before .if1 .left)
 
 write-split-operands-write-split-operands-requires : (t : ℕ) → write-split-operands-lts.Need-write-split-operands-requires (write-split-operands-claims t) (write-split-operands-at t) write-split-operands.Post
 write-split-operands-write-split-operands-requires t c κs =
-    let w = last-operand (c .before .before .before .before .before .before .before .before .before .pre .1 .0) _ (c .before .before .before .before .before .before .before .before .before .pre .1 .1 .1 .0) (c .before .before .before .before .if1 .left) in
-    let own = layoutOn (c .before .before .before .before .before .before .before .before .before .args .page .now) (c .before .before .before .before .before .before .before .before .before .args .own) in
-    let run = run-more (marked (innerMark (c .before .before .before .before .before .before .before .before .before .args .mark) own) (innerLevel (c .before .before .before .before .before .before .before .before .before .args .level) own)) (marked true (innerLevel (c .before .before .before .before .before .before .before .before .before .args .level) own)) (c .before .before .before .before .before .before .before .before .before .pre .1 .0) _ (c .before .before .before .before .before .before .before .before .before .pre .1 .1 .1 .0) (betweenAt (c .before .before .before .before .before .before .before .before .before .args .level) own) (c .before .before .before .before .if1 .left) (c .before .before .if2 .left) (c .before .before .before .before .before .before .before .before .before .args .out .now) (c .before .before .before .before .before .before .before .before .before .args .at) (c .before .before .before .before .before .before .before .before .before .pre .1 .1 .1 .1 .1 .1) in
-    (omega (arith, w .low, c .before .before .before .before .before .before .before .before .before .pre .0), (fewer (c .before .before .before .before .before .before .before .before .before .pre .1 .0) (omega (arith, w .low)), (c .before .before .before .before .before .before .before .before .before .pre .1 .1 .0, (fewer-operands (c .before .before .before .before .before .before .before .before .before .pre .1 .0) _ (c .before .before .before .before .before .before .before .before .before .pre .1 .1 .1 .0) (c .before .before .before .before .if1 .left), (unmarked _ _, (omega (arith, w .low, c .before .before .before .before .before .before .before .before .before .pre .1 .1 .1 .1 .1 .0), fits run))))))
+    let w = last-operand (c .before .before .before .before .before .before .before .before .before .before .pre .1 .0) _ (c .before .before .before .before .before .before .before .before .before .before .pre .1 .1 .1 .1 .0) (c .before .before .before .before .if1 .left) in
+    let own = layoutOn (c .before .before .before .before .before .before .before .before .before .before .args .page .now) (c .before .before .before .before .before .before .before .before .before .before .args .own) in
+    let run = run-more (marked (innerMark (c .before .before .before .before .before .before .before .before .before .before .args .mark) own) (innerLevel (c .before .before .before .before .before .before .before .before .before .before .args .level) own)) (marked true (innerLevel (c .before .before .before .before .before .before .before .before .before .before .args .level) own)) (c .before .before .before .before .before .before .before .before .before .before .pre .1 .0) _ (c .before .before .before .before .before .before .before .before .before .before .pre .1 .1 .1 .1 .0) (betweenAt (c .before .before .before .before .before .before .before .before .before .before .args .level) own) (c .before .before .before .before .if1 .left) (c .before .before .if2 .left) (c .before .before .before .before .before .before .before .before .before .before .args .out .now) (c .before .before .before .before .before .before .before .before .before .before .args .at) (c .before .before .before .before .before .before .before .before .before .before .pre .1 .1 .1 .1 .1 .1 .1) in
+    (omega (arith, w .low, c .before .before .before .before .before .before .before .before .before .before .pre .0), (fewer (c .before .before .before .before .before .before .before .before .before .before .pre .1 .0) (omega (arith, w .low)), (c .before .before .before .before .before .before .before .before .before .before .pre .1 .1 .0, (c .before .before .before .before .before .before .before .before .before .before .pre .1 .1 .1 .0, (fewer-operands (c .before .before .before .before .before .before .before .before .before .before .pre .1 .0) _ (c .before .before .before .before .before .before .before .before .before .before .pre .1 .1 .1 .1 .0) (c .before .before .before .before .if1 .left), (unmarked _ _, (omega (arith, w .low, c .before .before .before .before .before .before .before .before .before .before .pre .1 .1 .1 .1 .1 .1 .0), fits run)))))))
 
 write-split-operands-put-between-at-requires : (t : ℕ) → write-split-operands-lts.Need-put-between-at-requires (write-split-operands-claims t) (write-split-operands-at t) write-split-operands.Post
 write-split-operands-put-between-at-requires t c κs =
-    let own = layoutOn (c .before .before .before .before .before .before .before .before .before .before .before .before .before .args .page .now) (c .before .before .before .before .before .before .before .before .before .before .before .before .before .args .own) in
-    let run = run-more (marked (innerMark (c .before .before .before .before .before .before .before .before .before .before .before .before .before .args .mark) own) (innerLevel (c .before .before .before .before .before .before .before .before .before .before .before .before .before .args .level) own)) (marked true (innerLevel (c .before .before .before .before .before .before .before .before .before .before .before .before .before .args .level) own)) (c .before .before .before .before .before .before .before .before .before .before .before .before .before .pre .1 .0) _ (c .before .before .before .before .before .before .before .before .before .before .before .before .before .pre .1 .1 .1 .0) (betweenAt (c .before .before .before .before .before .before .before .before .before .before .before .before .before .args .level) own) (c .before .before .before .before .before .before .before .before .if1 .left) (c .before .before .before .before .before .before .if2 .left) (c .before .before .before .before .before .before .before .before .before .before .before .before .before .args .out .now) (c .before .before .before .before .before .before .before .before .before .before .before .before .before .args .at) (c .before .before .before .before .before .before .before .before .before .before .before .before .before .pre .1 .1 .1 .1 .1 .1) in
-    (c .before .before .before .before .before .before .before .before .before .before .before .before .before .pre .1 .1 .0, fits (next run (c .before .before .before .write-split-operands .ensures)))
+    let own = layoutOn (c .before .before .before .before .before .before .before .before .before .before .before .before .before .before .args .page .now) (c .before .before .before .before .before .before .before .before .before .before .before .before .before .before .args .own) in
+    let run = run-more (marked (innerMark (c .before .before .before .before .before .before .before .before .before .before .before .before .before .before .args .mark) own) (innerLevel (c .before .before .before .before .before .before .before .before .before .before .before .before .before .before .args .level) own)) (marked true (innerLevel (c .before .before .before .before .before .before .before .before .before .before .before .before .before .before .args .level) own)) (c .before .before .before .before .before .before .before .before .before .before .before .before .before .before .pre .1 .0) _ (c .before .before .before .before .before .before .before .before .before .before .before .before .before .before .pre .1 .1 .1 .1 .0) (betweenAt (c .before .before .before .before .before .before .before .before .before .before .before .before .before .before .args .level) own) (c .before .before .before .before .before .before .before .before .if1 .left) (c .before .before .before .before .before .before .if2 .left) (c .before .before .before .before .before .before .before .before .before .before .before .before .before .before .args .out .now) (c .before .before .before .before .before .before .before .before .before .before .before .before .before .before .args .at) (c .before .before .before .before .before .before .before .before .before .before .before .before .before .before .pre .1 .1 .1 .1 .1 .1 .1) in
+    (c .before .before .before .before .before .before .before .before .before .before .before .before .before .before .pre .1 .1 .1 .0, fits (next run (c .before .before .before .write-split-operands .ensures)))
 
 write-split-operands-write-split-requires-2 : (t : ℕ) → write-split-operands-lts.Need-write-split-requires-2 (write-split-operands-claims t) (write-split-operands-at t) write-split-operands.Post
 write-split-operands-write-split-requires-2 t c κs =
-    let w = last-operand (c .before .before .before .before .before .before .before .before .before .before .before .before .before .before .before .before .before .pre .1 .0) _ (c .before .before .before .before .before .before .before .before .before .before .before .before .before .before .before .before .before .pre .1 .1 .1 .0) (c .before .before .before .before .before .before .before .before .before .before .before .before .if1 .left) in
-    let own = layoutOn (c .before .before .before .before .before .before .before .before .before .before .before .before .before .before .before .before .before .args .page .now) (c .before .before .before .before .before .before .before .before .before .before .before .before .before .before .before .before .before .args .own) in
-    let run = run-more (marked (innerMark (c .before .before .before .before .before .before .before .before .before .before .before .before .before .before .before .before .before .args .mark) own) (innerLevel (c .before .before .before .before .before .before .before .before .before .before .before .before .before .before .before .before .before .args .level) own)) (marked true (innerLevel (c .before .before .before .before .before .before .before .before .before .before .before .before .before .before .before .before .before .args .level) own)) (c .before .before .before .before .before .before .before .before .before .before .before .before .before .before .before .before .before .pre .1 .0) _ (c .before .before .before .before .before .before .before .before .before .before .before .before .before .before .before .before .before .pre .1 .1 .1 .0) (betweenAt (c .before .before .before .before .before .before .before .before .before .before .before .before .before .before .before .before .before .args .level) own) (c .before .before .before .before .before .before .before .before .before .before .before .before .if1 .left) (c .before .before .before .before .before .before .before .before .before .before .if2 .left) (c .before .before .before .before .before .before .before .before .before .before .before .before .before .before .before .before .before .args .out .now) (c .before .before .before .before .before .before .before .before .before .before .before .before .before .before .before .before .before .args .at) (c .before .before .before .before .before .before .before .before .before .before .before .before .before .before .before .before .before .pre .1 .1 .1 .1 .1 .1) in
-    (omega (arith, w .some, c .before .before .before .before .before .before .before .before .before .before .before .before .before .before .before .before .before .pre .0), (fewer (c .before .before .before .before .before .before .before .before .before .before .before .before .before .before .before .before .before .pre .1 .0) (omega (arith, w .some)), (c .before .before .before .before .before .before .before .before .before .before .before .before .before .before .before .before .before .pre .1 .1 .1 .1 .0, (omega (arith, w .some, c .before .before .before .before .before .before .before .before .before .before .before .before .before .before .before .before .before .pre .1 .1 .1 .1 .1 .0, c .before .before .before .before .before .before .before .before .before .before .before .inner-level .ensures .1), rw (c .before .before .before .before .before .before .before .before .before .before .before .inner-level .ensures .0) (fits (next (next run (c .before .before .before .before .before .before .before .write-split-operands .ensures)) (c .before .before .before .put-between-at .ensures)))))))
+    let w = last-operand (c .before .before .before .before .before .before .before .before .before .before .before .before .before .before .before .before .before .before .pre .1 .0) _ (c .before .before .before .before .before .before .before .before .before .before .before .before .before .before .before .before .before .before .pre .1 .1 .1 .1 .0) (c .before .before .before .before .before .before .before .before .before .before .before .before .if1 .left) in
+    let own = layoutOn (c .before .before .before .before .before .before .before .before .before .before .before .before .before .before .before .before .before .before .args .page .now) (c .before .before .before .before .before .before .before .before .before .before .before .before .before .before .before .before .before .before .args .own) in
+    let run = run-more (marked (innerMark (c .before .before .before .before .before .before .before .before .before .before .before .before .before .before .before .before .before .before .args .mark) own) (innerLevel (c .before .before .before .before .before .before .before .before .before .before .before .before .before .before .before .before .before .before .args .level) own)) (marked true (innerLevel (c .before .before .before .before .before .before .before .before .before .before .before .before .before .before .before .before .before .before .args .level) own)) (c .before .before .before .before .before .before .before .before .before .before .before .before .before .before .before .before .before .before .pre .1 .0) _ (c .before .before .before .before .before .before .before .before .before .before .before .before .before .before .before .before .before .before .pre .1 .1 .1 .1 .0) (betweenAt (c .before .before .before .before .before .before .before .before .before .before .before .before .before .before .before .before .before .before .args .level) own) (c .before .before .before .before .before .before .before .before .before .before .before .before .if1 .left) (c .before .before .before .before .before .before .before .before .before .before .if2 .left) (c .before .before .before .before .before .before .before .before .before .before .before .before .before .before .before .before .before .before .args .out .now) (c .before .before .before .before .before .before .before .before .before .before .before .before .before .before .before .before .before .before .args .at) (c .before .before .before .before .before .before .before .before .before .before .before .before .before .before .before .before .before .before .pre .1 .1 .1 .1 .1 .1 .1) in
+    (omega (arith, w .some, c .before .before .before .before .before .before .before .before .before .before .before .before .before .before .before .before .before .before .pre .0), (fewer (c .before .before .before .before .before .before .before .before .before .before .before .before .before .before .before .before .before .before .pre .1 .0) (omega (arith, w .some)), (c .before .before .before .before .before .before .before .before .before .before .before .before .before .before .before .before .before .before .pre .1 .1 .0, (c .before .before .before .before .before .before .before .before .before .before .before .before .before .before .before .before .before .before .pre .1 .1 .1 .1 .1 .0, (omega (arith, w .some, c .before .before .before .before .before .before .before .before .before .before .before .before .before .before .before .before .before .before .pre .1 .1 .1 .1 .1 .1 .0, c .before .before .before .before .before .before .before .before .before .before .before .inner-level .ensures .1), rw (c .before .before .before .before .before .before .before .before .before .before .before .inner-level .ensures .0) (fits (next (next run (c .before .before .before .before .before .before .before .write-split-operands .ensures)) (c .before .before .before .put-between-at .ensures))))))))
 
 write-split-operands-same-length-2 : (t : ℕ) → write-split-operands-lts.Need-same-length-2 (write-split-operands-claims t) (write-split-operands-at t) write-split-operands.Post
-write-split-operands-same-length-2 t c = c .before .before .write-split2 .kept .1 .1 .1 .1 .1 .1 .1 .0 ∙ c .before .before .before .before .before .before .put-between-at .kept .1 .1 .1 .0 ∙ c .before .before .before .before .before .before .before .before .before .before .write-split-operands .kept .1 .1 .1 .1 .1 .1 .1 .1 .1 .0
+write-split-operands-same-length-2 t c = c .before .before .write-split2 .kept .1 .1 .1 .1 .1 .1 .1 .1 .0 ∙ c .before .before .before .before .before .before .put-between-at .kept .1 .1 .1 .0 ∙ c .before .before .before .before .before .before .before .before .before .before .write-split-operands .kept .1 .1 .1 .1 .1 .1 .1 .1 .1 .1 .0
 
 write-split-operands-returns-3 : (t : ℕ) → write-split-operands-lts.Need-returns-3 (write-split-operands-claims t) (write-split-operands-at t) write-split-operands.Post
 write-split-operands-returns-3 t c =
-    let own = layoutOn (c .before .before .before .before .before .before .before .before .before .before .before .before .before .before .before .before .before .before .before .before .args .page .now) (c .before .before .before .before .before .before .before .before .before .before .before .before .before .before .before .before .before .before .before .before .args .own) in
-    let run = run-more (marked (innerMark (c .before .before .before .before .before .before .before .before .before .before .before .before .before .before .before .before .before .before .before .before .args .mark) own) (innerLevel (c .before .before .before .before .before .before .before .before .before .before .before .before .before .before .before .before .before .before .before .before .args .level) own)) (marked true (innerLevel (c .before .before .before .before .before .before .before .before .before .before .before .before .before .before .before .before .before .before .before .before .args .level) own)) (c .before .before .before .before .before .before .before .before .before .before .before .before .before .before .before .before .before .before .before .before .pre .1 .0) _ (c .before .before .before .before .before .before .before .before .before .before .before .before .before .before .before .before .before .before .before .before .pre .1 .1 .1 .0) (betweenAt (c .before .before .before .before .before .before .before .before .before .before .before .before .before .before .before .before .before .before .before .before .args .level) own) (c .before .before .before .before .before .before .before .before .before .before .before .before .before .before .before .if1 .left) (c .before .before .before .before .before .before .before .before .before .before .before .before .before .if2 .left) (c .before .before .before .before .before .before .before .before .before .before .before .before .before .before .before .before .before .before .before .before .args .out .now) (c .before .before .before .before .before .before .before .before .before .before .before .before .before .before .before .before .before .before .before .before .args .at) (c .before .before .before .before .before .before .before .before .before .before .before .before .before .before .before .before .before .before .before .before .pre .1 .1 .1 .1 .1 .1) in
-    end (next-as (next (next run (c .before .before .before .before .before .before .before .before .before .before .write-split-operands .ensures)) (c .before .before .before .before .before .before .put-between-at .ensures)) (sym (marked-same refl (c .before .before .before .before .before .before .before .before .before .before .before .before .before .before .inner-level .ensures .0) (treeAt (c .before .before .before .before .before .before .before .before .before .before .before .before .before .before .before .before .before .before .before .before .args .page .now) (c .before .before .before .before .before .before .before .before .before .before .before .before .before .before .before .before .before .before .before .before .args .end - 1)))) (c .before .before .write-split2 .ensures))
+    let own = layoutOn (c .before .before .before .before .before .before .before .before .before .before .before .before .before .before .before .before .before .before .before .before .before .args .page .now) (c .before .before .before .before .before .before .before .before .before .before .before .before .before .before .before .before .before .before .before .before .before .args .own) in
+    let run = run-more (marked (innerMark (c .before .before .before .before .before .before .before .before .before .before .before .before .before .before .before .before .before .before .before .before .before .args .mark) own) (innerLevel (c .before .before .before .before .before .before .before .before .before .before .before .before .before .before .before .before .before .before .before .before .before .args .level) own)) (marked true (innerLevel (c .before .before .before .before .before .before .before .before .before .before .before .before .before .before .before .before .before .before .before .before .before .args .level) own)) (c .before .before .before .before .before .before .before .before .before .before .before .before .before .before .before .before .before .before .before .before .before .pre .1 .0) _ (c .before .before .before .before .before .before .before .before .before .before .before .before .before .before .before .before .before .before .before .before .before .pre .1 .1 .1 .1 .0) (betweenAt (c .before .before .before .before .before .before .before .before .before .before .before .before .before .before .before .before .before .before .before .before .before .args .level) own) (c .before .before .before .before .before .before .before .before .before .before .before .before .before .before .before .if1 .left) (c .before .before .before .before .before .before .before .before .before .before .before .before .before .if2 .left) (c .before .before .before .before .before .before .before .before .before .before .before .before .before .before .before .before .before .before .before .before .before .args .out .now) (c .before .before .before .before .before .before .before .before .before .before .before .before .before .before .before .before .before .before .before .before .before .args .at) (c .before .before .before .before .before .before .before .before .before .before .before .before .before .before .before .before .before .before .before .before .before .pre .1 .1 .1 .1 .1 .1 .1) in
+    end (next-as (next (next run (c .before .before .before .before .before .before .before .before .before .before .write-split-operands .ensures)) (c .before .before .before .before .before .before .put-between-at .ensures)) (sym (marked-same refl (c .before .before .before .before .before .before .before .before .before .before .before .before .before .before .inner-level .ensures .0) (treeAt (c .before .before .before .before .before .before .before .before .before .before .before .before .before .before .before .before .before .before .before .before .before .args .page .now) (c .before .before .before .before .before .before .before .before .before .before .before .before .before .before .before .before .before .before .before .before .before .args .end - 1)))) (c .before .before .write-split2 .ensures))
 
 pub +write-split+write-split-operands-spec : {M : Type 1} → statement M
 +write-split+write-split-operands-spec = close μ-write-split μ-write-split-operands
     (λ t. write-split-lts.spec (write-split-claims t) (write-split-at t) write-split.Post
-    (write-split-text-len-requires t) (write-split-put-indent-requires t) (write-split-write-text-requires t) (write-split-same-length t) (write-split-returns t) (write-split-view-at-requires t) (write-split-is-minus-requires t) (write-split-put-front-at-requires t) (write-split-write-split-operands-requires t) (write-split-put-rear-at-requires t) (write-split-same-length-2 t) (write-split-returns-2 t))
+    (write-split-width-requires t) (write-split-put-indent-requires t) (write-split-write-text-requires t) (write-split-same-length t) (write-split-returns t) (write-split-view-at-requires t) (write-split-is-minus-requires t) (write-split-put-front-at-requires t) (write-split-write-split-operands-requires t) (write-split-put-rear-at-requires t) (write-split-same-length-2 t) (write-split-returns-2 t))
     (λ t. write-split-operands-lts.spec (write-split-operands-claims t) (write-split-operands-at t) write-split-operands.Post
     (write-split-operands-returns t) (write-split-operands-sub-root t) (write-split-operands-inner-level-requires t) (write-split-operands-inner-mark-requires t) (write-split-operands-write-split-requires t) (write-split-operands-same-length t) (write-split-operands-returns-2 t) (write-split-operands-shared-slice-read-first t) (write-split-operands-cast-first t) (write-split-operands-sub-write-split-operands t) (write-split-operands-write-split-operands-requires t) (write-split-operands-put-between-at-requires t) (write-split-operands-write-split-requires-2 t) (write-split-operands-same-length-2 t) (write-split-operands-returns-3 t))
