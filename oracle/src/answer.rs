@@ -104,7 +104,10 @@ pub fn work(page: &[u8]) -> Result<Worked<'_>, Failure> {
         Err(Stop::Unforeseen(words)) => return Err(Failure(words)),
     };
     let label = match outcome {
-        Outcome::Refused { number: 19, .. } => walk.records.last().and_then(tree::joint_label),
+        Outcome::Refused { number: 19, .. } => {
+            let judged = walk.records.last();
+            judged.and_then(|record| tree::joint_labels(record).next())
+        }
         _ => None,
     };
     let label = label.map(|label| Part {

@@ -27,13 +27,7 @@ fn checked_modifier<'a>(
     card: Option<&VectorMatchCardinality>,
 ) -> Option<Modifier<'a>> {
     let card = card?;
-    let mut modifier = modifier.clone().unwrap_or(Modifier {
-        is_bool: false,
-        matching: Matching::None,
-        cardinality: Cardinality::OneToOne,
-        left_fill: None,
-        right_fill: None,
-    });
+    let mut modifier = modifier.clone().unwrap_or(Modifier::EMPTY);
     if *card == VectorMatchCardinality::ManyToMany {
         modifier.cardinality = Cardinality::ManyToMany;
     }

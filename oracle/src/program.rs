@@ -1,44 +1,48 @@
 //! The program `sheet` held against the oracle: one run for each page, what it writes and how it ends.
 
 use crate::answer::{self, Failure};
+use crate::generate::limits;
 use crate::{hex, kept};
 use std::io::{self, Read, Write};
 use std::process::{Child, Command, Stdio};
 use std::thread;
 use std::time::Duration;
 
-/// A page far beyond the limit.
-const OVERLONG: &str = "(0202757000)*20000;";
+/// Pages that the kept list has not: one of 100,000 bytes, far beyond the limit, and one whose text is longer than what the program lends.
+const BEYOND: [&str; 2] = [limits::OVERLONG, "0278 61*120; 00 08*180;"];
 
 /// Every so many pages one is sent in two pieces, and one without anyone to read the output.
 const SPECIAL: usize = 50;
 
-/// The kept list and an overlong page; the number of pages, or the first difference.
+/// The kept list, which has pages of 8,192 and 8,193 bytes, and the pages beyond; their number, or the first difference.
 pub fn compare(program: &str, words: &[&str]) -> Result<usize, String> {
     let entries = kept::entries().map_err(|failure| failure.0)?;
     let mut pages: Vec<Vec<u8>> = entries.into_iter().map(|entry| entry.0).collect();
-    pages.push(hex::bytes(OVERLONG));
-    let start = || {
-        Command::new(program)
-            .args(words)
-            .stdin(Stdio::piped())
-            .stdout(Stdio::piped())
-            .spawn()
-    };
+    pages.extend(BEYOND.map(hex::bytes));
     for (index, page) in pages.iter().enumerate() {
-        let expected = output(page).map_err(|failure| failure.0)?;
+        let mut command = Command::new(program);
+        command.args(words);
         let pieces = if index % SPECIAL == 0 { 2 } else { 1 };
-        let child = start().map_err(|error| format!("{program}: {error}"))?;
-        let written = run(child, page, pieces).map_err(|error| error.to_string())?;
-        if written != Ok(expected.clone()) {
-            return Err(difference(page, &expected, &written));
-        }
+        compare_page(&mut command, page, pieces)?;
         if index % SPECIAL == 1 {
-            let child = start().map_err(|error| format!("{program}: {error}"))?;
-            closed(child, page).map_err(|words| format!("{words}\npage: {}", hex::text(page)))?;
+            closed(&mut command, page)?;
         }
     }
     Ok(pages.len())
+}
+
+fn compare_page(command: &mut Command, page: &[u8], pieces: usize) -> Result<(), String> {
+    let expected = output(page).map_err(|failure| failure.0)?;
+    let written = run(started(command)?, page, pieces).map_err(|error| error.to_string())?;
+    if written != Ok(expected.clone()) {
+        return Err(difference(page, &expected, &written));
+    }
+    Ok(())
+}
+
+fn started(command: &mut Command) -> Result<Child, String> {
+    let child = command.stdin(Stdio::piped()).stdout(Stdio::piped()).spawn();
+    child.map_err(|error| format!("{command:?}: {error}"))
 }
 
 /// What the program must write for a page.
@@ -72,10 +76,11 @@ fn run(mut child: Child, page: &[u8], pieces: usize) -> io::Result<Written> {
     })
 }
 
-/// With its output closed the program ends, by itself or by the signal of a broken pipe.
-fn closed(mut child: Child, page: &[u8]) -> Result<(), String> {
+/// With its output closed the program ends, by itself or by the signal of a broken pipe; what it says of that is not shown.
+fn closed(command: &mut Command, page: &[u8]) -> Result<(), String> {
     use std::os::unix::process::ExitStatusExt;
     const SIGPIPE: i32 = 13;
+    let mut child = started(command.stderr(Stdio::null()))?;
     drop(child.stdout.take());
     if let Some(mut input) = child.stdin.take() {
         // It may end before it has read all.
@@ -85,7 +90,8 @@ fn closed(mut child: Child, page: &[u8]) -> Result<(), String> {
     match status.signal() {
         None | Some(SIGPIPE) => Ok(()),
         Some(_) => Err(format!(
-            "with its output closed the program ends with {status}"
+            "with its output closed the program ends with {status}\npage: {}",
+            hex::text(page)
         )),
     }
 }

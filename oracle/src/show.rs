@@ -121,6 +121,21 @@ impl Shown {
         self.number(signature.result.number());
     }
 
+    fn binary(&mut self, code: u8, modifier: &Option<Modifier>) {
+        self.0.extend([u64::from(code), modifier.is_some().into()]);
+        if let Some(modifier) = modifier {
+            self.modifier(modifier);
+        }
+    }
+
+    fn grouping(&mut self, grouping: &Grouping) {
+        match grouping {
+            Grouping::None => self.number(0u64),
+            Grouping::By(list) => self.labels(1, list),
+            Grouping::Without(list) => self.labels(2, list),
+        }
+    }
+
     fn fields(&mut self, record: &Record) {
         match record {
             Record::Number(literal) => self.literal(*literal),
@@ -141,23 +156,14 @@ impl Shown {
                 milliseconds,
             } => self.0.extend([u64::from(*is_minus), *milliseconds]),
             Record::Unary | Record::Paren => {}
-            Record::Binary { code, modifier } => {
-                self.0.extend([u64::from(*code), modifier.is_some().into()]);
-                if let Some(modifier) = modifier {
-                    self.modifier(modifier);
-                }
-            }
+            Record::Binary { code, modifier } => self.binary(*code, modifier),
             Record::Aggregate {
                 code,
                 grouping,
                 arguments,
             } => {
                 self.number(*code);
-                match grouping {
-                    Grouping::None => self.number(0u64),
-                    Grouping::By(list) => self.labels(1, list),
-                    Grouping::Without(list) => self.labels(2, list),
-                }
+                self.grouping(grouping);
                 self.size(*arguments);
             }
             Record::Call {

@@ -1,12 +1,20 @@
 //! Every row of the refusal table, every bench example and every page of the readings has its answer.
 
-use oracle::answer::{answer, Outcome};
+use oracle::answer::{answer, Domain, Outcome};
 use oracle::{chosen, hex};
 
 #[test]
 fn every_chosen_page_has_its_answer() {
     let differences: Vec<String> = chosen::rows().filter_map(|row| row.difference()).collect();
     assert!(differences.is_empty(), "{}", differences.join("\n"));
+}
+
+#[test]
+fn every_chosen_page_is_inside_the_domain() {
+    for row in chosen::rows() {
+        let domain = answer(&row.bytes()).expect("the Rust is foreseen").domain;
+        assert_eq!(domain, Domain::Inside, "{}", row.words);
+    }
 }
 
 #[test]

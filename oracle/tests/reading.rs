@@ -5,10 +5,10 @@ use std::process::Command;
 
 const ORACLE: &str = env!("CARGO_BIN_EXE_oracle");
 
-/// The oracle's own lines, through a filter.
+/// The oracle's own lines, through a filter; the filter may end first, which the oracle would complain of.
 fn filtered(filter: &str) -> Command {
     let mut command = Command::new("sh");
-    command.args(["-c", &format!("\"$0\" show | {filter}"), ORACLE]);
+    command.args(["-c", &format!("\"$0\" show 2>/dev/null | {filter}"), ORACLE]);
     command
 }
 

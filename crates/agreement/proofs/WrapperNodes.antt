@@ -14,7 +14,8 @@ use Rattle.ast.specs.Refusal.{unless, when, orElse, firstFault, andThen}
 use Rattle.records.specs.Record.{range, at, offset, unary, wrapper}
 use Rattle.ast.specs.Expr.{Expr, Aggregate, AggregateParam, Unary, Binary, Paren, Subquery, NumberLiteral, StringLiteral, VectorSelector, MatrixSelector, Call, valueType, scalarValue, timesOf, withTimes}
 use Rattle.ast.specs.Construct.{atWith, setAt, offsetWith, setOffset, rangeAfter}
-use Rattle.ast.specs.CheckAst.{checkAst, unaryRows, selectorRows, acceptsEmpty, isNameMatcher}
+use Rattle.records.specs.Matcher.{isNameMatcher, matchesEmpty}
+use Rattle.ast.specs.CheckAst.{checkAst, unaryRows, selectorRows}
 use Rattle.kinds.specs.Asked.{isNumeric}
 use Rattle.kinds.specs.WorkingOut.{wrapperNumber}
 use Rattle.agreement.proofs.Bools.{not-not}
@@ -26,7 +27,7 @@ use Rattle.agreement.proofs.NodeOf.{nodeOf, isFormed, NodeClaim, fromFa
 selectorClaim : (s : Selector) → FaultClaim true true true (firstFault (selectorRows s))
 selectorClaim s =
     row (not (isEmpty (s .name)) && any isNameMatcher (s .matchers)) 33 _ (λ h k. absurd k) λ h.
-    row (isEmpty (s .name) && all (λ m. acceptsEmpty (m .op) (m .value)) (s .matchers)) 34 none (λ h′ k. absurd k) λ h′.
+    row (isEmpty (s .name) && all matchesEmpty (s .matchers)) 34 none (λ h′ k. absurd k) λ h′.
     fine (λ o. (tt, tt))
 
 pub selectorNode : (s : Selector) (t : Times) → NodeClaim true true true vector none (checkAst (VectorSelector s t))

@@ -20,6 +20,7 @@ use Rattle.ast.specs.Tables.{stackAt, newest, treeAt, Tables}
 use Rattle.ast.proofs.NodeLaws.{nodeOf-kind}
 use Rattle.judge.specs.Stack.{formOf, valueOf, nodes, Sized}
 use Rattle.judge.proofs.StackLaws.{stack-size, stack-empty, stack-top}
+use Rattle.page.specs.Answers.{Within}
 use Rattle.checking.specs.Answers.{Accepts}
 use Rattle.checking.specs.Walk.{firstOf}
 use Rattle.checking.proofs.ApplyLaws.{Pushed, apply-pushes, operands-there, Applied, applied, unapplied}
@@ -55,9 +56,9 @@ held-start {page} {starts} {firsts} {forms} {values} {bases} short sized b s f =
 pub record Next (page starts firsts forms : List ℕ) (values : List Float) (bases : List ℕ) (top at count n next : ℕ) (x : Node) : Type 0 where
   pub high : top + n ≤ 256
   pub low : 1 ≤ top + n
-  pub held-again :
+  pub held-again : (end : ℕ) → Within page next end →
       let first = firstOf n count (drop top bases) in let place = top + n - 1 in
-      Held page (set starts count at) (set firsts count first) (set forms place (formOf x)) (set values place (valueOf x)) (set bases place first) place next (count + 1)
+      Held page (set starts count at) (set firsts count first) (set forms place (formOf x)) (set values place (valueOf x)) (set bases place first) place end (count + 1)
 
 module _ {page starts firsts forms : List ℕ} {values : List Float} {bases : List ℕ} {top at count : ℕ} (held : Held page starts firsts forms values bases top at count) where
   abbrev trees : List Expr
@@ -120,7 +121,7 @@ module _ {page starts firsts forms : List ℕ} {values : List Float} {bases : Li
             progress-refused (held .progress) more few next read
             (unapplied r trees (held .progress .sound) (e ∙ ap (judgement r) (held .arrays .summaries)))
 
-        module _ (inside : next ≤ length page) {x : Node} (put : ok x ≡ judgement r (drop top (nodes forms values))) (n : ℕ) (takes : n ≡ operands r) where
+        module _ {x : Node} (put : ok x ≡ judgement r (drop top (nodes forms values))) (n : ℕ) (takes : n ≡ operands r) where
           done : Applied r trees x
           done = applied r trees (held .progress .sound) (put ∙ ap (judgement r) (held .arrays .summaries))
 
@@ -148,20 +149,21 @@ module _ {page starts firsts forms : List ℕ} {values : List Float} {bases : Li
           first-is : (firstOf n count (drop top bases) ≤ count) × (stackAt page (firstOf n count (drop top bases)) ≡ drop n trees)
           first-is = first-right page count n (drop top bases) trees (at-stack (held .progress)) (held .arrays .firsts) (omega (arith, enough, stack-length (held .arrays)))
 
-          onward : Progress page next (suc count) after
-          onward = progress-next (held .progress) more few next read inside after (done .applies)
+          module _ (end : ℕ) (w : Within page next end) where
+            onward : Progress page end (suc count) after
+            onward = progress-next (held .progress) more few end (ap (λ (s : List ℕ). got r s) (w .same) ∙ read) (w .inside) after (done .applies)
 
-          held-next :
-              let first = firstOf n count (drop top bases) in let place = top + n - 1 in
-              Held page (set starts count at) (set firsts count first) (set forms place (formOf x)) (set values place (valueOf x)) (set bases place first) place next (suc count)
-          held-next = record {
-            stack = new .tree ∷ drop n trees;
-            progress = subst (λ (s : List Expr). Progress page next (suc count) s) (new .is ∙ ap {B = List Expr} (λ k. new .tree ∷ drop k trees) (sym takes)) onward;
-            arrays = arrays-next (held .arrays) n (firstOf n count (drop top bases)) x (new .tree) enough room node-is (omega (arith, first-is .0)) (first-is .1);
-            tables = tables-next (held .tables) (omega (arith, held .progress .count-range, few)) at (firstOf n count (drop top bases))
-                (entry-of page at (firstOf n count (drop top bases)) count (held .progress .stands) read (at-stack (held .progress)) (at-stack onward)
-                (omega (arith, enough, takes, stack-length (held .arrays))) (done .applies) (first-is .0) (first-is .1 ∙ ap (λ (k : ℕ). drop k trees) takes));
-          }
+            held-next :
+                let first = firstOf n count (drop top bases) in let place = top + n - 1 in
+                Held page (set starts count at) (set firsts count first) (set forms place (formOf x)) (set values place (valueOf x)) (set bases place first) place end (suc count)
+            held-next = record {
+              stack = new .tree ∷ drop n trees;
+              progress = subst (λ (s : List Expr). Progress page end (suc count) s) (new .is ∙ ap {B = List Expr} (λ k. new .tree ∷ drop k trees) (sym takes)) onward;
+              arrays = arrays-next (held .arrays) n (firstOf n count (drop top bases)) x (new .tree) enough room node-is (omega (arith, first-is .0)) (first-is .1);
+              tables = tables-next (held .tables) (omega (arith, held .progress .count-range, few)) at (firstOf n count (drop top bases))
+                  (entry-of page at (firstOf n count (drop top bases)) count (held .progress .stands) read (at-stack (held .progress)) (at-stack onward)
+                  (omega (arith, enough, takes, stack-length (held .arrays))) (done .applies) (first-is .0) (first-is .1 ∙ ap (λ (k : ℕ). drop k trees) takes));
+            }
 
           pub stepped : Next page starts firsts forms values bases top at count n next x
-          stepped = record { high = enough; low = room; held-again = rw add-one held-next }
+          stepped = record { high = enough; low = room; held-again = λ end w. rw add-one (held-next end w) }

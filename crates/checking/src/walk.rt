@@ -94,7 +94,7 @@ pub fn walk(page: &[u8], starts: &mut [u16], firsts: &mut [u8]) -> Walked
                         forms[top] = form_of(node);
                         values[top] = value_of(node);
                         bases[top] = first;
-                        at = next;
+                        at = page::within(page, next);
                         count += 1;
                     }
                 }

@@ -1,13 +1,14 @@
 -- What the answer of `read_record` means on a page: texts and lists are put where the code's record has positions.
-use Prim.Native.Nat.{ℕ, _≤_}
+use Prim.Native.Nat.{ℕ}
 use mathlib.Core.List.{List}
-use lib.ListN.{length, drop}
+use lib.ListN.{drop}
 use Rattle.page.specs.Read.{Read, refused, got}
 use Rattle.page.specs.Text.{Text}
 use Rattle.page.specs.Answers.{faultOf, spanOn, Lies}
 use Rattle.records.specs.Matcher as matcher
 use Rattle.records.specs.Record as spec
 use Rattle.records.specs.Answers.{matchersOn, literalOf, labelModifierOn, modifierOn, atModifierOf, offsetOf, stepOf}
+use Rattle.records.specs.Marks.{ListMarked}
 use Rattle.records.specs.SignatureAnswers.{functionOn, FunctionLies}
 use Rattle.reader.specs.declared.Selector.{Selector}
 use Rattle.reader.specs.declared.Record.{Record}
@@ -39,11 +40,16 @@ abbrev pub recordAt : List ℕ → RecordField → Read spec.Record
 recordAt page (record-answer.Got r next) = got (recordOn page r) (drop next page)
 recordAt page (record-answer.Bad f) = refused (faultOf f)
 
+-- a selector's name lies on the page, and its marks are those of its matchers
+pub record SelectorRead (page : List ℕ) (s : Selector) : Type 0 where
+  pub name : Lies page (s .name)
+  pub marked : ListMarked (matchersOn page (s .matchers) (s .count)) (s .named) (s .empty)
+
 -- a record's own texts lie on the page: a string, a selector's name, a function's name (with the count of its kinds)
 abbrev pub TextsLie : List ℕ → Record → Type 0
 TextsLie page (code.Number l) = Unit {0}
 TextsLie page (code.String s) = Lies page s
-TextsLie page (code.Selector s) = Lies page (s .name)
+TextsLie page (code.Selector s) = SelectorRead page s
 TextsLie page (code.Range n) = Unit {0}
 TextsLie page (code.Subquery n s) = Unit {0}
 TextsLie page (code.At a) = Unit {0}
@@ -57,13 +63,3 @@ TextsLie page (code.Call f n) = FunctionLies page f
 abbrev pub recordLies : List ℕ → RecordField → Type 0
 recordLies page (record-answer.Got r next) = TextsLie page r
 recordLies page (record-answer.Bad f) = Unit {0}
-
--- the position behind; a refusal has none
-abbrev pub recordEnd : RecordField → ℕ
-recordEnd (record-answer.Got r next) = next
-recordEnd (record-answer.Bad f) = 0
-
--- what a caller of `read_record` may rely on beyond the record's meaning
-pub record RecordRead (page : List ℕ) (r : RecordField) : Type 0 where
-  pub lies : recordLies page r
-  pub inside : recordEnd r ≤ length page

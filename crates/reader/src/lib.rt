@@ -7,6 +7,7 @@ use records::LabelModifier;
 use records::LabelModifierField;
 use records::Literal;
 use records::LiteralField;
+use records::Matchers;
 use records::Modifier;
 use records::ModifierField;
 use records::Offset;
@@ -26,13 +27,16 @@ ghost use lib.ListN.{drop};
 ghost use Rattle.page.specs.Read.{readerAt};
 ghost use Rattle.page.specs.Answers.{numberAt};
 ghost use Rattle.records.specs.Record.{readCode, recordForms, readRecord};
-ghost use Rattle.reader.specs.Answers.{recordAt, recordLies, RecordRead};
+ghost use Rattle.reader.specs.Answers.{recordAt, recordLies};
 
-// A selector: its name, a part without bytes where there is none, the start of its first matcher and their count.
+// A selector: its name, a part without bytes where there is none, the start of its first matcher and their count, and what the
+// check asks of them: whether one is named `__name__`, and whether all accept empty text.
 pub struct Selector {
     pub name: page::Span,
     pub matchers: usize,
     pub count: usize,
+    pub named: bool,
+    pub empty: bool,
 }
 
 pub enum Record {
@@ -98,15 +102,17 @@ fn read_selector(page: &[u8], at: usize) -> RecordField
 {
     match page::read_text(page, at, page::TextClass::MetricName) {
         page::Text::Got(name) => match read_matchers(page, name.end) {
-            page::ListField::Got(matchers, count, next) => RecordField::Got(
+            Matchers::Got(matchers, count, named, empty, next) => RecordField::Got(
                 Record::Selector(Selector {
                     name: name,
                     matchers: matchers,
                     count: count,
+                    named: named,
+                    empty: empty,
                 }),
                 next,
             ),
-            page::ListField::Bad(f) => RecordField::Bad(f),
+            Matchers::Bad(f) => RecordField::Bad(f),
         },
         page::Text::Bad(f) => RecordField::Bad(f),
     }
@@ -222,13 +228,10 @@ fn read_fields(page: &[u8], at: usize, kind: u64) -> RecordField
 // The record at a position: for every page and every position.
 pub fn read_record(page: &[u8], at: usize) -> RecordField
     ensures { λ r. ⌜ recordAt (now (page .entry)) r ≡ readRecord (drop at (now (page .entry))) ⌝ }
-    ensures { λ r. ⌜ RecordRead (now (page .entry)) r ⌝ }
+    ensures { λ r. ⌜ recordLies (now (page .entry)) r ⌝ }
 {
     match page::read_number(page, at) {
-        page::Number::Got(kind, next) => match read_fields(page, next, kind) {
-            RecordField::Got(r, end) => RecordField::Got(r, page::within(page, end)),
-            RecordField::Bad(f) => RecordField::Bad(f),
-        },
+        page::Number::Got(kind, next) => read_fields(page, next, kind),
         page::Number::Bad => RecordField::Bad(page::Fault::BadField),
     }
 }

@@ -2,11 +2,13 @@
 use crate::kind::Flag;
 use crate::kind::read_flag;
 ghost use mathlib.Core.Path.{_≡_};
+ghost use Prim.Native.Nat.{_≤_};
 ghost use lib.ListN.{drop};
-ghost use Rattle.page.specs.Read.{repeat};
+ghost use Rattle.page.specs.Read.{repeat, readerAt};
 ghost use Rattle.page.specs.Text.{readList};
-ghost use Rattle.page.specs.Answers.{listAt};
-ghost use Rattle.records.specs.Matcher.{plain, pattern, readMatcher};
+ghost use Rattle.page.specs.Answers.{spanOn, Lies};
+ghost use Rattle.records.specs.Matcher.{plain, pattern, readMatcher, isMetricLabel};
+ghost use Rattle.records.specs.Marks.{readMarks, patternMarks, markForms, marksAt, matchersAt, matchersMarked};
 ghost use Rattle.records.specs.Answers.{opOf, patternOp, matcherAt, matcherLies};
 
 // How a matcher compares; a pattern has the mark that it matches empty text.
@@ -101,32 +103,112 @@ pub fn read_matcher(page: &[u8], at: usize) -> MatcherField
     }
 }
 
+// What the check asks of a matcher: whether it is named `__name__`, whether it accepts empty text, and the position behind it.
+pub enum Marks {
+    Got(bool, bool, usize),
+    Bad(page::Fault),
+}
+
+fn is_metric_label(page: &[u8], name: page::Span) -> bool
+    requires { ⌜ Lies (now page) name ⌝ }
+    ensures { λ r. ⌜ r ≡ isMetricLabel (spanOn (now (page .entry)) name) ⌝ }
+{
+    page::same_text(page::text_at(page, name), b"__name__")
+}
+
+// The mark of a pattern, inverted by `!~`.
+fn mark_pattern(page: &[u8], at: usize, op: u64, named: bool) -> Marks
+    ensures { λ r. ⌜ marksAt (now (page .entry)) r ≡ patternMarks op named (drop at (now (page .entry))) ⌝ }
+{
+    match read_flag(page, at) {
+        Flag::Got(mark, next) => {
+            if op == 2 {
+                return Marks::Got(named, mark, next);
+            }
+            Marks::Got(named, !mark, next)
+        }
+        Flag::Bad => Marks::Bad(page::Fault::BadField),
+    }
+}
+
+// The rest of a matcher, behind its name.
+fn mark_value(page: &[u8], at: usize, op: u64, named: bool) -> Marks
+    requires { ⌜ op ≤ 3 ⌝ }
+    ensures { λ r. ⌜ marksAt (now (page .entry)) r ≡ readerAt (markForms named) op (drop at (now (page .entry))) ⌝ }
+{
+    match page::read_text(page, at, page::TextClass::Any) {
+        page::Text::Got(value) => {
+            if op == 0 {
+                return Marks::Got(named, value.start == value.end, value.end);
+            }
+            if op == 1 {
+                return Marks::Got(named, value.start != value.end, value.end);
+            }
+            mark_pattern(page, value.end, op, named)
+        }
+        page::Text::Bad(f) => Marks::Bad(f),
+    }
+}
+
+// A matcher read for its marks alone.
+pub fn mark_matcher(page: &[u8], at: usize) -> Marks
+    ensures { λ r. ⌜ marksAt (now (page .entry)) r ≡ readMarks (drop at (now (page .entry))) ⌝ }
+{
+    match page::read_number(page, at) {
+        page::Number::Got(op, next) => {
+            if 3 < op {
+                return Marks::Bad(page::Fault::BadField);
+            }
+            match page::read_text(page, next, page::TextClass::Any) {
+                page::Text::Got(name) => {
+                    mark_value(page, name.end, op, is_metric_label(page, name))
+                }
+                page::Text::Bad(f) => Marks::Bad(f),
+            }
+        }
+        page::Number::Bad => Marks::Bad(page::Fault::BadField),
+    }
+}
+
+// Where the first matcher starts and how many there are, whether one is named `__name__`, whether all accept empty text, and the
+// position behind the last.
+pub enum Matchers {
+    Got(usize, usize, bool, bool, usize),
+    Bad(page::Fault),
+}
+
 // So many matchers from a position on.
-pub fn matchers_from(page: &[u8], start: usize, count: usize) -> page::ListField
-    ensures { λ r. ⌜ listAt readMatcher (now (page .entry)) r ≡ repeat count readMatcher (drop start (now (page .entry))) ⌝ }
+pub fn matchers_from(page: &[u8], start: usize, count: usize) -> Matchers
+    ensures { λ r. ⌜ matchersAt (now (page .entry)) r ≡ repeat count readMatcher (drop start (now (page .entry))) ⌝ }
+    ensures { λ r. ⌜ matchersMarked (now (page .entry)) r ⌝ }
 {
     let mut left = count;
     let mut at = start;
+    let mut named = false;
+    let mut empty = true;
     while 0 < left {
-        match read_matcher(page, at) {
-            MatcherField::Got(_, next) => {
+        match mark_matcher(page, at) {
+            Marks::Got(name, accepts, next) => {
+                named = named | name;
+                empty = empty & accepts;
                 at = next;
                 left = left - 1;
             }
-            MatcherField::Bad(f) => {
-                return page::ListField::Bad(f);
+            Marks::Bad(f) => {
+                return Matchers::Bad(f);
             }
         }
     }
-    page::ListField::Got(start, count, at)
+    Matchers::Got(start, count, named, empty, at)
 }
 
 // A count, and so many matchers.
-pub fn read_matchers(page: &[u8], at: usize) -> page::ListField
-    ensures { λ r. ⌜ listAt readMatcher (now (page .entry)) r ≡ readList readMatcher (drop at (now (page .entry))) ⌝ }
+pub fn read_matchers(page: &[u8], at: usize) -> Matchers
+    ensures { λ r. ⌜ matchersAt (now (page .entry)) r ≡ readList readMatcher (drop at (now (page .entry))) ⌝ }
+    ensures { λ r. ⌜ matchersMarked (now (page .entry)) r ⌝ }
 {
     match page::read_count(page, at) {
         page::Count::Got(count, start) => matchers_from(page, start, count),
-        page::Count::Bad(f) => page::ListField::Bad(f),
+        page::Count::Bad(f) => Matchers::Bad(f),
     }
 }

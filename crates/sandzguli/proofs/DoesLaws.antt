@@ -14,7 +14,7 @@ use Rattle.ast.specs.Walk.{Checked, accepted, refusedAt}
 use Rattle.sandzguli.specs.Calls.{tooShort, writing, Does}
 
 -- the start of a buffer written anew
-splice-start : (buffer text : List ℕ) → splice buffer 0 text ≡ text ++ drop (length text) buffer
+pub splice-start : (buffer text : List ℕ) → splice buffer 0 text ≡ text ++ drop (length text) buffer
 unfolding splice
 splice-start buffer text = ap (λ (k : ℕ). text ++ drop k buffer) (zero-add (length text))
 

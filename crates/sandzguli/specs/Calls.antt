@@ -57,10 +57,13 @@ splitText page = writing prettify (checkPage page)
 abbrev pub programBuffer : List ℕ
 programBuffer = replicate 65536 0
 
+abbrev pub refusedLine : ℕ → ℕ → List ℕ
+refusedLine n i = bytes "refused " ++ decimal n ++ bytes " at " ++ decimal i ++ bytes "\n"
+
 -- what the program writes: the split text, or `refused N at R`, and a line feed
 abbrev pub programLine : Outcome → List ℕ → List ℕ
 programLine (answer k n) buffer = take n buffer ++ bytes "\n"
-programLine (refusal n i) buffer = bytes "refused " ++ decimal n ++ bytes " at " ++ decimal i ++ bytes "\n"
+programLine (refusal n i) buffer = refusedLine n i
 
-abbrev pub programOutput : List ℕ → List ℕ
+unfoldable pub programOutput : List ℕ → List ℕ
 programOutput page = let called : Called = splitText page programBuffer in programLine (called .outcome) (called .buffer)

@@ -113,5 +113,5 @@ unfolding readRecord readPage writeRecord checkAst apply checkPage copyPage disp
 tooShortForUp = tt
 
 starred : T (all holds examples)
-unfolding readRecord readPage writeRecord checkAst apply checkPage copyPage digits decimal escapeByte escape quote countOf countsOf durationCounts displayCount displayCounts displayDuration displayNumber displayLiteral displayFill displayLabel displayLabels displayMatcher atMost insert sort joinedByCommas displayMatchers display pretty
+unfolding readRecord readPage writeRecord checkAst apply checkPage copyPage digits decimal escapeByte escape quote countOf countsOf durationCounts displayCount displayCounts displayDuration displayNumber displayLiteral displayFill displayLabel displayLabels displayMatcher atMost insert sort joinedByCommas displayMatchers display pretty programOutput
 starred = tt

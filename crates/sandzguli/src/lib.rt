@@ -3,4 +3,5 @@
 pub mod calls;
 pub mod face;
 pub mod part;
+pub mod sheet;
 pub mod word;

@@ -1,4 +1,3 @@
-pub mod SelectorLaws
 pub mod ModifierLaws
 pub mod DeclaredLaws
 pub mod CallLaws

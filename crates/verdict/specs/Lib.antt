@@ -1,3 +1,2 @@
-pub mod Selector
 pub mod Call
 pub mod Judged

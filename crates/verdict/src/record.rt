@@ -54,9 +54,7 @@ pub fn judge_record(page: &[u8], item: Record, forms: &[u8], values: &[f64], top
     match item {
         Record::Number(literal) => Verdict::Put(Node::Number(literal_value(literal))),
         Record::String(_) => Verdict::Put(Node::String),
-        Record::Selector(selector) => {
-            judge_selector(page, selector.name, selector.matchers, selector.count)
-        }
+        Record::Selector(selector) => judge_selector(page, selector),
         Record::Range(_) => judge_range(node_at(forms, values, top)),
         Record::Subquery(_, _) => judge_subquery(node_at(forms, values, top)),
         Record::At(_) => judge_at(node_at(forms, values, top)),

@@ -96,7 +96,7 @@ module _ {page starts : List ℕ} {i j : ℕ} {parts : Parts} (s : Starts page s
   view-selector {v} r =
       record {
         seen = seen-selector tables j (b .low) _ _ (b .tree) (selectorOn page v) (r .reads);
-        lies = record { name = r .lies; few = allowed _ (r .reads .reads) .1 .0; short = page-short tables };
+        lies = record { name = r .lies .name; few = allowed _ (r .reads .reads) .1 .0; short = page-short tables };
       }
 
   pub view-subquery : {n : ℕ} {t : _} → Standing page starts j (code.Subquery n t) → Viewed page i (record { own = own.Subquery n t parts; end = j; count = 1 })

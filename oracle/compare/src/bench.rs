@@ -3,13 +3,15 @@
 //! The library is timed whole, from the bytes of the page: reading, checking, writing into a buffer. The Rust gets a ready
 //! page, in two ways. 'constructors': records read and their parts made (matchers with compiled patterns, label lists,
 //! signatures); only `Expr::new_*` and `check_ast` are timed, trees are dropped outside the time. 'from records': the parts
-//! are made and the tree is dropped within the time, but each pattern was compiled before and is taken from a cache; the
-//! Rust itself compiles it each time and is slower by that. `Display` and `prettify` are timed on ready trees.
+//! are made by the Rust's own constructors, `Matcher::new_matcher` with its patterns among them, and the tree is dropped within
+//! the time. 'patterns ready': the same, but each pattern was compiled before and is taken from a cache, as the Rust
+//! itself never does. `Display` and `prettify` are timed on ready trees.
 
 use crate::clock::nanoseconds;
 use crate::library::{Asks, Library, Writes};
 use oracle::answer::{self, Worked};
 use oracle::generate::{everyday, nesting};
+use oracle::page::record::Record;
 use oracle::random::Random;
 use oracle::tree::Ready;
 use promql_parser::parser::Expr;
@@ -52,7 +54,11 @@ fn print_calls(library: &Library, subject: &Subject) {
     if let Some(call) = library.check {
         let (ours, rust) = subject.beside(|| subject.asked(call), || subject.built());
         print_row("check, constructors", ours, Some(rust));
-        let (ours, rust) = subject.beside(|| subject.asked(call), || subject.built_from_records());
+        let rust = || subject.built_from_records(|record| Ready::from(record));
+        let (ours, rust) = subject.beside(|| subject.asked(call), rust);
+        print_row("check, patterns ready", ours, Some(rust));
+        let rust = || subject.built_from_records(Ready::compiled);
+        let (ours, rust) = subject.beside(|| subject.asked(call), rust);
         print_row("check, from records", ours, Some(rust));
         checked = Some(ours);
     }
@@ -197,13 +203,14 @@ impl<'a> Subject<'a> {
     }
 
     /// The same with the parts of the records, and the tree dropped.
-    fn built_from_records(&self) -> f64 {
+    fn built_from_records(&self, make: impl Fn(&Record) -> Ready) -> f64 {
         let mut stack = Vec::with_capacity(256);
         nanoseconds(|| {
             for worked in &self.worked {
                 for record in &worked.records {
-                    let ready = Ready::from(record);
-                    let tree = ready.build(&mut stack).expect("the page is accepted");
+                    let tree = make(record)
+                        .build(&mut stack)
+                        .expect("the page is accepted");
                     stack.push(tree);
                 }
                 drop(black_box(stack.pop()));

@@ -4,7 +4,7 @@ use crate::judge::Judge;
 use crate::library::Library;
 use oracle::answer;
 use oracle::coverage::Coverage;
-use oracle::generate::stream;
+use oracle::generate::{limits, stream};
 use oracle::hex;
 use oracle::random::Random;
 use std::ops::RangeInclusive;
@@ -25,13 +25,10 @@ impl Tally {
     }
 }
 
-/// A page far beyond the limit.
-const OVERLONG: &str = "(0202757000)*20000;";
-
 /// The chosen pages, the limits, every byte string of at most two bytes, one page of 100,000 bytes.
 pub fn fixed(library: Library) -> Result<Tally, String> {
     let mut worker = Worker::new(library, 0);
-    worker.compare(&hex::bytes(OVERLONG))?;
+    worker.compare(&hex::bytes(limits::OVERLONG))?;
     for sample in stream::fixed().chain(stream::short()) {
         worker.compare(&sample.page)?;
     }

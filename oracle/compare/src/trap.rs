@@ -21,7 +21,7 @@ struct Action {
 extern "C" {
     fn sigaction(signal: c_int, action: *const Action, before: *mut Action) -> c_int;
     fn write(file: c_int, bytes: *const c_void, length: usize) -> isize;
-    fn _exit(status: c_int) -> !;
+    fn abort() -> !;
 }
 
 thread_local! {
@@ -60,8 +60,8 @@ extern "C" fn handler(_: c_int) {
         print(&[DIGITS[byte / 16], DIGITS[byte % 16]]);
     }
     print(b"\n");
-    // SAFETY: nothing is left to do.
-    unsafe { _exit(1) }
+    // SAFETY: nothing is left to do. Whoever watches for this signal, as libFuzzer does, learns of it.
+    unsafe { abort() }
 }
 
 fn print(words: &[u8]) {

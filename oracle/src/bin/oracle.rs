@@ -3,6 +3,7 @@
 //!     oracle answer HEX         what document 01 answers to a page
 //!     oracle run SEED ROUNDS    generated pages, and the classes that they reached
 //!     oracle keep               writes the kept list again
+//!     oracle kept-pages FOLDER  writes each page of the kept list into a file of its own
 //!     oracle show               prints the records of framed pages from standard input, as the reading program does
 //!     oracle write              writes what the program `sheet` must write for the page on standard input
 //!     oracle compare-program PROGRAM [WORDS]
@@ -13,9 +14,11 @@
 use oracle::answer::{self, Outcome};
 use oracle::{hex, kept, program, reading, run};
 use std::io::{stdin, stdout, BufReader, BufWriter, Read, Write};
+use std::path::Path;
 use std::process::{Command, ExitCode};
 
-const USAGE: &str = "usage: oracle answer HEX | run SEED ROUNDS | keep | show | write
+const USAGE: &str =
+    "usage: oracle answer HEX | run SEED ROUNDS | keep | kept-pages FOLDER | show | write
        | compare-reading SEED ROUNDS PROGRAM | compare-program PROGRAM [WORDS]";
 
 fn main() -> ExitCode {
@@ -25,6 +28,7 @@ fn main() -> ExitCode {
         ["answer", page] => show(&hex::bytes(page)),
         ["run", seed, rounds] => report(seed, rounds),
         ["keep"] => keep(),
+        ["kept-pages", folder] => write_pages(Path::new(folder)),
         ["show"] => show_records(),
         ["write"] => write(),
         ["compare-program", program, words @ ..] => compare_program(program, words),
@@ -76,6 +80,17 @@ fn keep() -> Result<(), String> {
     std::fs::write(kept::PATH, &list).map_err(|error| error.to_string())?;
     let (pages, accepted) = kept::counts(&entries);
     println!("{pages} pages, {accepted} accepted, {} bytes", list.len());
+    Ok(())
+}
+
+/// One file for each page of the kept list, named by its place.
+fn write_pages(folder: &Path) -> Result<(), String> {
+    let entries = kept::entries().map_err(|failure| failure.0)?;
+    for (index, (page, _)) in entries.iter().enumerate() {
+        let written = std::fs::write(folder.join(format!("{index:04}")), page);
+        written.map_err(|error| error.to_string())?;
+    }
+    println!("{} pages", entries.len());
     Ok(())
 }
 

@@ -141,7 +141,7 @@ fn brief(answer: &Answer) -> String {
 }
 
 /// A text in which `{a*60}` stands for sixty letters a.
-fn spelled(text: &str) -> Vec<u8> {
+pub fn spelled(text: &str) -> Vec<u8> {
     let mut pieces = text.split('{');
     let mut spelled = pieces.next().unwrap_or_default().to_string();
     for piece in pieces {

@@ -73,6 +73,31 @@ impl Coverage {
         }
     }
 
+    /// All counts as lines, for `of_lines`.
+    pub fn to_lines(&self) -> String {
+        let mut lines = format!("{} pages\n{} accepted\n", self.pages, self.accepted);
+        for (class, count) in &self.counts {
+            lines += &format!("{count} {class}\n");
+        }
+        lines
+    }
+
+    /// The counts that the lines hold; nothing if they are not those of the declared classes.
+    pub fn of_lines(lines: &str) -> Option<Self> {
+        let mut coverage = Self::default();
+        let mut lines = lines.lines().map(|line| line.split_once(' '));
+        let mut count = |expected: &str| {
+            let (count, class) = lines.next()??;
+            count.parse().ok().filter(|_| class == expected)
+        };
+        coverage.pages = count("pages")?;
+        coverage.accepted = count("accepted")?;
+        for (class, counted) in &mut coverage.counts {
+            *counted = count(class)?;
+        }
+        Some(coverage)
+    }
+
     /// The classes that never occurred.
     pub fn missing(&self) -> Vec<&str> {
         self.counts

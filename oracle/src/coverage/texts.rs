@@ -1,6 +1,7 @@
 //! The rules of canonical text and of the copy that an accepted page calls on, seen from its records.
 
 use super::Coverage;
+use crate::page::code::is_set_operator;
 use crate::page::record::*;
 
 impl Coverage {
@@ -54,7 +55,7 @@ impl Coverage {
     }
 
     fn binary_text(&mut self, code: u8, modifier: &Option<Modifier>) {
-        if [6, 7, 10].contains(&code) {
+        if is_set_operator(code) {
             match modifier.as_ref().map(|modifier| &modifier.cardinality) {
                 None => self.hit("copy: set operator without modifier"),
                 Some(Cardinality::OneToOne) => self.hit("copy: set operator one-to-one"),

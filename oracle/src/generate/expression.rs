@@ -1,7 +1,7 @@
 //! Good expressions of a wanted kind, with an exact number of records.
 
-use super::parts::{has_parameter, is_set_operator};
 use super::{Generator, Records};
+use crate::page::code::{has_parameter, is_set_operator};
 use crate::page::record::*;
 
 impl Generator<'_> {

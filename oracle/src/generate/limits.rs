@@ -4,6 +4,9 @@ use crate::answer::Outcome;
 use crate::hex;
 use crate::page::record::Kind;
 
+/// A page of 100,000 bytes, far beyond the limit.
+pub const OVERLONG: &str = "(0202757000)*20000;";
+
 pub struct Limit {
     pub words: &'static str,
     pub page: Vec<u8>,

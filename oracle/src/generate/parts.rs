@@ -1,6 +1,7 @@
 //! Parts of records: literals, times, selectors, modifiers, groupings.
 
 use super::Generator;
+use crate::page::code::{is_comparison, is_set_operator};
 use crate::page::record::*;
 use crate::page::{MAX_AT_MILLISECONDS, MAX_NUMBER};
 
@@ -103,7 +104,7 @@ impl Generator<'_> {
             if self.random.chance(20) {
                 matcher.name = Text::from("__name__");
             }
-            if !accepts_empty(&matcher) {
+            if !matcher.accepts_empty() {
                 return matcher;
             }
         }
@@ -198,27 +199,4 @@ impl Generator<'_> {
             _ => Grouping::Without(self.labels()),
         }
     }
-}
-
-/// Document 01: what a matcher says about empty text.
-pub fn accepts_empty(matcher: &Matcher) -> bool {
-    match matcher.operation {
-        Operation::Equal => matcher.value.text.is_empty(),
-        Operation::NotEqual => !matcher.value.text.is_empty(),
-        Operation::Regex(flag) => flag,
-        Operation::NotRegex(flag) => !flag,
-    }
-}
-
-pub fn is_comparison(code: u8) -> bool {
-    [3, 4, 5, 8, 9, 13].contains(&code)
-}
-
-pub fn is_set_operator(code: u8) -> bool {
-    [6, 7, 10].contains(&code)
-}
-
-/// bottomk, count_values, quantile, topk, limitk, limit_ratio.
-pub fn has_parameter(code: u8) -> bool {
-    [18, 20, 24, 28, 29, 30].contains(&code)
 }

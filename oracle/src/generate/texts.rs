@@ -16,7 +16,6 @@ const LABELS: &[&str] = &[
 #[rustfmt::skip]
 const VALUES: &[&str] = &[
     "", "a", "b", "x", "prod", "a b", "\"", "\\", "\n", "\r", "\t", "\u{1}", "\u{b}", "'", "`", "{", "lot-17",
-   
 ];
 #[rustfmt::skip]
 const PATTERNS: &[&str] = &[

@@ -1,5 +1,6 @@
-//! The page of document 01: its records (`record`), how they are read (`read`) and written (`write`).
+//! The page of document 01: its records (`record`), their codes (`code`), how they are read (`read`) and written (`write`).
 
+pub mod code;
 pub mod read;
 pub mod record;
 pub mod write;

@@ -88,6 +88,18 @@ pub struct Matcher<'a> {
     pub value: Text<'a>,
 }
 
+impl Matcher<'_> {
+    /// Whether empty text is accepted; of a pattern the flag says so.
+    pub fn accepts_empty(&self) -> bool {
+        match self.operation {
+            Operation::Equal => self.value.text.is_empty(),
+            Operation::NotEqual => !self.value.text.is_empty(),
+            Operation::Regex(flag) => flag,
+            Operation::NotRegex(flag) => !flag,
+        }
+    }
+}
+
 #[derive(Debug, Clone, Copy, PartialEq, Eq)]
 pub enum At {
     Start,
@@ -120,6 +132,17 @@ pub struct Modifier<'a> {
     pub cardinality: Cardinality<'a>,
     pub left_fill: Option<Number>,
     pub right_fill: Option<Number>,
+}
+
+impl Modifier<'_> {
+    /// A modifier that says nothing.
+    pub const EMPTY: Self = Modifier {
+        is_bool: false,
+        matching: Matching::None,
+        cardinality: Cardinality::OneToOne,
+        left_fill: None,
+        right_fill: None,
+    };
 }
 
 #[derive(Debug, Clone, PartialEq)]

@@ -130,6 +130,22 @@ fn signature(page: &mut Vec<u8>, signature: &Signature) {
     number(page, signature.result.number());
 }
 
+fn binary(page: &mut Vec<u8>, code: u8, given: &Option<Modifier>) {
+    number(page, code.into());
+    number(page, given.is_some().into());
+    if let Some(given) = given {
+        modifier(page, given);
+    }
+}
+
+fn grouping(page: &mut Vec<u8>, grouping: &Grouping) {
+    match grouping {
+        Grouping::None => choice(page, 0, None),
+        Grouping::By(list) => choice(page, 1, Some(list)),
+        Grouping::Without(list) => choice(page, 2, Some(list)),
+    }
+}
+
 pub fn record(page: &mut Vec<u8>, record: &Record) {
     number(page, record.kind_number().into());
     match record {
@@ -153,31 +169,21 @@ pub fn record(page: &mut Vec<u8>, record: &Record) {
             number(page, *milliseconds);
         }
         Record::Unary | Record::Paren => {}
-        Record::Binary { code, modifier: m } => {
-            number(page, (*code).into());
-            number(page, m.is_some().into());
-            if let Some(m) = m {
-                modifier(page, m);
-            }
-        }
+        Record::Binary { code, modifier } => binary(page, *code, modifier),
         Record::Aggregate {
             code,
-            grouping,
+            grouping: list,
             arguments,
         } => {
             number(page, (*code).into());
-            match grouping {
-                Grouping::None => choice(page, 0, None),
-                Grouping::By(list) => choice(page, 1, Some(list)),
-                Grouping::Without(list) => choice(page, 2, Some(list)),
-            }
+            grouping(page, list);
             number(page, *arguments as u64);
         }
         Record::Call {
-            signature: s,
+            signature: called,
             arguments,
         } => {
-            signature(page, s);
+            signature(page, called);
             number(page, *arguments as u64);
         }
     }

@@ -2,10 +2,10 @@
 
 use crate::page::record::*;
 
-/// The first label of the group list that is in the on list too.
-pub fn joint_label<'r, 'a>(record: &'r Record<'a>) -> Option<&'r Text<'a>> {
-    let (on, group) = on_and_group(record)?;
-    group.iter().find(|label| is_in(on, label))
+/// The labels of the group list that are in the on list too, in order.
+pub fn joint_labels<'r, 'a>(record: &'r Record<'a>) -> impl Iterator<Item = &'r Text<'a>> {
+    let (on, group) = on_and_group(record).unwrap_or_default();
+    group.iter().filter(|label| is_in(on, label))
 }
 
 fn on_and_group<'r, 'a>(record: &'r Record<'a>) -> Option<(&'r [Text<'a>], &'r [Text<'a>])> {
@@ -30,13 +30,8 @@ fn is_in(list: &[Text], label: &Text) -> bool {
 
 /// The Rust takes its label of 19 out of a hash set: any label that both lists have.
 pub fn names_common_label(record: &Record, message: &str) -> bool {
-    on_and_group(record).is_some_and(|(on, group)| {
-        group.iter().filter(|label| is_in(on, label)).any(|label| {
-            let words = format!(
-                "label '{}' must not occur in ON and GROUP clause at once",
-                label.text
-            );
-            message == words
-        })
+    joint_labels(record).any(|label| {
+        let label = &label.text;
+        message == format!("label '{label}' must not occur in ON and GROUP clause at once")
     })
 }

@@ -7,7 +7,7 @@ mod pattern;
 mod ready;
 
 pub use guard::Stop;
-pub use joint::joint_label;
+pub use joint::joint_labels;
 pub use pattern::{matches_empty, pattern, Pattern};
 pub use ready::Ready;
 

@@ -2,7 +2,7 @@
 
 use crate::page::record::{Matcher, Operation};
 use promql_parser::label::{self, MatchOp};
-use promql_parser::parser::token::{TokenId, T_EQL_REGEX, T_NEQ_REGEX};
+use promql_parser::parser::token::{TokenId, T_EQL, T_EQL_REGEX, T_NEQ, T_NEQ_REGEX};
 use std::cell::RefCell;
 use std::collections::HashMap;
 
@@ -73,6 +73,20 @@ fn with_known<T>(pattern: &str, look: impl FnOnce(Option<&Known>) -> T) -> T {
     })
 }
 
+/// The matcher as the Rust makes it: `new_matcher` compiles a pattern each time. Only for patterns that its regex takes.
+pub fn compiled_matcher(matcher: &Matcher) -> label::Matcher {
+    let name = matcher.name.text.to_string();
+    let value = matcher.value.text.to_string();
+    let id = match matcher.operation {
+        Operation::Equal => T_EQL,
+        Operation::NotEqual => T_NEQ,
+        Operation::Regex(_) => T_EQL_REGEX,
+        Operation::NotRegex(_) => T_NEQ_REGEX,
+    };
+    label::Matcher::new_matcher(id, name, value).expect("the pattern is taken")
+}
+
+/// The same matcher, its pattern taken from those that were compiled before.
 pub fn matcher(matcher: &Matcher) -> label::Matcher {
     let name = matcher.name.text.as_ref();
     let value = matcher.value.text.as_ref();

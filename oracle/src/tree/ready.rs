@@ -3,7 +3,7 @@
 use super::{parts, pattern};
 use crate::page::record::*;
 use promql_parser::door;
-use promql_parser::label::Matchers;
+use promql_parser::label::{self, Matchers};
 use promql_parser::parser::token::TokenId;
 use promql_parser::parser::{
     AtModifier, BinModifier, Expr, Function, FunctionArgs, LabelModifier, Offset,
@@ -30,11 +30,7 @@ impl From<&Record<'_>> for Ready {
         match record {
             Record::Number(number) => Ready::Number(number.value()),
             Record::String(text) => Ready::String(text.text.to_string()),
-            Record::Selector { name, matchers } => {
-                let name = (!name.text.is_empty()).then(|| name.text.to_string());
-                let matchers = matchers.iter().map(pattern::matcher).collect();
-                Ready::Selector(name, Matchers::new(matchers))
-            }
+            Record::Selector { name, matchers } => selector(name, matchers, pattern::matcher),
             Record::Range(range) => Ready::Range(Duration::from_millis(*range)),
             Record::Subquery { range, step } => Ready::Subquery(
                 Duration::from_millis(*range),
@@ -65,6 +61,16 @@ impl From<&Record<'_>> for Ready {
 }
 
 impl Ready {
+    /// The parts as the Rust itself makes them, patterns compiled anew.
+    pub fn compiled(record: &Record) -> Self {
+        match record {
+            Record::Selector { name, matchers } => {
+                selector(name, matchers, pattern::compiled_matcher)
+            }
+            other => Ready::from(other),
+        }
+    }
+
     /// The constructor, on operands taken from the end of the stack; they were counted.
     pub fn construct(self, stack: &mut Vec<Expr>) -> Result<Expr, String> {
         match self {
@@ -92,6 +98,11 @@ impl Ready {
     pub fn build(self, stack: &mut Vec<Expr>) -> Result<Expr, String> {
         self.construct(stack).and_then(door::check_ast)
     }
+}
+
+fn selector(name: &Text, matchers: &[Matcher], make: fn(&Matcher) -> label::Matcher) -> Ready {
+    let name = (!name.text.is_empty()).then(|| name.text.to_string());
+    Ready::Selector(name, Matchers::new(matchers.iter().map(make).collect()))
 }
 
 fn last(stack: &mut Vec<Expr>) -> Expr {

@@ -24,13 +24,14 @@ enum-known-f-2 c = search needs
 returns : tie.Need-returns
 returns c =
     let e = rw (c .before .before .before .before .before .name .given .1) at (c .before .before .before .before .before .before .before .read-text .ensures .0) in
-    let f = rw (c .before .matchers .given .1) at (c .before .before .before .read-matchers .ensures) in
-    (simp (← e, ← f), rw (c .before .before .before .before .before .name .given .1) at (c .before .before .before .before .before .before .before .read-text .ensures .1))
+    let f = rw (c .before .matchers .given .1) at (c .before .before .before .read-matchers .ensures .0) in
+    let name = rw (c .before .before .before .before .before .name .given .1) at (c .before .before .before .before .before .before .before .read-text .ensures .1) in
+    (simp (← e, ← f), record { name = name; marked = rw (c .before .matchers .given .1) at (c .before .before .before .read-matchers .ensures .1) })
 
 returns-2 : tie.Need-returns-2
 returns-2 c =
     let e = rw (c .before .before .before .before .before .name .given .1) at (c .before .before .before .before .before .before .before .read-text .ensures .0) in
-    let g = rw (c .before .f .given .1) at (c .before .before .before .read-matchers .ensures) in
+    let g = rw (c .before .f .given .1) at (c .before .before .before .read-matchers .ensures .0) in
     (simp (← e, ← g), tt)
 
 returns-3 : tie.Need-returns-3

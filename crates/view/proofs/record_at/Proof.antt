@@ -23,7 +23,7 @@ enum-told : tie.Need-enum-told
 enum-told c = search needs
 
 returns : tie.Need-returns
-returns c = standing _ _ _ (c .before .item .given .0 .1 .0) (rw (c .before .item .given .1) at (c .before .before .before .read-record .ensures .0)) (rw (c .before .item .given .1) at (c .before .before .before .read-record .ensures .1 .lies))
+returns c = standing _ _ _ (c .before .item .given .0 .1 .0) (rw (c .before .item .given .1) at (c .before .before .before .read-record .ensures .0)) (rw (c .before .item .given .1) at (c .before .before .before .read-record .ensures .1))
 
 returns-2 : tie.Need-returns-2
 returns-2 c = absurd (unreadable _ (c .before .before .before .before .before .before .pre) (rw (c .enum-told .given .1) at (c .before .before .read-record .ensures .0)))

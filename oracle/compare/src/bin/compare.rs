@@ -2,12 +2,19 @@
 //!
 //!     compare fixed                       chosen pages, limits, every byte string of at most two bytes
 //!     compare seeds FIRST LAST THREADS    one round of generated pages for each seed
+//!     compare seeds FIRST LAST THREADS STATE
+//!                                         the same with progress, resumed from the file STATE if the run was stopped
 
 use compare::library::Library;
+use compare::resume::Run;
 use compare::run::{self, Tally};
+use std::path::Path;
 use std::process::ExitCode;
 
-const USAGE: &str = "usage: compare fixed | seeds FIRST LAST THREADS";
+const USAGE: &str = "usage: compare fixed | seeds FIRST LAST THREADS [STATE]";
+
+/// Seeds between two states: some ten seconds.
+const BLOCK: u64 = 1000;
 
 fn main() -> ExitCode {
     let arguments: Vec<String> = std::env::args().skip(1).collect();
@@ -16,7 +23,10 @@ fn main() -> ExitCode {
     let result = match words.as_slice() {
         _ if library.calls().is_empty() => Err("built without the library's calls".into()),
         ["fixed"] => run::fixed(library),
-        ["seeds", first, last, threads] => seeds(library, first, last, threads),
+        ["seeds", first, last, threads] => seeds(library, first, last, threads, None),
+        ["seeds", first, last, threads, state] => {
+            seeds(library, first, last, threads, Some(Path::new(state)))
+        }
         _ => Err(USAGE.into()),
     };
     match result {
@@ -31,11 +41,28 @@ fn main() -> ExitCode {
     }
 }
 
-fn seeds(library: Library, first: &str, last: &str, threads: &str) -> Result<Tally, String> {
+fn seeds(
+    library: Library,
+    first: &str,
+    last: &str,
+    threads: &str,
+    state: Option<&Path>,
+) -> Result<Tally, String> {
     let first = first.parse().map_err(|_| USAGE)?;
     let last = last.parse().map_err(|_| USAGE)?;
     let threads = threads.parse().map_err(|_| USAGE)?;
-    run::seeds(library, first..=last, threads)
+    let Some(state) = state else {
+        return run::seeds(library, first..=last, threads);
+    };
+    let run = Run {
+        library,
+        seeds: first..=last,
+        threads,
+        block: BLOCK,
+    };
+    let (tally, seconds) = run.resume(state)?;
+    println!("{seconds} s");
+    Ok(tally)
 }
 
 fn report(library: &Library, tally: &Tally) {

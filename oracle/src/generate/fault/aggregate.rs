@@ -1,8 +1,8 @@
 //! Faulty aggregates: refusals 14, 15, 24 and 25.
 
-use super::super::parts::has_parameter;
 use super::super::{Generator, Records};
 use super::checks::NOT_VECTOR;
+use crate::page::code::has_parameter;
 use crate::page::record::*;
 
 impl Generator<'_> {

@@ -1,7 +1,7 @@
 //! Faulty binaries: refusals 16 to 23, each with sides, a code and a modifier that no earlier row refuses.
 
-use super::super::parts::{is_comparison, is_set_operator};
 use super::super::{Generator, Records};
+use crate::page::code::{is_comparison, is_set_operator};
 use crate::page::record::*;
 
 impl Generator<'_> {

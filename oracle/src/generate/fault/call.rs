@@ -13,23 +13,18 @@ impl Generator<'_> {
         }
     }
 
+    fn kinds(&mut self, count: usize) -> Vec<Kind> {
+        let mut kind = || *self.random.pick(&Kind::ALL);
+        (0..count).map(|_| kind()).collect()
+    }
+
     pub(super) fn call_fault(&mut self, number: u8) -> (Records, Record<'static>) {
         let upper = self.random.between(1, 3);
         let some_extra = *self
             .random
             .pick(&[Extra::Unlimited, Extra::Upper(upper as u64)]);
         let (declared, extra, arguments) = match number {
-            26 => {
-                let declared = self.random.between(0, 4);
-                let arguments = *self
-                    .random
-                    .pick(&[declared + 1, declared + 2, declared / 2]);
-                if arguments == declared {
-                    (0, Extra::Fixed, 1)
-                } else {
-                    (declared, Extra::Fixed, arguments)
-                }
-            }
+            26 => self.wrong_count(),
             27 => {
                 let declared = self.random.between(2, 6);
                 (declared, some_extra, self.random.between(0, declared - 2))
@@ -43,9 +38,7 @@ impl Generator<'_> {
             29 => (0, some_extra, self.random.between(1, upper)),
             _ => return self.wrong_argument(),
         };
-        let kinds: Vec<Kind> = (0..declared)
-            .map(|_| *self.random.pick(&Kind::ALL))
-            .collect();
+        let kinds = self.kinds(declared);
         let before = (0..arguments)
             .flat_map(|_| self.one_of(&Kind::ALL))
             .collect();
@@ -59,15 +52,25 @@ impl Generator<'_> {
         )
     }
 
+    /// 26: the number of declared kinds, and another number of arguments.
+    fn wrong_count(&mut self) -> (usize, Extra, usize) {
+        let declared = self.random.between(0, 4);
+        let counts = [declared + 1, declared + 2, declared / 2];
+        let arguments = *self.random.pick(&counts);
+        if arguments == declared {
+            (0, Extra::Fixed, 1)
+        } else {
+            (declared, Extra::Fixed, arguments)
+        }
+    }
+
     /// 30: one argument of another kind than declared; or a literal that falls under no exception.
     fn wrong_argument(&mut self) -> (Records, Record<'static>) {
         if self.random.chance(30) {
             return self.unexcused_literal();
         }
         let declared = self.random.between(1, 3);
-        let kinds: Vec<Kind> = (0..declared)
-            .map(|_| *self.random.pick(&Kind::ALL))
-            .collect();
+        let kinds = self.kinds(declared);
         let (extra, arguments) = if self.random.chance(50) {
             (Extra::Fixed, declared)
         } else {

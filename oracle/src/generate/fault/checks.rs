@@ -1,6 +1,5 @@
 //! Faults that the constructors and `check_ast` find: refusals 6 to 34, and 2 by missing operands.
 
-use super::super::parts::accepts_empty;
 use super::super::{Generator, Records};
 use super::Fault;
 use crate::page::record::*;
@@ -196,7 +195,7 @@ impl Generator<'_> {
         let Record::Selector { mut matchers, .. } = self.selector() else {
             unreachable!("a selector was asked for")
         };
-        matchers.retain(accepts_empty);
+        matchers.retain(Matcher::accepts_empty);
         Record::Selector {
             name: Text::from(""),
             matchers,

@@ -33,8 +33,7 @@ step : (c : tie.After-bases Inv-loop μ-loop) →
 step c =
     let k = c .before .before .before .before .before .before .before .before .before .before .before .before .before .before in
     let read = rw (c .before .before .before .before .before .before .before .before .before .item .given .1) at (c .before .before .before .before .before .before .before .before .before .before .before .read-record .ensures .0) in
-    let also = rw (c .before .before .before .before .before .before .before .before .before .item .given .1) at (c .before .before .before .before .before .before .before .before .before .before .before .read-record .ensures .1) in
-    stepped (k .loop .inv) (c .before .before .before .before .before .before .before .before .before .before .before .before .before .loop-test .taken) (c .before .before .before .before .before .before .before .before .before .before .before .before .if2 .left) (c .before .before .before .before .before .before .before .before .before .item .given .0 .1 .0) read (also .inside)
+    stepped (k .loop .inv) (c .before .before .before .before .before .before .before .before .before .before .before .before .before .loop-test .taken) (c .before .before .before .before .before .before .before .before .before .before .before .before .if2 .left) (c .before .before .before .before .before .before .before .before .before .item .given .0 .1 .0) read
     (rw (c .before .before .node .given .1) at (c .before .before .before .before .judge-next .ensures)) (c .before .before .before .before .before .before .before .operand-count .result) (c .before .before .before .before .before .before .before .operand-count .ensures (now (k .before .before .before .before .before .args .page)))
 
 returns : tie.Need-returns Inv-loop μ-loop
@@ -85,7 +84,7 @@ slice-aggregate-judge-next-2 c = omega (arith, c .before .before .before .before
 judge-next-requires : tie.Need-judge-next-requires Inv-loop μ-loop
 judge-next-requires c κs = let read = rw (c .before .before .before .before .item .given .1) at (c .before .before .before .before .before .before .read-record .ensures .0) in
     let also = rw (c .before .before .before .before .item .given .1) at (c .before .before .before .before .before .before .read-record .ensures .1) in
-    (c .before .before .before .before .before .before .before .before .before .loop .inv .arrays .sized, (record { lies = also .lies; exact = of-got RecordExact (readRecord (drop (c .before .before .before .before .before .before .before .before .before .loop .at) (now (c .before .before .before .before .before .before .before .before .before .before .before .before .before .before .args .page)))) read (readRecord-exact (drop (c .before .before .before .before .before .before .before .before .before .loop .at) (now (c .before .before .before .before .before .before .before .before .before .before .before .before .before .before .args .page)))); takes = c .before .before .operand-count .ensures (now (c .before .before .before .before .before .before .before .before .before .before .before .before .before .before .args .page)) }, c .before .before .before .before .before .before .before .before .before .loop .inv .arrays .top-range))
+    (c .before .before .before .before .before .before .before .before .before .loop .inv .arrays .sized, (record { lies = also; exact = of-got RecordExact (readRecord (drop (c .before .before .before .before .before .before .before .before .before .loop .at) (now (c .before .before .before .before .before .before .before .before .before .before .before .before .before .before .args .page)))) read (readRecord-exact (drop (c .before .before .before .before .before .before .before .before .before .loop .at) (now (c .before .before .before .before .before .before .before .before .before .before .before .before .before .before .args .page)))); takes = c .before .before .operand-count .ensures (now (c .before .before .before .before .before .before .before .before .before .before .before .before .before .before .args .page)) }, c .before .before .before .before .before .before .before .before .before .loop .inv .arrays .top-range))
 
 enum-known-refusal : tie.Need-enum-known-refusal Inv-loop μ-loop
 enum-known-refusal c = search needs
@@ -145,14 +144,17 @@ array-write-values c = omega (arith, step (c .before .before .before) .high, ste
 array-write-bases : tie.Need-array-write-bases Inv-loop μ-loop
 array-write-bases c = omega (arith, step (c .before .before .before) .high, step (c .before .before .before) .low)
 
+within-requires : tie.Need-within-requires Inv-loop μ-loop
+within-requires c κs = search needs
+
 add-count : tie.Need-add-count Inv-loop μ-loop
-add-count c = omega (arith, c .before .before .before .before .before .before .before .before .before .before .before .before .before .before .before .before .before .loop .inv .progress .count-range)
+add-count c = omega (arith, c .before .before .before .before .before .before .before .before .before .before .before .before .before .before .before .before .before .before .loop .inv .progress .count-range)
 
 loop-less : tie.Need-loop-less Inv-loop μ-loop
-loop-less c = omega (arith, c .before .before .before .before .before .before .before .before .before .before .before .before .before .before .before .before .before .loop .inv .progress .count-range, c .before .before .before .before .before .before .before .before .before .before .before .before .before .before .before .if2 .left)
+loop-less c = omega (arith, c .before .before .before .before .before .before .before .before .before .before .before .before .before .before .before .before .before .before .loop .inv .progress .count-range, c .before .before .before .before .before .before .before .before .before .before .before .before .before .before .before .before .if2 .left)
 
 loop-again : tie.Need-loop-again Inv-loop μ-loop
-loop-again c = rw (c .before .form-of .ensures, c .value-of .ensures, c .before .before .first-record .ensures) (step (c .before .before .before) .held-again)
+loop-again c = rw (c .before .before .form-of .ensures, c .before .value-of .ensures, c .before .before .before .first-record .ensures) (step (c .before .before .before .before) .held-again (c .within .result) (c .within .ensures))
 
 same-length-7 : tie.Need-same-length-7 Inv-loop μ-loop
 same-length-7 c = omega (arith, c .before .before .loop .inv .tables .starts-size, c .before .before .before .before .before .before .before .pre .0)
@@ -225,6 +227,7 @@ walk-spec =
     mul-values
     array-write-values
     array-write-bases
+    within-requires
     add-count
     loop-less
     loop-again

@@ -1,27 +1,28 @@
--- `records::matcher::matchers_from` meets its contract. The loop's invariant: to pass over the list is to pass over what is left of it. Assumes nothing.
-use Rattle.page.proofs.ListLaws.{passed, passed-more, all-read, one-refused}
-use Rattle.records.specs.Matcher.{readMatcher}
+-- `records::matcher::matchers_from` meets its contract. The loop's invariant: what was seen and what is left of the list make the whole. Assumes nothing.
 use denote.Ref.{now}
 use lib.ListN.{drop}
-use mathlib.Core.Path.{_≡_, refl, _∙_}
+use mathlib.Core.Path.{refl}
+use Rattle.page.proofs.ListLaws.{all-read, one-refused}
+use Rattle.records.specs.Matcher.{readMatcher}
+use Rattle.records.proofs.MarkLaws.{Marked, marked-more, all-marked, marks-refused-list}
 use borrow.Author.Needs.{needs}
 use Rattle.records.proofs.matcher.matchers_from.Statement.{statement}
 use Rattle.records.proofs.matcher.matchers_from.Tie as tie
 
 abbrev Inv-loop : tie.InvT-loop
-Inv-loop page start count left₀ at₀ left at = passed readMatcher count (drop start page) ≡ passed readMatcher left (drop at page)
+Inv-loop page start count left₀ at₀ named₀ empty₀ left at named empty = Marked count (drop start page) left (drop at page) named empty
 
 abbrev μ-loop : tie.MeasureT-loop
-μ-loop page start count left₀ at₀ left at = left
+μ-loop page start count left₀ at₀ named₀ empty₀ left at named empty = left
 
 loop-holds : tie.Need-loop-holds Inv-loop μ-loop
-loop-holds c = refl
+loop-holds c = record { passes = refl; names = refl; accept = refl }
 
-read-matcher-requires : tie.Need-read-matcher-requires Inv-loop μ-loop
-read-matcher-requires c κs = search needs
+mark-matcher-requires : tie.Need-mark-matcher-requires Inv-loop μ-loop
+mark-matcher-requires c κs = search needs
 
-enum-known-next : tie.Need-enum-known-next Inv-loop μ-loop
-enum-known-next c = search needs
+enum-known-name : tie.Need-enum-known-name Inv-loop μ-loop
+enum-known-name c = search needs
 
 sub-left : tie.Need-sub-left Inv-loop μ-loop
 sub-left c = search needs
@@ -30,18 +31,21 @@ loop-less : tie.Need-loop-less Inv-loop μ-loop
 loop-less c = search needs
 
 loop-again : tie.Need-loop-again Inv-loop μ-loop
-loop-again c = let e = rw (c .before .next .given .1) at (c .before .before .before .read-matcher .ensures .0) in
-    c .before .before .before .before .before .loop .inv ∙ passed-more readMatcher (c .before .before .before .before .before .loop .left) (drop (c .before .before .before .before .before .loop .at) (now (c .before .before .before .before .before .before .before .args .page))) (c .before .before .before .before .loop-test .taken) e
+loop-again c =
+    let e = rw (c .before .name .given .1) at (c .before .before .before .mark-matcher .ensures) in
+    marked-more (c .before .before .before .before .before .before .before .args .count) (drop (c .before .before .before .before .before .before .before .args .start) (now (c .before .before .before .before .before .before .before .args .page))) (c .before .before .before .before .before .loop .left) (drop (c .before .before .before .before .before .loop .at) (now (c .before .before .before .before .before .before .before .args .page))) _ (c .before .before .before .before .before .loop .named) (c .before .before .before .before .before .loop .empty) _ _ (c .before .before .before .before .before .loop .inv) (c .before .before .before .before .loop-test .taken) e
 
 enum-known-f : tie.Need-enum-known-f Inv-loop μ-loop
 enum-known-f c = search needs
 
 returns : tie.Need-returns Inv-loop μ-loop
-returns c = let e = rw (c .before .f .given .1) at (c .before .before .before .read-matcher .ensures .0) in
-    one-refused readMatcher _ _ (c .before .before .before .before .before .loop .left) (drop (c .before .before .before .before .before .loop .at) (now (c .before .before .before .before .before .before .before .args .page))) (c .before .before .before .before .before .loop .inv) (c .before .before .before .before .loop-test .taken) e
+returns c =
+    let e = rw (c .before .f .given .1) at (c .before .before .before .mark-matcher .ensures) in
+    (one-refused readMatcher _ _ (c .before .before .before .before .before .loop .left) (drop (c .before .before .before .before .before .loop .at) (now (c .before .before .before .before .before .before .before .args .page))) (c .before .before .before .before .before .loop .inv .passes) (c .before .before .before .before .loop-test .taken) (marks-refused-list (drop (c .before .before .before .before .before .loop .at) (now (c .before .before .before .before .before .before .before .args .page))) e), tt)
 
 returns-2 : tie.Need-returns-2 Inv-loop μ-loop
-returns-2 c = all-read readMatcher _ _ (c .before .loop .left) (drop (c .before .loop .at) (now (c .before .before .before .args .page))) (c .before .loop .inv) (c .loop-test .left)
+returns-2 c =
+    (all-read readMatcher _ _ (c .before .loop .left) (drop (c .before .loop .at) (now (c .before .before .before .args .page))) (c .before .loop .inv .passes) (c .loop-test .left), all-marked (c .before .before .before .args .count) (drop (c .before .before .before .args .start) (now (c .before .before .before .args .page))) (c .before .loop .left) _ (c .before .loop .named) (c .before .loop .empty) (c .before .loop .inv) (c .loop-test .left))
 
 pub matchers-from-spec : {M : Type 1} → statement M
 matchers-from-spec =
@@ -50,8 +54,8 @@ matchers-from-spec =
     Inv-loop
     μ-loop
     loop-holds
-    read-matcher-requires
-    enum-known-next
+    mark-matcher-requires
+    enum-known-name
     sub-left
     loop-less
     loop-again

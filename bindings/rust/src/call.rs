@@ -1,0 +1,177 @@
+//! The library's calls as safe functions.
+
+use crate::{Kind, Refusal, Rule};
+
+extern "C" {
+    fn sandzguli_check(page: *const u8, page_len: usize) -> u64;
+    fn sandzguli_joint_label(page: *const u8, page_len: usize) -> u64;
+    fn sandzguli_copy(page: *const u8, page_len: usize, out: *mut u8, out_len: usize) -> u64;
+    fn sandzguli_canonical(page: *const u8, page_len: usize, out: *mut u8, out_len: usize) -> u64;
+    fn sandzguli_split(page: *const u8, page_len: usize, out: *mut u8, out_len: usize) -> u64;
+}
+
+type Writes = unsafe extern "C" fn(*const u8, usize, *mut u8, usize) -> u64;
+
+/// The longest copy of an accepted page (proved: `copyPage-length`).
+const COPY_BYTES: usize = 8827;
+
+/// Room for the first try at a text; most fit.
+const TEXT_BYTES: usize = 4096;
+
+/// What an accepted call wrote.
+#[derive(Debug, Clone, Copy, PartialEq, Eq)]
+pub struct Written {
+    /// The kind of the query.
+    pub kind: Kind,
+    /// How many bytes were written, from the buffer's start.
+    pub bytes: usize,
+}
+
+/// The outcome that a word stands for.
+fn outcome(word: u64) -> Result<Written, Refusal> {
+    if word >> 63 == 1 {
+        let rule = Rule::of_number(word >> 16 & 0xff).expect("a refusal is in the table");
+        let record = (word & 0xffff) as usize;
+        return Err(Refusal { rule, record });
+    }
+    let kind = Kind::ALL[(word & 3) as usize];
+    let bytes = (word >> 2) as usize;
+    Ok(Written { kind, bytes })
+}
+
+fn written(call: Writes, page: &[u8], out: &mut [u8]) -> Result<Written, Refusal> {
+    // SAFETY: both are slices, and a borrowed page does not overlap a buffer that is borrowed mutably.
+    outcome(unsafe { call(page.as_ptr(), page.len(), out.as_mut_ptr(), out.len()) })
+}
+
+/// The bytes that a call writes. A longer buffer is lent as long as it is too short.
+fn owned(call: Writes, page: &[u8], first_room: usize) -> Result<Vec<u8>, Refusal> {
+    let mut out = vec![0; first_room];
+    loop {
+        match written(call, page, &mut out) {
+            Ok(written) => {
+                out.truncate(written.bytes);
+                return Ok(out);
+            }
+            Err(refusal) if refusal.rule == Rule::OutputTooShort => out.resize(2 * out.len(), 0),
+            Err(refusal) => return Err(refusal),
+        }
+    }
+}
+
+fn owned_text(call: Writes, page: &[u8]) -> Result<String, Refusal> {
+    let text = owned(call, page, TEXT_BYTES)?;
+    Ok(String::from_utf8(text).expect("a text has bytes below 128"))
+}
+
+/// The kind of the query that a page holds, or why it is refused. Any byte string may be asked about.
+///
+/// ```
+/// use sandzguli::Kind;
+///
+/// assert_eq!(sandzguli::check(b"\x02\x02up\x00"), Ok(Kind::Vector));
+/// assert_eq!(sandzguli::check(b"").unwrap_err().number(), 2);
+/// ```
+pub fn check(page: &[u8]) -> Result<Kind, Refusal> {
+    // SAFETY: the page is a slice.
+    let word = unsafe { sandzguli_check(page.as_ptr(), page.len()) };
+    outcome(word).map(|written| written.kind)
+}
+
+/// The label of a page refused with 19, as that part of the page: the first group label that is also in the on list.
+///
+/// ```
+/// use sandzguli::page::{BinModifier, Cardinality, Code, LabelModifier, Page, Record};
+///
+/// let modifier = BinModifier {
+///     matching: LabelModifier::on(["job", "instance"]),
+///     cardinality: Cardinality::group_left(["instance"]),
+///     ..BinModifier::default()
+/// };
+/// let up = Record::selector("up", []);
+/// let page = Page::from([up.clone(), up, Record::binary_with(Code::Mul, modifier)]).to_bytes();
+/// assert_eq!(sandzguli::joint_label(&page), Some("instance".as_bytes()));
+/// assert_eq!(sandzguli::joint_label(b""), None);
+/// ```
+pub fn joint_label(page: &[u8]) -> Option<&[u8]> {
+    let refusal = check(page).err()?;
+    if refusal.rule != Rule::LabelInBothLists {
+        return None;
+    }
+    // SAFETY: the page is a slice.
+    let word = unsafe { sandzguli_joint_label(page.as_ptr(), page.len()) };
+    let start = (word >> 8) as usize;
+    let length = (word & 0xff) as usize;
+    Some(&page[start..start + length])
+}
+
+/// The page of the checked query: numbers under unary records are negated, set operators many-to-many.
+///
+/// ```
+/// assert_eq!(sandzguli::copy(b"\x00\x00\x05\x07").unwrap(), b"\x00\x01\x05");
+/// ```
+pub fn copy(page: &[u8]) -> Result<Vec<u8>, Refusal> {
+    owned(sandzguli_copy, page, COPY_BYTES)
+}
+
+/// [`copy`] into a lent buffer. A refusal changes no byte of it, an accepted call only the bytes that it reports.
+///
+/// ```
+/// use sandzguli::{Kind, Rule, Written};
+///
+/// let mut out = [7; 4];
+/// let written = sandzguli::copy_into(b"\x00\x00\x05\x07", &mut out);
+/// assert_eq!(written, Ok(Written { kind: Kind::Scalar, bytes: 3 }));
+/// assert_eq!(out, [0, 1, 5, 7]);
+///
+/// let refusal = sandzguli::copy_into(b"\x00\x00\x05\x07", &mut out[..2]).unwrap_err();
+/// assert_eq!(refusal.rule, Rule::OutputTooShort);
+/// ```
+pub fn copy_into(page: &[u8], out: &mut [u8]) -> Result<Written, Refusal> {
+    written(sandzguli_copy, page, out)
+}
+
+/// The query on one line.
+///
+/// ```
+/// assert_eq!(sandzguli::canonical(b"\x00\x00\x05\x07").unwrap(), "-5");
+/// ```
+pub fn canonical(page: &[u8]) -> Result<String, Refusal> {
+    owned_text(sandzguli_canonical, page)
+}
+
+/// [`canonical`] into a lent buffer. A refusal changes no byte of it, an accepted call only the bytes that it reports.
+///
+/// ```
+/// let mut out = *b"    ";
+/// let written = sandzguli::canonical_into(b"\x02\x02up\x00", &mut out).unwrap();
+/// assert_eq!((written.bytes, &out), (2, b"up  "));
+/// ```
+pub fn canonical_into(page: &[u8], out: &mut [u8]) -> Result<Written, Refusal> {
+    written(sandzguli_canonical, page, out)
+}
+
+/// The query on several lines where it is longer than 100 bytes, two spaces a level; no line feed at the end.
+///
+/// ```
+/// use sandzguli::page::{Code, Page, Record};
+///
+/// let name = |letter: &str| Record::selector(letter.repeat(49), []);
+/// let page = Page::from([name("a"), name("b"), Record::binary(Code::Add)]).to_bytes();
+/// let lines = format!("  {}\n+\n  {}", "a".repeat(49), "b".repeat(49));
+/// assert_eq!(sandzguli::split(&page).unwrap(), lines);
+/// ```
+pub fn split(page: &[u8]) -> Result<String, Refusal> {
+    owned_text(sandzguli_split, page)
+}
+
+/// [`split`] into a lent buffer. A refusal changes no byte of it, an accepted call only the bytes that it reports.
+///
+/// ```
+/// let mut out = [0; 2];
+/// sandzguli::split_into(b"\x02\x02up\x00", &mut out).unwrap();
+/// assert_eq!(&out, b"up");
+/// ```
+pub fn split_into(page: &[u8], out: &mut [u8]) -> Result<Written, Refusal> {
+    written(sandzguli_split, page, out)
+}

@@ -1,0 +1,50 @@
+//! PromQL queries as byte pages, checked and printed.
+//!
+//! A page holds a query as records in postfix order: operands first, then what takes them. [`page::Page`] makes one from records
+//! and reads one back; the functions below take any byte string.
+//!
+//! ```
+//! use sandzguli::page::{Code, Function, LabelModifier, Matcher, Page, Record};
+//! use sandzguli::Kind;
+//!
+//! let rate = Function::fixed("rate", [Kind::Matrix], Kind::Vector);
+//! let page = Page::from([
+//!     Record::selector("http_requests_total", [Matcher::equal("job", "api")]),
+//!     Record::Range(300_000),
+//!     Record::call(rate, 1),
+//!     Record::aggregate(Code::Sum, LabelModifier::by(["instance"]), 1),
+//! ])
+//! .to_bytes();
+//!
+//! assert_eq!(sandzguli::check(&page), Ok(Kind::Vector));
+//! assert_eq!(
+//!     sandzguli::canonical(&page).unwrap(),
+//!     r#"sum by (instance) (rate(http_requests_total{job="api"}[5m]))"#
+//! );
+//! ```
+//!
+//! A page that is no query is refused with a [`Rule`] and the record that breaks it:
+//!
+//! ```
+//! use sandzguli::page::{Page, Record};
+//! use sandzguli::Rule;
+//!
+//! let page = Page::from([Record::string("a"), Record::Unary]).to_bytes();
+//! let refusal = sandzguli::check(&page).unwrap_err();
+//! assert_eq!((refusal.rule, refusal.record), (Rule::UnaryOnLiteral, 1));
+//! assert_eq!(refusal.to_string(), "refused 6 at 1: unary on literal");
+//! ```
+//!
+//! The calls are those of the proved library `libsandzguli.a`, which keep nothing between them and allocate nothing: any
+//! thread may call at any time. The functions that answer with an owned value allocate it.
+
+mod call;
+mod kind;
+pub mod page;
+mod refusal;
+
+pub use call::{
+    canonical, canonical_into, check, copy, copy_into, joint_label, split, split_into, Written,
+};
+pub use kind::Kind;
+pub use refusal::{Refusal, Rule};

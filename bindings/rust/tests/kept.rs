@@ -1,0 +1,83 @@
+//! The functions answer as the Rust does on the kept list; its records are read, and written as they stand there.
+
+mod support;
+
+use sandzguli::page::Page;
+use sandzguli::{Kind, Refusal, Rule};
+use support::Entry;
+
+/// The outcome that the list has for a page.
+fn outcome(entry: &Entry) -> Result<Kind, Refusal> {
+    if entry.word < 1 << 63 {
+        return Ok(Kind::of_number(entry.word).expect("a kind"));
+    }
+    let rule = Rule::of_number(entry.word >> 16 & 0xff).expect("a rule");
+    let record = (entry.word & 0xffff) as usize;
+    Err(Refusal { rule, record })
+}
+
+#[test]
+fn calls_answer_as_the_list_has_it() {
+    for entry in support::entries() {
+        let page = entry.page.as_slice();
+        let outcome = outcome(&entry);
+        assert_eq!(sandzguli::check(page), outcome);
+        let canonical = sandzguli::canonical(page).map(String::into_bytes);
+        assert_eq!(canonical, outcome.map(|_| entry.canonical));
+        let split = sandzguli::split(page).map(String::into_bytes);
+        assert_eq!(split, outcome.map(|_| entry.split));
+        assert_eq!(sandzguli::copy(page), outcome.map(|_| entry.copy));
+        let is_joint = outcome.is_err_and(|refusal| refusal.rule == Rule::LabelInBothLists);
+        let (start, length) = entry.label;
+        let label = is_joint.then(|| &page[start..start + length]);
+        assert_eq!(sandzguli::joint_label(page), label);
+    }
+}
+
+#[test]
+fn lent_buffers_are_as_before_behind_the_text() {
+    for entry in support::entries().iter().filter(|entry| entry.word < 4) {
+        let mut out = vec![0xa5; entry.split.len() + 1];
+        let written = sandzguli::split_into(&entry.page, &mut out).expect("there is room");
+        assert_eq!(written.bytes, entry.split.len());
+        assert_eq!(out.pop(), Some(0xa5));
+        assert_eq!(out, entry.split);
+        let mut short = vec![0xa5; entry.canonical.len() - 1];
+        let refusal = sandzguli::canonical_into(&entry.page, &mut short).unwrap_err();
+        assert_eq!(refusal.rule, Rule::OutputTooShort);
+        assert!(short.iter().all(|byte| *byte == 0xa5));
+    }
+}
+
+#[test]
+fn pages_are_read_and_written_again() {
+    let (mut accepted, mut written) = (0, 0);
+    for entry in support::entries() {
+        accepted += u32::from(outcome(&entry).is_ok());
+        match (Page::read(&entry.page), outcome(&entry)) {
+            (Ok(page), _) => {
+                assert_eq!(page.to_bytes(), entry.page);
+                assert_eq!(Page::read(&page.to_bytes()), Ok(page));
+                written += 1;
+            }
+            (Err(unread), Ok(_)) => panic!("an accepted page has {unread}"),
+            (Err(unread), Err(refusal)) if refusal.record < unread.record => {}
+            // The same record: what cannot be read comes first.
+            (Err(unread), Err(refusal)) => assert_eq!(unread, refusal),
+        }
+    }
+    // Many refused pages end in bytes that are no record; the others are written again too.
+    assert!(written > accepted, "{written} pages, {accepted} accepted");
+}
+
+#[test]
+fn what_check_cannot_read_is_not_read() {
+    let unreadable = [Rule::BadField, Rule::PastLimit, Rule::BadText];
+    for entry in support::entries() {
+        if let Err(refusal) = outcome(&entry) {
+            if unreadable.contains(&refusal.rule) {
+                assert_eq!(Page::read(&entry.page), Err(refusal));
+            }
+        }
+    }
+}

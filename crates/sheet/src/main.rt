@@ -1,0 +1,26 @@
+// The program `sheet`: a page on standard input; on standard output its split text, or `refused N at R`, and a line feed.
+//
+// At most one byte more than a page may have is read: what is written depends on no more (`output-first`, crate sandzguli).
+use sandzguli::sheet::put_sheet;
+
+// A count of bytes says neither that the input has ended nor that it failed; another read does.
+fn input_failed() -> bool {
+    let mut more = [0u8; 1];
+    libc::read(0, &mut more) < 0
+}
+
+fn main() {
+    let mut page = [0u8; 8193];
+    let n = io::read_full(0, &mut page);
+    if n < 8193 {
+        if input_failed() {
+            io::write_all(2, b"sheet: the input cannot be read\n");
+            return;
+        }
+    }
+    let mut out = [0u8; 65537];
+    let end = put_sheet(&page[..n], &mut out);
+    if !io::write_all(1, &out[..end]) {
+        io::write_all(2, b"sheet: the output cannot be written\n");
+    }
+}

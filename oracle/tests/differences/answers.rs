@@ -1,0 +1,128 @@
+//! In every row the column of the port has the oracle's answer to the row's page; the first section is true of the Rust.
+
+use crate::document::{quoted, row, rows};
+use crate::search::worked;
+use oracle::answer::{self, Domain, Outcome};
+use oracle::chosen::spelled;
+use oracle::page::record::{Operation, Record};
+use oracle::{hex, tree};
+use promql_parser::label::Matcher;
+use promql_parser::parser::token::T_EQL_REGEX;
+use std::collections::HashSet;
+
+/// The bytes of a text of the document, in which `<01>` stands for the byte 1.
+fn bytes(text: &str) -> Vec<u8> {
+    spelled(&text.replace("<01>", "\u{1}").replace("<0a>", "\n"))
+}
+
+pub fn is_told(page: &[u8], cell: &str) -> bool {
+    let answer = answer::answer(page).expect("the Rust is foreseen");
+    if let Outcome::Refused { number, record } = answer.outcome {
+        return cell.starts_with(&format!("refused {number} at {record}"));
+    }
+    let cell = cell.trim_start_matches("accepts, ");
+    let text = quoted(cell).expect("a text between backquotes");
+    if cell.starts_with("splits `") {
+        return bytes(text) == answer.split;
+    }
+    cell.starts_with("prints `") && text.replace("<01>", "\u{1}").as_bytes() == answer.canonical
+}
+
+#[test]
+fn every_row_has_the_oracles_answer() {
+    let rows = rows();
+    for row in &rows {
+        assert!(is_told(&row.page, row.port), "{}: {}", row.number, row.port);
+    }
+    assert!(rows.len() > 65, "{} rows", rows.len());
+}
+
+#[test]
+fn row_1_the_rust_panics() {
+    let row = row("1");
+    let message = worked(&row.page).message.expect("the Rust's words");
+    assert!(row.rust.contains(&format!("`{message}`")), "{message}");
+}
+
+#[test]
+fn row_2_the_rust_names_either_label() {
+    let page = row("2").page;
+    let messages: HashSet<_> = (0..200).map(|_| worked(&page).message).collect();
+    assert_eq!(messages.len(), 2, "{messages:?}");
+    let part = worked(&page).label.expect("a label");
+    assert_eq!((part.start, part.length, page[part.start]), (16, 1, b'a'));
+}
+
+/// The page with every flag true to its pattern; nothing if a pattern is not taken.
+pub fn with_true_flags(records: &[Record]) -> Option<Vec<u8>> {
+    let mut records = records.to_vec();
+    for record in &mut records {
+        let Record::Selector { matchers, .. } = record else {
+            continue;
+        };
+        for matcher in matchers {
+            let truth = tree::matches_empty(&matcher.value.text);
+            match &mut matcher.operation {
+                Operation::Regex(flag) | Operation::NotRegex(flag) => *flag = truth?,
+                Operation::Equal | Operation::NotEqual => {}
+            }
+        }
+    }
+    Some(oracle::page::write::page(&records))
+}
+
+#[test]
+fn row_4a_the_rust_asks_the_pattern() {
+    let page = row("4a").page;
+    let true_page = with_true_flags(&worked(&page).records).expect("the pattern is taken");
+    assert_eq!(hex::text(&true_page), "02000102000001");
+    let outcome = worked(&true_page).outcome;
+    let refused = Outcome::Refused {
+        number: 34,
+        record: 0,
+    };
+    assert_eq!(outcome, refused);
+}
+
+#[test]
+fn row_4b_the_rust_makes_no_matcher() {
+    let made = Matcher::new_matcher(T_EQL_REGEX, String::new(), "(".into());
+    let message = made.expect_err("the pattern is not taken");
+    assert!(
+        row("4b").rust.contains(&format!("`{message}`")),
+        "{message}"
+    );
+    for row in rows().iter().filter(|row| row.number == "A21") {
+        assert_eq!(worked(&row.page).domain, Domain::PatternNotTaken);
+    }
+}
+
+#[test]
+fn row_4c_the_rust_takes_the_braces_as_text() {
+    let row = row("4c");
+    assert_eq!(worked(&row.page).domain, Domain::Inside);
+    assert!(is_told(&row.page, row.rust));
+}
+
+#[test]
+fn entry_3_codes_have_document_01s_order() {
+    let words = "+ / == >= > and or < <= unless % * != ^ - atan2 avg bottomk count count_values group max min quantile stddev \
+                 stdvar sum topk limitk limit_ratio";
+    for (index, word) in words.split_whitespace().enumerate() {
+        let code = index + 1;
+        let (notation, text) = match code {
+            1..=16 => (
+                format!("(02016100)*2; 09{code:02x}00"),
+                format!("a {word} a"),
+            ),
+            20 => ("0100 02016100 0a140002".into(), format!("{word}(\"\", a)")),
+            18 | 24 | 28.. => (
+                format!("0002 02016100 0a{code:02x}0002"),
+                format!("{word}(NaN, a)"),
+            ),
+            _ => (format!("02016100 0a{code:02x}0001"), format!("{word}(a)")),
+        };
+        let answer = answer::answer(&hex::bytes(&notation)).expect("the Rust is foreseen");
+        assert_eq!(String::from_utf8_lossy(&answer.canonical), text);
+    }
+}

@@ -1,0 +1,9 @@
+//! docs/DIFFERENCES.md tells the truth: the answers of its rows, and how small their pages are.
+
+mod also;
+mod answers;
+mod document;
+mod queries;
+mod records;
+mod search;
+mod smallest;

@@ -1,0 +1,104 @@
+//! Rows 1 to 5: the port and the Rust.
+
+use super::{is_smallest, TEXTS};
+use crate::answers::with_true_flags;
+use crate::document::row;
+use crate::records::Records;
+use crate::search::{beginnings, expressions, worked};
+use oracle::answer::{Domain, Outcome, Worked};
+use oracle::page::record::*;
+use oracle::{generate, hex, tree};
+use std::collections::HashSet;
+
+fn is_refused(worked: &Worked, refusal: u8) -> bool {
+    matches!(worked.outcome, Outcome::Refused { number, .. } if number == refusal)
+}
+
+#[test]
+fn row_1_no_declared_kinds() {
+    is_smallest("1", 11, |worked| is_refused(worked, 29));
+}
+
+/// Two labels or more stand in both lists, so that the Rust may name either.
+fn has_two_common_labels(record: &Record) -> bool {
+    let distinct: HashSet<_> = tree::joint_labels(record)
+        .map(|label| &label.text)
+        .collect();
+    distinct.len() >= 2
+}
+
+/// Three bytes make one expression at most, so two operands have four; the record would have to be shorter than the row's.
+#[test]
+fn row_2_two_common_labels() {
+    let page = row("2").page;
+    let operands = hex::bytes("0002 0002");
+    let shows = |page: &[u8]| {
+        let worked = worked(page);
+        is_refused(&worked, 19) && worked.records.last().is_some_and(has_two_common_labels)
+    };
+    assert!(page.starts_with(&operands) && shows(&page));
+    assert!(beginnings(3, TEXTS)
+        .iter()
+        .all(|page| expressions(page) < 2));
+    let found = |limit: usize| {
+        let records = Records {
+            limit,
+            texts: &["", "a"],
+        }
+        .of_kind(9);
+        let mut pages = records
+            .iter()
+            .map(|record| [&operands, record.as_slice()].concat());
+        pages.any(|page| shows(&page))
+    };
+    let length = page.len() - operands.len();
+    assert!(!found(length - 1) && found(length));
+}
+
+#[test]
+fn row_4a_untrue_flag() {
+    is_smallest("4a", 2, |page| {
+        let true_page = with_true_flags(&page.records);
+        page.domain == Domain::FlagUntrue
+            && true_page.is_some_and(|true_page| worked(&true_page).outcome != page.outcome)
+    });
+}
+
+#[test]
+fn row_4b_pattern_not_taken() {
+    is_smallest("4b", 2, |page| page.domain == Domain::PatternNotTaken);
+}
+
+/// A letter and a repeat without its lower count.
+fn repeats_from_nothing(page: &Worked) -> bool {
+    let Some(Record::Selector { matchers, .. }) = page.records.last() else {
+        return false;
+    };
+    let is_regex = |matcher: &&Matcher| {
+        matches!(
+            matcher.operation,
+            Operation::Regex(_) | Operation::NotRegex(_)
+        )
+    };
+    matchers.iter().filter(is_regex).any(|matcher| {
+        let after_letter = matcher.value.text.split_once("a{,").map(|(_, after)| after);
+        after_letter.is_some_and(|after| after.starts_with("3}"))
+    })
+}
+
+#[test]
+fn row_4c_repeat_without_lower_count() {
+    is_smallest("4c", 2, repeats_from_nothing);
+}
+
+/// Every byte string of at most two bytes is tried.
+#[test]
+fn entry_5_smallest_refused_pages() {
+    for (number, refusal) in [("5a", 1), ("5b", 2), ("5c", 3), ("5d", 4)] {
+        let page = row(number).page;
+        let mut shorter = generate::shortest().filter(|each| each.len() < page.len());
+        assert!(page.len() <= 3 && is_refused(&worked(&page), refusal));
+        assert!(!shorter.any(|page| is_refused(&worked(&page), refusal)));
+        assert_eq!(worked(&page).message, None);
+    }
+}

@@ -1,0 +1,111 @@
+//! docs/REFUSALS.md tells the truth: every row's page is refused so by the oracle, and is the example that the definitions'
+//! table of refusals has.
+
+use oracle::answer::{self, Outcome};
+use oracle::{chosen, hex};
+
+const DOCUMENT: &str = include_str!("../../docs/REFUSALS.md");
+const DEFINITIONS: &str = include_str!("../../crates/ast/specs/RefusalTable.antt");
+
+/// A refusal's number, its example and the record at which it is refused.
+#[derive(Debug, Clone, PartialEq)]
+struct Row {
+    number: u8,
+    page: Vec<u8>,
+    record: usize,
+}
+
+/// The rows of the document's table.
+fn told() -> Vec<Row> {
+    let row = |line: &str| {
+        let cells: Vec<_> = line.trim_matches('|').split(" | ").map(str::trim).collect();
+        Some(Row {
+            number: cells[0].parse().ok()?,
+            page: hex::bytes(cells[4].trim_matches('`').trim_start_matches("no bytes")),
+            record: cells[5].parse().expect("a record"),
+        })
+    };
+    DOCUMENT.lines().filter_map(row).collect()
+}
+
+/// The rows of the definitions' table: `row 6 1 (text ++ (0x07 ∷ []))`.
+fn defined() -> Vec<Row> {
+    let row = |line: &str| {
+        let words = line.trim().trim_start_matches("∷ ").strip_prefix("row ")?;
+        let (number, rest) = words.split_once(' ')?;
+        let (record, page) = rest.split_once(' ')?;
+        Some(Row {
+            number: number.parse().ok()?,
+            page: list(page),
+            record: record.parse().ok()?,
+        })
+    };
+    DEFINITIONS.lines().filter_map(row).collect()
+}
+
+/// A list of bytes as the definitions have it: bytes, names of lists and repeated bytes, joined.
+fn list(words: &str) -> Vec<u8> {
+    let words = words.replace(['(', ')', '∷'], " ").replace("++", " ");
+    let mut words = words.split_whitespace();
+    let mut bytes = Vec::new();
+    while let Some(word) = words.next() {
+        match word {
+            "[]" => {}
+            "replicate" => {
+                let times = words.next().and_then(|times| times.parse().ok());
+                let byte = byte(words.next().expect("the byte to repeat"));
+                bytes.extend(vec![byte; times.expect("how often")]);
+            }
+            _ if word.starts_with("0x") => bytes.push(byte(word)),
+            name => bytes.extend(named(name)),
+        }
+    }
+    bytes
+}
+
+fn byte(word: &str) -> u8 {
+    let digits = word.strip_prefix("0x").expect("hexadecimal digits");
+    u8::from_str_radix(digits, 16).expect("hexadecimal digits")
+}
+
+/// A list that the definitions give a name: `up = 0x02 ∷ ..`.
+fn named(name: &str) -> Vec<u8> {
+    let begins = format!("{name} = ");
+    let line = DEFINITIONS
+        .lines()
+        .find_map(|line| line.strip_prefix(&begins));
+    list(line.unwrap_or_else(|| panic!("{name} has a definition")))
+}
+
+#[test]
+fn the_document_has_the_definitions_examples() {
+    let told = told();
+    let numbers: Vec<_> = told.iter().map(|row| row.number).collect();
+    assert_eq!(numbers, (1..=34).collect::<Vec<_>>());
+    let without_5: Vec<_> = told.into_iter().filter(|row| row.number != 5).collect();
+    assert_eq!(without_5, defined());
+}
+
+#[test]
+fn the_document_has_the_oracles_answers() {
+    for row in told() {
+        let answer = answer::answer(&row.page).expect("the Rust is foreseen");
+        let expected = Outcome::Refused {
+            number: row.number,
+            record: row.record,
+        };
+        assert_eq!(answer.outcome_lent(&answer.canonical, 1), expected);
+    }
+}
+
+#[test]
+fn the_document_has_the_chosen_pages() {
+    let pages: Vec<_> = chosen::refusal_table()
+        .iter()
+        .map(|row| row.bytes())
+        .collect();
+    assert_eq!(
+        told().into_iter().map(|row| row.page).collect::<Vec<_>>(),
+        pages
+    );
+}
