@@ -10,11 +10,13 @@
 // Fields are decimal numbers. A text is its start and its size; a list is its count and its elements; a flag is 0 or 1; a choice is the
 // number of its form and the fields of that form. So a matcher is 0 to 3, name, value, and a flag for 2 and 3; a call is its name, its
 // kinds, 0 to 2 (2 with the upper), the result kind and the count of arguments.
+mod entry;
+
+use entry::put_record;
 use input::read_part;
 use reader::RecordField;
 use reader::read_record;
 use record_lines::put;
-use record_lines::put_record;
 use record_lines::put_word;
 ghost use mathlib.Core.Path.{_≡_};
 ghost use Rattle.page.specs.Read.{faultNumber};

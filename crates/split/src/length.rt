@@ -1,10 +1,10 @@
 // The length of split text, up to a cap.
 use crate::inner_level;
 use crate::inner_mark;
-use crate::own::between_at_len;
-use crate::own::front_at_len;
-use crate::own::indent_len;
-use crate::own::rear_at_len;
+use indented::between_at_len;
+use indented::front_at_len;
+use indented::indent_len;
+use indented::rear_at_len;
 use measure::width;
 ghost use mathlib.Core.Path.{_≡_};
 ghost use mathlib.Core.Bool.{true};

@@ -1,11 +1,11 @@
 // Writes split text into a buffer.
 use crate::inner_level;
 use crate::inner_mark;
-use crate::own::put_between_at;
-use crate::own::put_front_at;
-use crate::own::put_indent;
-use crate::own::put_rear_at;
 use canonical::write_text;
+use indented::put_between_at;
+use indented::put_front_at;
+use indented::put_indent;
+use indented::put_rear_at;
 use measure::width;
 ghost use mathlib.Core.Bool.{true};
 ghost use Prim.Native.Nat.{suc, _+_, _-_, _≤_};

@@ -19,12 +19,12 @@ use Rattle.split.proofs.length.+split_len+split_operands_len.Lts-split_
 use Rattle.split.proofs.length.split_operands_len.Reads as split-operands-len
 use Rattle.split.proofs.length.split_operands_len.Kinds as split-operands-len-kinds
 use Rattle.split.proofs.length.+split_len+split_operands_len.Lts-split_operands_len as split-operands-len-lts
-use Rattle.split.proofs.own.between_at_len.Reads as between-at-len-reads
-use Rattle.split.proofs.own.front_at_len.Reads as front-at-len-reads
-use Rattle.split.proofs.own.indent_len.Reads as indent-len-reads
+use Rattle.indented.proofs.between_at_len.Reads as between-at-len-reads
+use Rattle.indented.proofs.front_at_len.Reads as front-at-len-reads
+use Rattle.indented.proofs.indent_len.Reads as indent-len-reads
 use Rattle.split.proofs.inner_level.Reads as inner-level-reads
 use Rattle.split.proofs.inner_mark.Reads as inner-mark-reads
-use Rattle.split.proofs.own.rear_at_len.Reads as rear-at-len-reads
+use Rattle.indented.proofs.rear_at_len.Reads as rear-at-len-reads
 use Rattle.measure.proofs.width.Reads as width-reads
 use Rattle.util.proofs.capped.capped_add.Reads as capped-add-reads
 use Rattle.view.proofs.is_minus.Reads as is-minus-reads

@@ -27,10 +27,10 @@ use Rattle.split.proofs.write.write_split_operands.Kinds as write-split
 use Rattle.split.proofs.write.+write_split+write_split_operands.Lts-write_split_operands as write-split-operands-lts
 use Rattle.split.proofs.inner_level.Reads as inner-level-reads
 use Rattle.split.proofs.inner_mark.Reads as inner-mark-reads
-use Rattle.split.proofs.own.put_between_at.Reads as put-between-at-reads
-use Rattle.split.proofs.own.put_front_at.Reads as put-front-at-reads
-use Rattle.split.proofs.own.put_indent.Reads as put-indent-reads
-use Rattle.split.proofs.own.put_rear_at.Reads as put-rear-at-reads
+use Rattle.indented.proofs.put_between_at.Reads as put-between-at-reads
+use Rattle.indented.proofs.put_front_at.Reads as put-front-at-reads
+use Rattle.indented.proofs.put_indent.Reads as put-indent-reads
+use Rattle.indented.proofs.put_rear_at.Reads as put-rear-at-reads
 use Rattle.measure.proofs.width.Reads as width-reads
 use Rattle.canonical.proofs.write_text.Reads as write-text-reads
 use Rattle.view.proofs.is_minus.Reads as is-minus-reads

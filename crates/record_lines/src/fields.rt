@@ -1,15 +1,13 @@
-// A record: its kind and its fields, in the order of the page.
+// The fields of each kind of record, in the order of the page.
 use crate::line::put;
 use crate::part::kind_number;
 use crate::part::put_fill;
 use crate::part::put_flag;
 use crate::part::put_kinds;
 use crate::part::put_labels;
-use crate::part::put_literal;
 use crate::part::put_matchers;
 use crate::part::put_span;
 use crate::part::put_two;
-use reader::Record;
 use records::AtModifier;
 use records::Cardinality;
 use records::LabelModifier;
@@ -77,7 +75,7 @@ fn put_step(s: Step, line: &mut [u8], at: usize) -> usize {
     }
 }
 
-fn put_at_modifier(a: AtModifier, line: &mut [u8], at: usize) -> usize {
+pub fn put_at_modifier(a: AtModifier, line: &mut [u8], at: usize) -> usize {
     match a {
         AtModifier::Start => put(0, line, at),
         AtModifier::End => put(1, line, at),
@@ -86,7 +84,7 @@ fn put_at_modifier(a: AtModifier, line: &mut [u8], at: usize) -> usize {
     }
 }
 
-fn put_offset(o: Offset, line: &mut [u8], at: usize) -> usize {
+pub fn put_offset(o: Offset, line: &mut [u8], at: usize) -> usize {
     match o {
         Offset::Pos(n) => put_two(0, n, line, at),
         Offset::Neg(n) => put_two(1, n, line, at),
@@ -111,40 +109,23 @@ fn put_function(page: &[u8], f: records::Function, line: &mut [u8], at: usize) -
     put(kind_number(result), line, after_variadic)
 }
 
-fn kind_of(r: Record) -> u64 {
-    match r {
-        Record::Number(_) => 0,
-        Record::String(_) => 1,
-        Record::Selector(_) => 2,
-        Record::Range(_) => 3,
-        Record::Subquery(_, _) => 4,
-        Record::At(_) => 5,
-        Record::Offset(_) => 6,
-        Record::Unary => 7,
-        Record::Paren => 8,
-        Record::Binary(_, _) => 9,
-        Record::Aggregate(_, _, _) => 10,
-        Record::Call(_, _) => 11,
-    }
-}
-
-fn put_selector(page: &[u8], s: reader::Selector, line: &mut [u8], at: usize) -> usize {
+pub fn put_selector(page: &[u8], s: reader::Selector, line: &mut [u8], at: usize) -> usize {
     let name = s.name;
     let after_name = put_span(name, line, at);
     put_matchers(page, s.matchers, s.count, line, after_name)
 }
 
-fn put_subquery(range: u64, step: Step, line: &mut [u8], at: usize) -> usize {
+pub fn put_subquery(range: u64, step: Step, line: &mut [u8], at: usize) -> usize {
     let next = put(range, line, at);
     put_step(step, line, next)
 }
 
-fn put_binary(page: &[u8], code: u64, m: Modifier, line: &mut [u8], at: usize) -> usize {
+pub fn put_binary(page: &[u8], code: u64, m: Modifier, line: &mut [u8], at: usize) -> usize {
     let next = put(code, line, at);
     put_modifier(page, m, line, next)
 }
 
-fn put_aggregate(
+pub fn put_aggregate(
     page: &[u8],
     code: u64,
     m: LabelModifier,
@@ -157,29 +138,13 @@ fn put_aggregate(
     put(count as u64, line, after)
 }
 
-fn put_call(page: &[u8], f: records::Function, count: usize, line: &mut [u8], at: usize) -> usize {
+pub fn put_call(
+    page: &[u8],
+    f: records::Function,
+    count: usize,
+    line: &mut [u8],
+    at: usize,
+) -> usize {
     let next = put_function(page, f, line, at);
     put(count as u64, line, next)
-}
-
-fn put_fields(page: &[u8], r: Record, line: &mut [u8], at: usize) -> usize {
-    match r {
-        Record::Number(l) => put_literal(l, line, at),
-        Record::String(text) => put_span(text, line, at),
-        Record::Selector(s) => put_selector(page, s, line, at),
-        Record::Range(n) => put(n, line, at),
-        Record::Subquery(n, s) => put_subquery(n, s, line, at),
-        Record::At(a) => put_at_modifier(a, line, at),
-        Record::Offset(o) => put_offset(o, line, at),
-        Record::Unary => at,
-        Record::Paren => at,
-        Record::Binary(code, m) => put_binary(page, code, m, line, at),
-        Record::Aggregate(code, m, n) => put_aggregate(page, code, m, n, line, at),
-        Record::Call(f, n) => put_call(page, f, n, line, at),
-    }
-}
-
-pub fn put_record(page: &[u8], r: Record, line: &mut [u8], at: usize) -> usize {
-    let next = put(kind_of(r), line, at);
-    put_fields(page, r, line, next)
 }

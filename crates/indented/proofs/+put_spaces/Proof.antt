@@ -1,5 +1,5 @@
--- `split::own::put_spaces` meets its contract: two spaces, then those of the levels left. The measure is the level. Assumes nothing.
-use Rattle.split.proofs.SplitLaws.{indent-none, indent-more}
+-- `indented::put_spaces` meets its contract: two spaces, then those of the levels left. The measure is the level. Assumes nothing.
+use Rattle.indented.proofs.IndentLaws.{indent-none, indent-more}
 use Rattle.text.proofs.WriteLaws.{wrote-nothing, run-two}
 use Rattle.text.specs.Pretty.{indent}
 use Rattle.page.specs.Bytes.{bytes}
@@ -11,12 +11,12 @@ use borrow.Author.Needs.{needs}
 use Prim.Native.Nat.{ℕ, _<_}
 use borrow.Fn.Kinds.{In}
 use borrow.Fn.PlainCycle.{Measures, is, falls, and}
-use Rattle.split.proofs.own.put_spaces.Reads as put-spaces
-use Rattle.split.proofs.own.put_spaces.Kinds as put-spaces-kinds
-use Rattle.split.proofs.own.+put_spaces.Lts-put_spaces as put-spaces-lts
+use Rattle.indented.proofs.put_spaces.Reads as put-spaces
+use Rattle.indented.proofs.put_spaces.Kinds as put-spaces-kinds
+use Rattle.indented.proofs.+put_spaces.Lts-put_spaces as put-spaces-lts
 use Rattle.page.proofs.put_bytes.Reads as put-bytes-reads
-use Rattle.split.proofs.own.+put_spaces.{statement}
-use Rattle.split.proofs.own.+put_spaces.Tie.{close}
+use Rattle.indented.proofs.+put_spaces.{statement}
+use Rattle.indented.proofs.+put_spaces.Tie.{close}
 
 abbrev μ-put-spaces : Measures 1 put-spaces-kinds.ps ℕ
 μ-put-spaces κs a = a .0

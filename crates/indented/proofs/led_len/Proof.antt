@@ -1,10 +1,10 @@
--- `split::own::led_len` meets its contract. Assumes nothing.
-use Rattle.split.proofs.SplitLaws.{led}
+-- `indented::led_len` meets its contract. Assumes nothing.
+use Rattle.indented.proofs.IndentLaws.{led}
 use Rattle.view.specs.View.{layoutOn}
 use Rattle.text.specs.Layout.{head, indentIf}
 use native.Mathlib.Omega.{arith}
-use Rattle.split.proofs.own.led_len.Statement.{statement}
-use Rattle.split.proofs.own.led_len.Tie as tie
+use Rattle.indented.proofs.led_len.Statement.{statement}
+use Rattle.indented.proofs.led_len.Tie as tie
 
 indent-len-requires : tie.Need-indent-len-requires
 indent-len-requires c κs = c .before .pre .1

@@ -1,5 +1,5 @@
--- `split::own::put_between_at` meets its contract. Assumes nothing.
-use Rattle.split.proofs.SplitLaws.{run-infixed}
+-- `indented::put_between_at` meets its contract. Assumes nothing.
+use Rattle.indented.proofs.IndentLaws.{run-infixed}
 use Rattle.view.proofs.ViewLaws.{layout-formed}
 use Rattle.view.specs.View.{layoutOn}
 use Rattle.text.proofs.WriteLaws.{wrote-nothing, wrote-as, room-as}
@@ -7,8 +7,8 @@ use Rattle.text.specs.Layout.{operator, betweenAt}
 use Rattle.base.specs.Splice.{fits, next, end}
 use mathlib.Core.Path.{sym, ap, _∙_}
 use borrow.Author.Needs.{needs}
-use Rattle.split.proofs.own.put_between_at.Statement.{statement}
-use Rattle.split.proofs.own.put_between_at.Tie as tie
+use Rattle.indented.proofs.put_between_at.Statement.{statement}
+use Rattle.indented.proofs.put_between_at.Tie as tie
 
 form-of-requires : tie.Need-form-of-requires
 form-of-requires c κs = search needs

@@ -1,9 +1,9 @@
--- `split::own::indent_len` meets its contract. Assumes nothing.
-use Rattle.split.proofs.SplitLaws.{indented-len}
+-- `indented::indent_len` meets its contract. Assumes nothing.
+use Rattle.indented.proofs.IndentLaws.{indented-len}
 use native.Mathlib.Omega.{arith}
 use borrow.Author.Needs.{needs}
-use Rattle.split.proofs.own.indent_len.Statement.{statement}
-use Rattle.split.proofs.own.indent_len.Tie as tie
+use Rattle.indented.proofs.indent_len.Statement.{statement}
+use Rattle.indented.proofs.indent_len.Tie as tie
 
 mul-capped-add : tie.Need-mul-capped-add
 mul-capped-add c = omega (arith, c .before .pre)

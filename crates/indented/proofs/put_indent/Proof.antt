@@ -1,8 +1,8 @@
--- `split::own::put_indent` meets its contract. Assumes nothing.
+-- `indented::put_indent` meets its contract. Assumes nothing.
 use Rattle.text.proofs.WriteLaws.{wrote-nothing}
 use mathlib.Core.Path.{refl}
-use Rattle.split.proofs.own.put_indent.Statement.{statement}
-use Rattle.split.proofs.own.put_indent.Tie as tie
+use Rattle.indented.proofs.put_indent.Statement.{statement}
+use Rattle.indented.proofs.put_indent.Tie as tie
 
 put-spaces-requires : tie.Need-put-spaces-requires
 put-spaces-requires c κs = rw (c .before .if1 .taken) at (c .before .before .before .pre)

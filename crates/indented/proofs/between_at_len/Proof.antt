@@ -1,5 +1,5 @@
--- `split::own::between_at_len` meets its contract: by the form. Assumes nothing.
-use Rattle.split.proofs.SplitLaws.{infixed-len}
+-- `indented::between_at_len` meets its contract: by the form. Assumes nothing.
+use Rattle.indented.proofs.IndentLaws.{infixed-len}
 use Rattle.view.proofs.ViewLaws.{layout-formed}
 use Rattle.view.specs.View.{layoutOn}
 use Rattle.text.proofs.CappedLaws.{len-as}
@@ -8,8 +8,8 @@ use lib.ListN.{length}
 use mathlib.Core.Path.{sym, ap, _∙_}
 use native.Mathlib.Omega.{arith}
 use borrow.Author.Needs.{needs}
-use Rattle.split.proofs.own.between_at_len.Statement.{statement}
-use Rattle.split.proofs.own.between_at_len.Tie as tie
+use Rattle.indented.proofs.between_at_len.Statement.{statement}
+use Rattle.indented.proofs.between_at_len.Tie as tie
 
 form-of-requires : tie.Need-form-of-requires
 form-of-requires c κs = search needs

@@ -1,5 +1,5 @@
--- `split::own::rear_at_len` meets its contract: by the form. Assumes nothing.
-use Rattle.split.proofs.SplitLaws.{closed-len}
+-- `indented::rear_at_len` meets its contract: by the form. Assumes nothing.
+use Rattle.indented.proofs.IndentLaws.{closed-len}
 use Rattle.view.proofs.ViewLaws.{layout-formed}
 use Rattle.text.proofs.CappedLaws.{len-as}
 use Rattle.text.specs.Layout.{Layout, rearAt}
@@ -7,8 +7,8 @@ use lib.ListN.{length}
 use mathlib.Core.Path.{sym, ap, _∙_}
 use native.Mathlib.Omega.{arith}
 use borrow.Author.Needs.{needs}
-use Rattle.split.proofs.own.rear_at_len.Statement.{statement}
-use Rattle.split.proofs.own.rear_at_len.Tie as tie
+use Rattle.indented.proofs.rear_at_len.Statement.{statement}
+use Rattle.indented.proofs.rear_at_len.Tie as tie
 
 form-of-requires : tie.Need-form-of-requires
 form-of-requires c κs = search needs

@@ -1,13 +1,13 @@
--- `split::own::put_rear_at` meets its contract. Assumes nothing.
-use Rattle.split.proofs.SplitLaws.{run-closed}
+-- `indented::put_rear_at` meets its contract. Assumes nothing.
+use Rattle.indented.proofs.IndentLaws.{run-closed}
 use Rattle.view.proofs.ViewLaws.{layout-formed}
 use Rattle.text.proofs.WriteLaws.{wrote-nothing, wrote-as, room-as}
 use Rattle.text.specs.Layout.{rearAt}
 use Rattle.base.specs.Splice.{fits, next, end}
 use mathlib.Core.Path.{sym, ap, _∙_}
 use borrow.Author.Needs.{needs}
-use Rattle.split.proofs.own.put_rear_at.Statement.{statement}
-use Rattle.split.proofs.own.put_rear_at.Tie as tie
+use Rattle.indented.proofs.put_rear_at.Statement.{statement}
+use Rattle.indented.proofs.put_rear_at.Tie as tie
 
 form-of-requires : tie.Need-form-of-requires
 form-of-requires c κs = search needs

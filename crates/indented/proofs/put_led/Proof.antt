@@ -1,11 +1,11 @@
--- `split::own::put_led` meets its contract. Assumes nothing.
+-- `indented::put_led` meets its contract. Assumes nothing.
 use Rattle.view.specs.View.{layoutOn}
 use Rattle.text.proofs.WriteLaws.{run-two}
 use Rattle.text.specs.Layout.{head, indentIf}
 use Rattle.base.specs.Splice.{fits, next, end}
 use mathlib.Core.Path.{refl, _∙_}
-use Rattle.split.proofs.own.put_led.Statement.{statement}
-use Rattle.split.proofs.own.put_led.Tie as tie
+use Rattle.indented.proofs.put_led.Statement.{statement}
+use Rattle.indented.proofs.put_led.Tie as tie
 
 put-indent-requires : tie.Need-put-indent-requires
 put-indent-requires c κs = fits (run-two (indentIf (c .before .before .before .args .mark) (c .before .before .before .args .level)) (head (layoutOn (c .before .before .before .args .page .now) (c .before .before .before .args .own))) (c .before .before .before .args .out .now) (c .before .before .before .args .at) refl (c .before .before .before .pre .1))

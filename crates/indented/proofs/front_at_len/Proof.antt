@@ -1,4 +1,4 @@
--- `split::own::front_at_len` meets its contract: by the form. Assumes nothing.
+-- `indented::front_at_len` meets its contract: by the form. Assumes nothing.
 use Rattle.view.proofs.ViewLaws.{layout-formed}
 use Rattle.view.specs.View.{layoutOn}
 use Rattle.text.proofs.CappedLaws.{len-as, len-plus}
@@ -9,8 +9,8 @@ use mathlib.Core.List.{_++_}
 use mathlib.Core.Path.{sym, ap, _∙_}
 use native.Mathlib.Omega.{arith}
 use borrow.Author.Needs.{needs}
-use Rattle.split.proofs.own.front_at_len.Statement.{statement}
-use Rattle.split.proofs.own.front_at_len.Tie as tie
+use Rattle.indented.proofs.front_at_len.Statement.{statement}
+use Rattle.indented.proofs.front_at_len.Tie as tie
 
 form-of-requires : tie.Need-form-of-requires
 form-of-requires c κs = search needs

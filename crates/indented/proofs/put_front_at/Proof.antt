@@ -1,4 +1,4 @@
--- `split::own::put_front_at` meets its contract. Assumes nothing.
+-- `indented::put_front_at` meets its contract. Assumes nothing.
 use Rattle.view.proofs.ViewLaws.{layout-formed}
 use Rattle.view.specs.View.{layoutOn}
 use Rattle.text.proofs.WriteLaws.{wrote-nothing, wrote-as, room-as, run-two}
@@ -8,8 +8,8 @@ use Rattle.base.specs.Splice.{fits, next, end}
 use mathlib.Core.List.{_++_}
 use mathlib.Core.Path.{sym, ap, _∙_}
 use borrow.Author.Needs.{needs}
-use Rattle.split.proofs.own.put_front_at.Statement.{statement}
-use Rattle.split.proofs.own.put_front_at.Tie as tie
+use Rattle.indented.proofs.put_front_at.Statement.{statement}
+use Rattle.indented.proofs.put_front_at.Tie as tie
 
 form-of-requires : tie.Need-form-of-requires
 form-of-requires c κs = search needs
