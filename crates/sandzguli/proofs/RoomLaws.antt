@@ -54,7 +54,3 @@ room-short text room size e h = lt-leb text room (omega arith)
 -- the same as a writer at the start of the buffer asks it
 pub room-fits : (text room size : ℕ) → size ≡ min text (room + 1) → size ≤ room → 0 + text ≤ room
 room-fits text room size e h = omega arith
-
--- split text starts at level 0
-pub level-fits : (n : ℕ) → n ≤ recordLimit → 0 + (n - 1) ≤ 256
-level-fits n h = omega arith

@@ -2,14 +2,13 @@
 use Prim.Native.Nat.{suc, _-_, _<_}
 use lib.ListN.{length}
 use denote.Ref.{now}
+use native.Mathlib.Omega.{arith}
 use borrow.Author.Needs.{needs}
 use Rattle.text.specs.Pretty.{prettify}
-use Rattle.text.specs.Layout.{marked}
-use Rattle.view.proofs.ViewLaws.{unmarked}
 use Rattle.checking.specs.Answers.{Accepts}
 use Rattle.ast.specs.Tables.{Tables, treeAt}
 use Rattle.records.specs.Answers.{kindOf}
-use Rattle.sandzguli.proofs.RoomLaws.{accepted-some, tables-last, room-enough, room-short, room-fits, level-fits}
+use Rattle.sandzguli.proofs.RoomLaws.{accepted-some, tables-last, room-enough, room-short, room-fits}
 use Rattle.sandzguli.proofs.DoesLaws.{does-refused, does-short, does-write}
 use Rattle.sandzguli.proofs.calls.split.Statement.{statement}
 use Rattle.sandzguli.proofs.calls.split.Tie as tie
@@ -38,51 +37,64 @@ walk-requires c κs = search needs
 enum-known-walked : tie.Need-enum-known-walked
 enum-known-walked c = search needs
 
-slice-aggregate-split-len : tie.Need-slice-aggregate-split-len
-slice-aggregate-split-len c = search needs
+slice-aggregate-widths-of : tie.Need-slice-aggregate-widths-of
+slice-aggregate-widths-of c = search needs
 
-slice-aggregate-split-len-2 : tie.Need-slice-aggregate-split-len-2
-slice-aggregate-split-len-2 c = search needs
+slice-aggregate-widths-of-2 : tie.Need-slice-aggregate-widths-of-2
+slice-aggregate-widths-of-2 c = search needs
 
-sub-split-len : tie.Need-sub-split-len
-sub-split-len c = some (c .before .before .before)
+sub-widths-of : tie.Need-sub-widths-of
+sub-widths-of c = some (c .before .before .before)
 
-add-split-len : tie.Need-add-split-len
-add-split-len c = search needs
+widths-of-requires : tie.Need-widths-of-requires
+widths-of-requires c κs = last (c .before .before .before)
 
-split-len-requires : tie.Need-split-len-requires
-unfolding marked
-split-len-requires c κs = (last (c .before .before .before), (unmarked (now (c .before .before .before .before .before .before .before .before .before .before .before .before .args .page)) (c .before .before .before .walked .given .0 .1 .0 - 1), level-fits (c .before .before .before .walked .given .0 .1 .0) (known (c .before .before .before) .tables .few)))
+slice-aggregate-prettify-len : tie.Need-slice-aggregate-prettify-len
+slice-aggregate-prettify-len c = search needs
 
-slice-aggregate-write-split : tie.Need-slice-aggregate-write-split
-slice-aggregate-write-split c = search needs
+slice-aggregate-prettify-len-2 : tie.Need-slice-aggregate-prettify-len-2
+slice-aggregate-prettify-len-2 c = search needs
 
-slice-aggregate-write-split-2 : tie.Need-slice-aggregate-write-split-2
-slice-aggregate-write-split-2 c = search needs
+slice-aggregate-prettify-len-3 : tie.Need-slice-aggregate-prettify-len-3
+slice-aggregate-prettify-len-3 c = search needs
 
-sub-write-split : tie.Need-sub-write-split
-sub-write-split c = some (c .before .before .before .before .before .before .before)
+sub-prettify-len : tie.Need-sub-prettify-len
+sub-prettify-len c = some (c .before .before .before .before .before .before .before)
 
-write-split-requires : tie.Need-write-split-requires
-unfolding marked
-write-split-requires c κs = (last (c .before .before .before .before .before .before .before .before), (unmarked (now (c .before .before .before .before .before .before .before .before .before .before .before .before .before .before .before .before .before .args .page)) (c .before .before .before .before .before .before .before .before .walked .given .0 .1 .0 - 1), (level-fits (c .before .before .before .before .before .before .before .before .walked .given .0 .1 .0) (known (c .before .before .before .before .before .before .before .before) .tables .few), room-fits (length (prettify (treeAt (now (c .before .before .before .before .before .before .before .before .before .before .before .before .before .before .before .before .before .args .page)) (c .before .before .before .before .before .before .before .before .walked .given .0 .1 .0 - 1)))) (length (now (c .before .before .before .before .before .before .before .before .before .before .before .before .before .before .before .before .before .args .out))) (c .before .before .before .before .split-len .result) (c .before .before .before .before .split-len .ensures) (c .before .before .before .if1 .taken))))
+add-prettify-len : tie.Need-add-prettify-len
+add-prettify-len c = search needs
+
+prettify-len-requires : tie.Need-prettify-len-requires
+prettify-len-requires c κs = (last (c .before .before .before .before .before .before .before), c .before .before .before .widths-of .ensures)
+
+slice-aggregate-put-prettify : tie.Need-slice-aggregate-put-prettify
+slice-aggregate-put-prettify c = search needs
+
+slice-aggregate-put-prettify-2 : tie.Need-slice-aggregate-put-prettify-2
+slice-aggregate-put-prettify-2 c = search needs
+
+slice-aggregate-put-prettify-3 : tie.Need-slice-aggregate-put-prettify-3
+slice-aggregate-put-prettify-3 c = search needs
+
+sub-put-prettify : tie.Need-sub-put-prettify
+sub-put-prettify c = some (c .before .before .before .before .before .before .before .before .before .before .before .before)
+
+put-prettify-requires : tie.Need-put-prettify-requires
+put-prettify-requires c κs = (last (c .before .before .before .before .before .before .before .before .before .before .before .before .before), (c .before .before .before .before .before .before .before .before .before .widths-of .ensures, omega (arith, room-fits (length (prettify (treeAt (now (c .before .before .before .before .before .before .before .before .before .before .before .before .before .before .before .before .before .before .before .before .before .before .args .page)) (c .before .before .before .before .before .before .before .before .before .before .before .before .before .walked .given .0 .1 .0 - 1)))) (length (now (c .before .before .before .before .before .before .before .before .before .before .before .before .before .before .before .before .before .before .before .before .before .before .args .out))) (c .before .before .before .before .before .prettify-len .result) (c .before .before .before .before .before .prettify-len .ensures) (c .before .before .before .before .if1 .taken))))
 
 same-length : tie.Need-same-length
 same-length c = search needs
 
 returns : tie.Need-returns
-unfolding marked
-returns c = does-write prettify (known (c .before .before .before .before .before .before .before .before .before .before .before) .tree) (known (c .before .before .before .before .before .before .before .before .before .before .before) .kind) (room-enough (length (prettify (treeAt (now (c .before .before .before .before .before .before .before .before .before .before .before .before .before .before .before .before .before .before .before .before .args .page)) (c .before .before .before .before .before .before .before .before .before .before .before .walked .given .0 .1 .0 - 1)))) (length (now (c .before .before .before .before .before .before .before .before .before .before .before .before .before .before .before .before .before .before .before .before .args .out))) (c .before .before .before .before .before .before .before .split-len .result) (c .before .before .before .before .before .before .before .split-len .ensures) (c .before .before .before .before .before .before .if1 .taken)) (c .before .before .write-split .ensures)
+returns c = does-write prettify (known (c .before .before .before .before .before .before .before .before .before .before .before .before .before .before .before .before) .tree) (known (c .before .before .before .before .before .before .before .before .before .before .before .before .before .before .before .before) .kind) (room-enough (length (prettify (treeAt (now (c .before .before .before .before .before .before .before .before .before .before .before .before .before .before .before .before .before .before .before .before .before .before .before .before .before .args .page)) (c .before .before .before .before .before .before .before .before .before .before .before .before .before .before .before .before .walked .given .0 .1 .0 - 1)))) (length (now (c .before .before .before .before .before .before .before .before .before .before .before .before .before .before .before .before .before .before .before .before .before .before .before .before .before .args .out))) (c .before .before .before .before .before .before .before .before .prettify-len .result) (c .before .before .before .before .before .before .before .before .prettify-len .ensures) (c .before .before .before .before .before .before .before .if1 .taken)) (c .before .before .put-prettify .ensures)
 
 enum-known-walked-2 : tie.Need-enum-known-walked-2
 enum-known-walked-2 c = search needs
 
 returns-2 : tie.Need-returns-2
-unfolding marked
-returns-2 c = does-short prettify (known (c .before .before .before .before .before) .tree) (room-short (length (prettify (treeAt (now (c .before .before .before .before .before .before .before .before .before .before .before .before .before .before .args .page)) (c .before .before .before .before .before .walked .given .0 .1 .0 - 1)))) (length (now (c .before .before .before .before .before .before .before .before .before .before .before .before .before .before .args .out))) (c .before .split-len .result) (c .before .split-len .ensures) (c .if1 .left))
+returns-2 c = does-short prettify (known (c .before .before .before .before .before .before .before .before .before) .tree) (room-short (length (prettify (treeAt (now (c .before .before .before .before .before .before .before .before .before .before .before .before .before .before .before .before .before .before .args .page)) (c .before .before .before .before .before .before .before .before .before .walked .given .0 .1 .0 - 1)))) (length (now (c .before .before .before .before .before .before .before .before .before .before .before .before .before .before .before .before .before .before .args .out))) (c .before .prettify-len .result) (c .before .prettify-len .ensures) (c .if1 .left))
 
 returns-3 : tie.Need-returns-3
-unfolding marked
 returns-3 c = does-refused prettify (rw (c .before .walked2 .given .1) at (c .before .before .before .before .before .walk .ensures))
 
 pub split-spec : {M : Type 1} → statement M
@@ -93,15 +105,21 @@ split-spec =
     slice-aggregate-walk-2
     walk-requires
     enum-known-walked
-    slice-aggregate-split-len
-    slice-aggregate-split-len-2
-    sub-split-len
-    add-split-len
-    split-len-requires
-    slice-aggregate-write-split
-    slice-aggregate-write-split-2
-    sub-write-split
-    write-split-requires
+    slice-aggregate-widths-of
+    slice-aggregate-widths-of-2
+    sub-widths-of
+    widths-of-requires
+    slice-aggregate-prettify-len
+    slice-aggregate-prettify-len-2
+    slice-aggregate-prettify-len-3
+    sub-prettify-len
+    add-prettify-len
+    prettify-len-requires
+    slice-aggregate-put-prettify
+    slice-aggregate-put-prettify-2
+    slice-aggregate-put-prettify-3
+    sub-put-prettify
+    put-prettify-requires
     same-length
     returns
     enum-known-walked-2
