@@ -1,11 +1,11 @@
 //! The library timed beside the Rust: the same pages, alternating rounds, CPU time, the least of the rounds.
 //!
 //! The library is timed whole, from the bytes of the page: reading, checking, writing into a buffer. The Rust gets a ready
-//! page, in two ways. 'constructors': records read and their parts made (matchers with compiled patterns, label lists,
+//! page, in three ways. 'constructors': records read and their parts made (matchers with compiled patterns, label lists,
 //! signatures); only `Expr::new_*` and `check_ast` are timed, trees are dropped outside the time. 'from records': the parts
-//! are made by the Rust's own constructors, `Matcher::new_matcher` with its patterns among them, and the tree is dropped within
-//! the time. 'patterns ready': the same, but each pattern was compiled before and is taken from a cache, as the Rust
-//! itself never does. `Display` and `prettify` are timed on ready trees.
+//! are made and the tree is dropped within the time, but each pattern was compiled before and is taken from a cache.
+//! 'compiling': the same with `Matcher::new_matcher`, which compiles its pattern each time; the library has the page's flag
+//! instead and compiles nothing. `Display` and `prettify` are timed on ready trees.
 
 use crate::clock::nanoseconds;
 use crate::library::{Asks, Library, Writes};
@@ -56,10 +56,10 @@ fn print_calls(library: &Library, subject: &Subject) {
         print_row("check, constructors", ours, Some(rust));
         let rust = || subject.built_from_records(|record| Ready::from(record));
         let (ours, rust) = subject.beside(|| subject.asked(call), rust);
-        print_row("check, patterns ready", ours, Some(rust));
+        print_row("check, from records", ours, Some(rust));
         let rust = || subject.built_from_records(Ready::compiled);
         let (ours, rust) = subject.beside(|| subject.asked(call), rust);
-        print_row("check, from records", ours, Some(rust));
+        print_row("check, compiling", ours, Some(rust));
         checked = Some(ours);
     }
     if let Some(call) = library.copy {
