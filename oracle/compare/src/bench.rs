@@ -5,9 +5,11 @@
 //! signatures); only `Expr::new_*` and `check_ast` are timed, trees are dropped outside the time. 'from records': the parts
 //! are made and the tree is dropped within the time, but each pattern was compiled before and is taken from a cache.
 //! 'compiling': the same with `Matcher::new_matcher`, which compiles its pattern each time; the library has the page's flag
-//! instead and compiles nothing. `Display` and `prettify` are timed on ready trees.
+//! instead and compiles nothing. `Display` and `prettify` are timed on ready trees. 'ends of records' is no call of the
+//! library: a loop that finds where records end and tests nothing, beside the 'constructors', as a floor for every check.
 
 use crate::clock::nanoseconds;
+use crate::ends;
 use crate::library::{Asks, Library, Writes};
 use oracle::answer::{self, Worked};
 use oracle::generate::{everyday, nesting};
@@ -52,6 +54,8 @@ pub fn print(library: &Library) {
 fn print_calls(library: &Library, subject: &Subject) {
     let mut checked = None;
     if let Some(call) = library.check {
+        let (floor, rust) = subject.beside(|| subject.skipped(), || subject.built());
+        print_row("ends of records", floor, Some(rust));
         let (ours, rust) = subject.beside(|| subject.asked(call), || subject.built());
         print_row("check, constructors", ours, Some(rust));
         let rust = || subject.built_from_records(|record| Ready::from(record));
@@ -153,6 +157,14 @@ impl<'a> Subject<'a> {
         let once = nanoseconds(&mut go);
         let times = (ROUND_NANOSECONDS / once).ceil().clamp(1.0, 10_000.0);
         nanoseconds(|| (0..times as usize).for_each(|_| go())) / times
+    }
+
+    fn skipped(&self) -> f64 {
+        self.repeated(|| {
+            for page in self.pages {
+                black_box(ends::count(black_box(page)));
+            }
+        })
     }
 
     fn asked(&self, call: Asks) -> f64 {

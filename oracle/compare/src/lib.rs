@@ -2,10 +2,11 @@
 //!
 //! `library` is the library's face, `memory` lends it pages and buffers between guards, `judge` compares what it answers
 //! and what it writes, `run` goes over generated pages in several threads, `resume` over many of them with stops, `bench`
-//! measures.
+//! measures, with `ends` as its floor.
 
 pub mod bench;
 mod clock;
+mod ends;
 pub mod judge;
 pub mod library;
 pub mod memory;
