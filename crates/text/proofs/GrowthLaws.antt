@@ -11,6 +11,7 @@ use Rattle.page.specs.Bytes.{bytes, join, joinRest}
 use Rattle.page.specs.Number.{writeNumber}
 use Rattle.page.specs.Text.{writeText, writeList}
 use Rattle.page.specs.Allowed.{IsNumber}
+use Rattle.page.proofs.LengthLaws.{writeText-some}
 use Rattle.records.specs.Stack.{operandsOf}
 use Rattle.records.specs.Literal.{Literal, negate}
 use Rattle.records.specs.Field.{writeOption, writeKind}
@@ -21,8 +22,7 @@ use Rattle.records.specs.Signature.{Function, writeVariadic, writeFunction}
 use Rattle.records.specs.Record.{Leaf, number, string, selector, Wrapper, range, subquery, at, offset, unary, paren, leaf, binary, aggregate, call, writeRecord}
 use Rattle.records.specs.Allowed.{IsLeaf, IsWrapper, IsOptionOf, IsBinModifier}
 use Rattle.util.specs.Duration.{displayDuration}
-use Rattle.util.proofs.LengthLaws.{quote-short, literal-short}
-use Rattle.label.proofs.LengthLaws.{text-some}
+use Rattle.util.proofs.LengthLaws.{quote-short, displayLiteral-short}
 use Rattle.ast.specs.Refusal.{ok}
 use Rattle.ast.specs.Expr.{Expr, Aggregate, AggregateParam, Unary, Binary, Paren, Subquery, NumberLiteral, StringLiteral, VectorSelector, MatrixSelector, Call, argsOf, scalarValue}
 use Rattle.ast.specs.Construct.{newAggregateOf, noTimes}
@@ -36,7 +36,7 @@ use Rattle.text.proofs.TreeLaws.{checkedExpr}
 use Rattle.text.proofs.EntryLaws.{negated, UnaryOf, unary-of}
 use Rattle.text.proofs.SeenLaws.{number-is}
 use Rattle.text.proofs.ChainLaws.{settled-nothing, range-settled, at-settled, offset-settled}
-use Rattle.text.proofs.ShortLaws.{operator-short, range-short, at-times-short, offset-times-short, suffix-short, times-short, negate-short, selector-short}
+use Rattle.text.proofs.ShortLaws.{displayOperator-short, displayRange-short, at-times-short, offset-times-short, displaySuffix-short, times-short, displayLiteral-negate, displaySelector-short}
 
 -- the texts of expressions, each with a separator
 unfoldable pub total : List Expr → ℕ
@@ -86,7 +86,7 @@ enclosed-short head es =
 
 subquery-short : (e : Expr) (r : ℕ) (s : Option ℕ) → IsNumber r → IsOptionOf IsNumber s → length (display (Subquery e r s noTimes)) ≤ length (display e) + 83
 unfolding display
-subquery-short e r s h k = omega (arith, length-append (display e) (displaySuffix r s noTimes), suffix-short r s h k)
+subquery-short e r s h k = omega (arith, length-append (display e) (displaySuffix r s noTimes), displaySuffix-short r s h k)
 
 paren-short : (e : Expr) → length (display (Paren e)) ≤ length (display e) + 83
 unfolding display total
@@ -134,10 +134,10 @@ unary-short e made w = by (scalarValue e) refl
 
     by : (v : Option Literal) → scalarValue e ≡ v → length (display made) ≤ suc (length (display e))
     by none h = omega (arith, size (w .other h))
-    by (some l) h = omega (arith, size (number-is made (negate l) (w .value ∙ ap negated h)), size (number-is e l h), negate-short l)
+    by (some l) h = omega (arith, size (number-is made (negate l) (w .value ∙ ap negated h)), size (number-is e l h), displayLiteral-negate l)
 
 pub wrap-short : (w : Wrapper) (e node : Expr) → IsWrapper w → wrap w e ≡ ok node → length (display (checkedExpr node)) ≤ length (display e) + 83
-wrap-short (range r) e node a h = omega (arith, part-short (some r) noTimes e _ (range-settled r none noTimes e node h), range-short r a)
+wrap-short (range r) e node a h = omega (arith, part-short (some r) noTimes e _ (range-settled r none noTimes e node h), displayRange-short r a)
 wrap-short (subquery r t) e node a h = let same : node ≡ Subquery e r t noTimes = cc in rw same (subquery-short e r t (a .0) (a .1))
 wrap-short (at x) e node a h = omega (arith, part-short none (withAt x noTimes) e _ (at-settled x none noTimes e node h), at-times-short x a)
 wrap-short (offset o) e node a h = omega (arith, part-short none (withOffset o noTimes) e _ (offset-settled o none noTimes e node h), offset-times-short o a)
@@ -148,14 +148,14 @@ wrap-short paren e node a h = let same : node ≡ Paren e = cc in rw same (paren
 
 pub leaf-short : (l : Leaf) (node : Expr) → IsLeaf l → ok (leafExpr l) ≡ ok node → length (display (checkedExpr node)) ≤ 4 * length (writeRecord (leaf l)) + 17
 unfolding display writeRecord
-leaf-short (number l) node a h = let same : node ≡ NumberLiteral l = cc in rw same (omega (arith, literal-short l a))
-leaf-short (string t) node a h = let same : node ≡ StringLiteral t = cc in rw same (omega (arith, quote-short t, text-some t))
+leaf-short (number l) node a h = let same : node ≡ NumberLiteral l = cc in rw same (omega (arith, displayLiteral-short l a))
+leaf-short (string t) node a h = let same : node ≡ StringLiteral t = cc in rw same (omega (arith, quote-short t, writeText-some t))
 leaf-short (selector s) node a h =
     let same : node ≡ VectorSelector s noTimes = cc in
     rw same (omega (
       arith,
       length-append (displaySelector s) [],
-      selector-short s,
+      displaySelector-short s,
       length-append (2 ∷ writeText (s .name)) (writeList writeMatcher (s .matchers)),
     ))
 
@@ -172,7 +172,7 @@ binary-short c m l r node a h =
       length-append (display l ++ bytes " ") operator,
       length-append (display l) (bytes " "),
       ap length (displayOperator-checked c m),
-      operator-short c m a,
+      displayOperator-short c m a,
       length-append (9 ∷ writeNumber c) (writeOption writeBinModifier m),
     ))
 
@@ -195,7 +195,7 @@ call-short f n es node h =
     rw same (omega (
       arith,
       enclosed-short (f .name) es,
-      text-some (f .name),
+      writeText-some (f .name),
       length-append (11 ∷ writeFunction f) (writeNumber n),
       length-append (writeText (f .name) ++ writeList writeKind (f .argTypes) ++ writeVariadic (f .variadic)) (writeKind (f .returnType)),
       length-append (writeText (f .name) ++ writeList writeKind (f .argTypes)) (writeVariadic (f .variadic)),

@@ -25,7 +25,7 @@ use Rattle.ast.specs.Tables.{entries, newest, stackAt, treeAt}
 use Rattle.ast.proofs.WalkLaws.{walk-first}
 use Rattle.text.specs.Display.{display}
 use Rattle.text.proofs.TreeLaws.{checkedExpr, Pushed, leaf-ok, wrapper-ok, binary-ok, aggregate-ok, call-ok}
-use Rattle.text.proofs.ShortLaws.{aggregator-short}
+use Rattle.text.proofs.ShortLaws.{displayAggregator-short}
 use Rattle.text.proofs.GrowthLaws.{total, total-operands, wrap-short, leaf-short, binary-short, aggregate-short, call-short, aggregate-written}
 
 -- ## Records
@@ -53,7 +53,7 @@ apply-room (aggregate c m n) s after a h =
       pushed-total p,
       aggregate-short c m (hasParameter c) (operandsOf n s) (p .node) (p .makes),
       total-operands n s,
-      aggregator-short c m,
+      displayAggregator-short c m,
       aggregate-written c m n,
     )
 apply-room (call f n) s after a h =

@@ -12,6 +12,7 @@ use Rattle.page.specs.Bytes.{pick, bytes, all}
 use Rattle.page.specs.Text.{writeText, writeAll, writeList}
 use Rattle.page.specs.Number.{writeNumber}
 use Rattle.page.specs.Allowed.{IsNumber}
+use Rattle.page.proofs.LengthLaws.{writeText-some}
 use Rattle.page.proofs.NumberLaws.{left, right}
 use Rattle.records.specs.Code.{words, word}
 use Rattle.records.specs.Literal.{Literal, plus, minus, nan, negate, writeLiteral, equalAsFloats}
@@ -24,9 +25,9 @@ use Rattle.records.specs.Allowed.{IsOptionOf, IsFill, IsBinModifier, IsAtModifi
 use Rattle.util.specs.Numeral.{displayNumber, displayLiteral, displayFill}
 use Rattle.util.specs.Duration.{displayDuration}
 use Rattle.util.specs.Time.{displayAt, displayOffset}
-use Rattle.util.proofs.LengthLaws.{fill-short, duration-short, at-short, offset-short}
+use Rattle.util.proofs.LengthLaws.{displayFill-short, displayDuration-short, displayAt-short, displayOffset-short}
 use Rattle.label.specs.Label.{displayLabels, displayMatchers}
-use Rattle.label.proofs.LengthLaws.{text-some, labels-short, matchers-short}
+use Rattle.label.proofs.LengthLaws.{displayLabels-short, displayMatchers-short}
 use Rattle.ast.specs.Construct.{noTimes}
 use Rattle.text.specs.Display.{optional, labelled, displayBool, displayMatching, displayCardinality, filled, displayFills, displayModifier, displayOperator, displayGrouping, displayAggregator, displayTimes, displaySuffix, displayBraces, displaySelector}
 use Rattle.text.specs.Layout.{displayRange}
@@ -45,11 +46,11 @@ word-short c = words-short words tt (c - 1)
 -- ## Numbers
 
 -- the sign is one byte
-pub negate-short : (l : Literal) → length (displayLiteral (negate l)) ≤ suc (length (displayLiteral l))
+pub displayLiteral-negate : (l : Literal) → length (displayLiteral (negate l)) ≤ suc (length (displayLiteral l))
 unfolding displayLiteral displayNumber
-negate-short (plus m) = omega arith
-negate-short (minus m) = omega arith
-negate-short nan = omega arith
+displayLiteral-negate (plus m) = omega arith
+displayLiteral-negate (minus m) = omega arith
+displayLiteral-negate nan = omega arith
 
 -- ## Modifiers
 
@@ -60,24 +61,24 @@ labelled-short w ls =
       length-append (bytes w ++ bytes " (" ++ displayLabels ls) (bytes ")"),
       length-append (bytes w ++ bytes " (") (displayLabels ls),
       length-append (bytes w) (bytes " ("),
-      labels-short ls,
+      displayLabels-short ls,
     )
 
-bool-short : (b : Bool) → length (displayBool b) ≤ 5
-bool-short true = omega arith
-bool-short false = omega arith
+displayBool-short : (b : Bool) → length (displayBool b) ≤ 5
+displayBool-short true = omega arith
+displayBool-short false = omega arith
 
-matching-short : (m : Option LabelModifier) → length (displayMatching m) ≤ 12 + 4 * length (writeLabelModifier m)
-matching-short none = omega arith
-matching-short (some (include ls)) = omega (arith, labelled-short " on" ls)
-matching-short (some (exclude [])) = omega arith
-matching-short (some (exclude (l ∷ ls))) = omega (arith, labelled-short " ignoring" (l ∷ ls))
+displayMatching-short : (m : Option LabelModifier) → length (displayMatching m) ≤ 12 + 4 * length (writeLabelModifier m)
+displayMatching-short none = omega arith
+displayMatching-short (some (include ls)) = omega (arith, labelled-short " on" ls)
+displayMatching-short (some (exclude [])) = omega arith
+displayMatching-short (some (exclude (l ∷ ls))) = omega (arith, labelled-short " ignoring" (l ∷ ls))
 
-cardinality-short : (r : Cardinality) → length (displayCardinality r) ≤ 15 + 4 * length (writeCardinality r)
-cardinality-short oneToOne = omega arith
-cardinality-short manyToMany = omega arith
-cardinality-short (manyToOne ls) = omega (arith, labelled-short " group_left" ls)
-cardinality-short (oneToMany ls) = omega (arith, labelled-short " group_right" ls)
+displayCardinality-short : (r : Cardinality) → length (displayCardinality r) ≤ 15 + 4 * length (writeCardinality r)
+displayCardinality-short oneToOne = omega arith
+displayCardinality-short manyToMany = omega arith
+displayCardinality-short (manyToOne ls) = omega (arith, labelled-short " group_left" ls)
+displayCardinality-short (oneToMany ls) = omega (arith, labelled-short " group_right" ls)
 
 filled-short : (w : String) (l : Literal) → IsExact l → length (filled w l) ≤ length (bytes w) + 20
 filled-short w l h =
@@ -86,21 +87,21 @@ filled-short w l h =
       length-append (bytes w ++ bytes " (" ++ displayFill l) (bytes ")"),
       length-append (bytes w ++ bytes " (") (displayFill l),
       length-append (bytes w) (bytes " ("),
-      fill-short l h,
+      displayFill-short l h,
     )
 
-fills-short : (l r : Option Literal) → IsFill l → IsFill r → length (displayFills l r) ≤ 61
-fills-short none none h k = omega arith
-fills-short (some l) none h k = omega (arith, filled-short " fill_left" l h)
-fills-short none (some r) h k = omega (arith, filled-short " fill_right" r k)
-fills-short (some l) (some r) h k = by (equalAsFloats r l)
+displayFills-short : (l r : Option Literal) → IsFill l → IsFill r → length (displayFills l r) ≤ 61
+displayFills-short none none h k = omega arith
+displayFills-short (some l) none h k = omega (arith, filled-short " fill_left" l h)
+displayFills-short none (some r) h k = omega (arith, filled-short " fill_right" r k)
+displayFills-short (some l) (some r) h k = by (equalAsFloats r l)
   where
     by : (b : Bool) → length (pick b (filled " fill" r) (filled " fill_left" l ++ filled " fill_right" r)) ≤ 61
     by true = omega (arith, filled-short " fill" r k)
     by false = omega (arith, length-append (filled " fill_left" l) (filled " fill_right" r), filled-short " fill_left" l h, filled-short " fill_right" r k)
 
-modifier-short : (m : BinModifier) → IsBinModifier m → length (displayModifier m) ≤ 93 + 4 * length (writeBinModifier m)
-modifier-short m h = omega (arith, shown, written)
+displayModifier-short : (m : BinModifier) → IsBinModifier m → length (displayModifier m) ≤ 93 + 4 * length (writeBinModifier m)
+displayModifier-short m h = omega (arith, shown, written)
   where
     shown : length (displayModifier m) ≤ 93 + 4 * length (writeLabelModifier (m .matching)) + 4 * length (writeCardinality (m .card))
     shown =
@@ -109,10 +110,10 @@ modifier-short m h = omega (arith, shown, written)
           length-append (displayBool (m .returnBool) ++ displayMatching (m .matching) ++ displayCardinality (m .card)) (displayFills (m .fillValues .lhs) (m .fillValues .rhs)),
           length-append (displayBool (m .returnBool) ++ displayMatching (m .matching)) (displayCardinality (m .card)),
           length-append (displayBool (m .returnBool)) (displayMatching (m .matching)),
-          bool-short (m .returnBool),
-          matching-short (m .matching),
-          cardinality-short (m .card),
-          fills-short (m .fillValues .lhs) (m .fillValues .rhs) (h .2) (h .3),
+          displayBool-short (m .returnBool),
+          displayMatching-short (m .matching),
+          displayCardinality-short (m .card),
+          displayFills-short (m .fillValues .lhs) (m .fillValues .rhs) (h .2) (h .3),
         )
 
     written : length (writeLabelModifier (m .matching)) + length (writeCardinality (m .card)) ≤ length (writeBinModifier m)
@@ -126,43 +127,43 @@ modifier-short m h = omega (arith, shown, written)
           length-append (writeFlag (m .returnBool)) (writeLabelModifier (m .matching)),
         )
 
-pub operator-short : (c : ℕ) (m : Option BinModifier) → IsOptionOf IsBinModifier m → length (displayOperator c m) ≤ 105 + 4 * length (writeOption writeBinModifier m)
-operator-short c none h = omega (arith, length-append (word c) [], word-short c)
-operator-short c (some m) h = omega (arith, length-append (word c) (displayModifier m), word-short c, modifier-short m h)
+pub displayOperator-short : (c : ℕ) (m : Option BinModifier) → IsOptionOf IsBinModifier m → length (displayOperator c m) ≤ 105 + 4 * length (writeOption writeBinModifier m)
+displayOperator-short c none h = omega (arith, length-append (word c) [], word-short c)
+displayOperator-short c (some m) h = omega (arith, length-append (word c) (displayModifier m), word-short c, displayModifier-short m h)
 
-grouping-short : (m : Option LabelModifier) → length (displayGrouping m) ≤ 12 + 4 * length (writeLabelModifier m)
-grouping-short none = omega arith
-grouping-short (some (exclude ls)) = omega (arith, length-append (labelled " without" ls) (bytes " "), labelled-short " without" ls)
-grouping-short (some (include [])) = omega arith
-grouping-short (some (include (l ∷ ls))) = omega (arith, length-append (labelled " by" (l ∷ ls)) (bytes " "), labelled-short " by" (l ∷ ls))
+displayGrouping-short : (m : Option LabelModifier) → length (displayGrouping m) ≤ 12 + 4 * length (writeLabelModifier m)
+displayGrouping-short none = omega arith
+displayGrouping-short (some (exclude ls)) = omega (arith, length-append (labelled " without" ls) (bytes " "), labelled-short " without" ls)
+displayGrouping-short (some (include [])) = omega arith
+displayGrouping-short (some (include (l ∷ ls))) = omega (arith, length-append (labelled " by" (l ∷ ls)) (bytes " "), labelled-short " by" (l ∷ ls))
 
-pub aggregator-short : (c : ℕ) (m : Option LabelModifier) → length (displayAggregator c m) ≤ 24 + 4 * length (writeLabelModifier m)
-aggregator-short c m = omega (arith, length-append (word c) (displayGrouping m), word-short c, grouping-short m)
+pub displayAggregator-short : (c : ℕ) (m : Option LabelModifier) → length (displayAggregator c m) ≤ 24 + 4 * length (writeLabelModifier m)
+displayAggregator-short c m = omega (arith, length-append (word c) (displayGrouping m), word-short c, displayGrouping-short m)
 
 -- ## Times
 
-pub range-short : (n : ℕ) → IsNumber n → length (displayRange (some n)) ≤ 42
-range-short n h = omega (arith, length-append (displayDuration n) (bytes "]"), duration-short n h)
+pub displayRange-short : (n : ℕ) → IsNumber n → length (displayRange (some n)) ≤ 42
+displayRange-short n h = omega (arith, length-append (displayDuration n) (bytes "]"), displayDuration-short n h)
 
 pub at-times-short : (a : AtModifier) → IsAtModifier a → length (displayTimes (withAt a noTimes)) ≤ 23
-at-times-short a h = omega (arith, length-append (displayAt a) [], at-short a h)
+at-times-short a h = omega (arith, length-append (displayAt a) [], displayAt-short a h)
 
 pub offset-times-short : (o : Offset) → IsOffset o → length (displayTimes (withOffset o noTimes)) ≤ 49
-offset-times-short o h = omega (arith, offset-short o h)
+offset-times-short o h = omega (arith, displayOffset-short o h)
 
 step-short : (s : Option ℕ) → IsOptionOf IsNumber s → length (optional displayDuration s) ≤ 40
 step-short none h = omega arith
-step-short (some n) h = duration-short n h
+step-short (some n) h = displayDuration-short n h
 
-pub suffix-short : (r : ℕ) (s : Option ℕ) → IsNumber r → IsOptionOf IsNumber s → length (displaySuffix r s noTimes) ≤ 83
-suffix-short r s h k =
+pub displaySuffix-short : (r : ℕ) (s : Option ℕ) → IsNumber r → IsOptionOf IsNumber s → length (displaySuffix r s noTimes) ≤ 83
+displaySuffix-short r s h k =
     omega (
       arith,
       length-append (bytes "[" ++ displayDuration r ++ bytes ":" ++ optional displayDuration s ++ bytes "]") [],
       length-append (bytes "[" ++ displayDuration r ++ bytes ":" ++ optional displayDuration s) (bytes "]"),
       length-append (bytes "[" ++ displayDuration r ++ bytes ":") (optional displayDuration s),
       length-append (bytes "[" ++ displayDuration r) (bytes ":"),
-      duration-short r h,
+      displayDuration-short r h,
       step-short s k,
     )
 
@@ -177,8 +178,8 @@ atText a = bytes " " ++ displayAt a
 abbrev offsetText : Offset → List ℕ
 offsetText o = bytes " offset " ++ displayOffset o
 
-overlaid-short : (t u : Times) → length (displayTimes (overlaid t u)) ≤ length (displayTimes t) + length (displayTimes u)
-overlaid-short t u =
+displayTimes-overlaid : (t u : Times) → length (displayTimes (overlaid t u)) ≤ length (displayTimes t) + length (displayTimes u)
+displayTimes-overlaid t u =
     omega (
       arith,
       length-append (optional atText (orElse (t .at) (u .at))) (optional offsetText (orElse (t .offset) (u .offset))),
@@ -190,20 +191,20 @@ overlaid-short t u =
 
 -- a text with such behind it
 pub times-short : (front : List ℕ) (t u : Times) → length (front ++ displayTimes (overlaid t u)) ≤ length (front ++ displayTimes t) + length (displayTimes u)
-times-short front t u = omega (arith, length-append front (displayTimes (overlaid t u)), length-append front (displayTimes t), overlaid-short t u)
+times-short front t u = omega (arith, length-append front (displayTimes (overlaid t u)), length-append front (displayTimes t), displayTimes-overlaid t u)
 
 -- ## Selectors
 
-braces-short : (ms : List Matcher) → length (displayBraces ms) ≤ 2 + 4 * length (writeAll writeMatcher ms)
-braces-short [] = omega arith
-braces-short (m ∷ ms) = omega (arith, length-append (displayMatchers (m ∷ ms)) (bytes "}"), matchers-short (m ∷ ms))
+displayBraces-short : (ms : List Matcher) → length (displayBraces ms) ≤ 2 + 4 * length (writeAll writeMatcher ms)
+displayBraces-short [] = omega arith
+displayBraces-short (m ∷ ms) = omega (arith, length-append (displayMatchers (m ∷ ms)) (bytes "}"), displayMatchers-short (m ∷ ms))
 
-pub selector-short : (s : Selector) → length (displaySelector s) ≤ 2 + 4 * (length (writeText (s .name)) + length (writeList writeMatcher (s .matchers)))
-selector-short s =
+pub displaySelector-short : (s : Selector) → length (displaySelector s) ≤ 2 + 4 * (length (writeText (s .name)) + length (writeList writeMatcher (s .matchers)))
+displaySelector-short s =
     omega (
       arith,
       length-append (s .name) (displayBraces (s .matchers)),
-      braces-short (s .matchers),
-      text-some (s .name),
+      displayBraces-short (s .matchers),
+      writeText-some (s .name),
       length-append (writeNumber (length (s .matchers))) (writeAll writeMatcher (s .matchers)),
     )

@@ -49,43 +49,43 @@ quote-short t = omega (arith, length-quote t, escape-short t)
 
 -- ## Numbers
 
-decimal-16 : (n : ℕ) → n ≤ numberLimit → length (decimal n) ≤ 16
-decimal-16 n h = decimal-short 15 n (omega arith)
+decimal-short-53 : (n : ℕ) → n ≤ numberLimit → length (decimal n) ≤ 16
+decimal-short-53 n h = decimal-short 15 n (omega arith)
 
 module _ (infinity : String) (short : length (bytes infinity) ≤ 16) where
-  magnitude-short : (m : Magnitude) → IsExactMagnitude m → length (displayMagnitude infinity m) ≤ 16
-  magnitude-short (whole n) h = decimal-16 n h
-  magnitude-short infinite h = short
+  displayMagnitude-short : (m : Magnitude) → IsExactMagnitude m → length (displayMagnitude infinity m) ≤ 16
+  displayMagnitude-short (whole n) h = decimal-short-53 n h
+  displayMagnitude-short infinite h = short
 
-  number-short : (l : Literal) → IsExact l → length (displayNumber infinity l) ≤ 17
+  displayNumber-short : (l : Literal) → IsExact l → length (displayNumber infinity l) ≤ 17
   unfolding displayNumber
-  number-short (plus m) h = omega (arith, magnitude-short m h)
-  number-short (minus m) h = omega (arith, magnitude-short m h)
-  number-short nan h = omega arith
+  displayNumber-short (plus m) h = omega (arith, displayMagnitude-short m h)
+  displayNumber-short (minus m) h = omega (arith, displayMagnitude-short m h)
+  displayNumber-short nan h = omega arith
 
-pub literal-short : (l : Literal) → IsExact l → length (displayLiteral l) ≤ 17
+pub displayLiteral-short : (l : Literal) → IsExact l → length (displayLiteral l) ≤ 17
 unfolding displayLiteral
-literal-short = number-short "Inf" (omega arith)
+displayLiteral-short = displayNumber-short "Inf" (omega arith)
 
-pub fill-short : (l : Literal) → IsExact l → length (displayFill l) ≤ 17
+pub displayFill-short : (l : Literal) → IsExact l → length (displayFill l) ≤ 17
 unfolding displayFill
-fill-short = number-short "inf" (omega arith)
+displayFill-short = displayNumber-short "inf" (omega arith)
 
 -- ## Durations
 
-count-short : (n k : ℕ) (name : String) → n < 10 ^ suc k → length (displayCount n name) ≤ suc k + length (bytes name)
+displayCount-short : (n k : ℕ) (name : String) → n < 10 ^ suc k → length (displayCount n name) ≤ suc k + length (bytes name)
 unfolding displayCount
-count-short zero k name h = omega arith
-count-short (suc n) k name h = omega (arith, length-append (decimal (suc n)) (bytes name), decimal-short k (suc n) h)
+displayCount-short zero k name h = omega arith
+displayCount-short (suc n) k name h = omega (arith, length-append (decimal (suc n)) (bytes name), decimal-short k (suc n) h)
 
 -- the first unit's count has so many digits, and what it leaves is no longer than so much
-counts-short : (u : TimeUnit) (us : List TimeUnit) (rest k most : ℕ) → countOf (u .exact) (u .millis) rest < 10 ^ suc k
+displayCounts-short : (u : TimeUnit) (us : List TimeUnit) (rest k most : ℕ) → countOf (u .exact) (u .millis) rest < 10 ^ suc k
     → length (displayCounts us (countsOf us (rest - countOf (u .exact) (u .millis) rest * u .millis))) ≤ most
     → length (displayCounts (u ∷ us) (countsOf (u ∷ us) rest)) ≤ suc k + length (bytes (u .name)) + most
 unfolding displayCounts countsOf
-counts-short u us rest k most h more =
+displayCounts-short u us rest k most h more =
     let n = countOf (u .exact) (u .millis) rest in
-    omega (arith, length-append (displayCount n (u .name)) (displayCounts us (countsOf us (rest - n * u .millis))), count-short n k (u .name) h)
+    omega (arith, length-append (displayCount n (u .name)) (displayCounts us (countsOf us (rest - n * u .millis))), displayCount-short n k (u .name) h)
 
 -- from a unit on
 abbrev TextFrom : ℕ → ℕ → List ℕ
@@ -93,46 +93,46 @@ TextFrom i rest = displayCounts (drop i units) (countsOf (drop i units) rest)
 
 millis-short : (rest : ℕ) → rest < 1000 → length (TextFrom 6 rest) ≤ 5
 unfolding displayCounts countOf
-millis-short rest h = counts-short (timeUnit "ms" 1 false) [] rest 2 0 (omega arith) (omega arith)
+millis-short rest h = displayCounts-short (timeUnit "ms" 1 false) [] rest 2 0 (omega arith) (omega arith)
 
 seconds-short : (rest : ℕ) → rest < 60000 → length (TextFrom 5 rest) ≤ 8
 unfolding countOf
-seconds-short rest h = counts-short (timeUnit "s" 1000 false) (drop 6 units) rest 1 5 (omega arith) (millis-short _ (omega arith))
+seconds-short rest h = displayCounts-short (timeUnit "s" 1000 false) (drop 6 units) rest 1 5 (omega arith) (millis-short _ (omega arith))
 
 minutes-short : (rest : ℕ) → rest < 3600000 → length (TextFrom 4 rest) ≤ 11
 unfolding countOf
-minutes-short rest h = counts-short (timeUnit "m" 60000 false) (drop 5 units) rest 1 8 (omega arith) (seconds-short _ (omega arith))
+minutes-short rest h = displayCounts-short (timeUnit "m" 60000 false) (drop 5 units) rest 1 8 (omega arith) (seconds-short _ (omega arith))
 
 hours-short : (rest : ℕ) → rest < 86400000 → length (TextFrom 3 rest) ≤ 14
 unfolding countOf
-hours-short rest h = counts-short (timeUnit "h" 3600000 false) (drop 4 units) rest 1 11 (omega arith) (minutes-short _ (omega arith))
+hours-short rest h = displayCounts-short (timeUnit "h" 3600000 false) (drop 4 units) rest 1 11 (omega arith) (minutes-short _ (omega arith))
 
 days-short : (rest : ℕ) → rest ≤ numberLimit → length (TextFrom 2 rest) ≤ 24
 unfolding countOf
-days-short rest h = counts-short (timeUnit "d" 86400000 false) (drop 3 units) rest 8 14 (omega arith) (hours-short _ (omega arith))
+days-short rest h = displayCounts-short (timeUnit "d" 86400000 false) (drop 3 units) rest 8 14 (omega arith) (hours-short _ (omega arith))
 
 weeks-short : (rest : ℕ) → rest ≤ numberLimit → length (TextFrom 1 rest) ≤ 33
-weeks-short rest h = counts-short (timeUnit "w" 604800000 true) (drop 2 units) rest 7 24 (omega (arith, countOf-within true 604800000 rest)) (days-short _ (omega arith))
+weeks-short rest h = displayCounts-short (timeUnit "w" 604800000 true) (drop 2 units) rest 7 24 (omega (arith, countOf-within true 604800000 rest)) (days-short _ (omega arith))
 
-pub duration-short : (ms : ℕ) → ms ≤ numberLimit → length (displayDuration ms) ≤ 40
+pub displayDuration-short : (ms : ℕ) → ms ≤ numberLimit → length (displayDuration ms) ≤ 40
 unfolding displayDuration durationCounts
-duration-short zero h = omega arith
-duration-short (suc ms) h =
-    counts-short (timeUnit "y" 31536000000 true) (drop 1 units) (suc ms) 5 33 (omega (arith, countOf-within true 31536000000 (suc ms))) (weeks-short _ (omega arith))
+displayDuration-short zero h = omega arith
+displayDuration-short (suc ms) h =
+    displayCounts-short (timeUnit "y" 31536000000 true) (drop 1 units) (suc ms) 5 33 (omega (arith, countOf-within true 31536000000 (suc ms))) (weeks-short _ (omega arith))
 
 -- ## @ times and offsets
 
-time-short : (ms : ℕ) → ms ≤ numberLimit → length (displayTime ms) ≤ 22
-time-short ms h = omega (arith, length-displayTime ms, decimal-16 (ms / 1000) (omega arith))
+displayTime-short : (ms : ℕ) → ms ≤ numberLimit → length (displayTime ms) ≤ 22
+displayTime-short ms h = omega (arith, length-displayTime ms, decimal-short-53 (ms / 1000) (omega arith))
 
-pub at-short : (a : AtModifier) → IsAtModifier a → length (displayAt a) ≤ 22
+pub displayAt-short : (a : AtModifier) → IsAtModifier a → length (displayAt a) ≤ 22
 unfolding displayAt
-at-short start h = omega arith
-at-short end h = omega arith
-at-short (after n) h = time-short n (omega arith)
-at-short (before n) h = time-short 0 (omega arith)
+displayAt-short start h = omega arith
+displayAt-short end h = omega arith
+displayAt-short (after n) h = displayTime-short n (omega arith)
+displayAt-short (before n) h = displayTime-short 0 (omega arith)
 
-pub offset-short : (o : Offset) → IsOffset o → length (displayOffset o) ≤ 41
+pub displayOffset-short : (o : Offset) → IsOffset o → length (displayOffset o) ≤ 41
 unfolding displayOffset
-offset-short (pos n) h = omega (arith, duration-short n h)
-offset-short (neg n) h = omega (arith, duration-short n h)
+displayOffset-short (pos n) h = omega (arith, displayDuration-short n h)
+displayOffset-short (neg n) h = omega (arith, displayDuration-short n h)
