@@ -2,8 +2,8 @@
 use Prim.Native.Nat.{ℕ, _≤_}
 use native.Mathlib.Omega.{arith}
 use mathlib.Core.Bool.{not}
-use lib.Dec.{T, leb, eqb, leb→le}
-use Rattle.page.proofs.NumberLaws.{left, right}
+use lib.Dec.{eqb}
+use Rattle.page.proofs.NumberLaws.{left}
 use Rattle.records.specs.Kind.{Kind, vector, scalar, matrix, string, kindNumber}
 use Rattle.records.specs.Outcome.{Outcome, answer, refusal}
 use Rattle.ast.specs.Table.{isInTable, isOfCheck, InTable}
@@ -13,9 +13,6 @@ kindNumber-small vector = omega arith
 kindNumber-small scalar = omega arith
 kindNumber-small matrix = omega arith
 kindNumber-small string = omega arith
-
-pub isInTable-small : (n : ℕ) → T (isInTable n) → n ≤ 34
-isInTable-small n h = leb→le n 34 (right (leb 1 n) (leb n 34) h)
 
 -- what the check answers is in the table
 pub isOfCheck-inTable : (o : Outcome) → InTable isOfCheck o → InTable isInTable o

@@ -5,7 +5,7 @@ use mathlib.Core.List.{List}
 use Rattle.records.specs.Kind.{kindNumber}
 use Rattle.records.specs.Outcome.{Outcome, answer, refusal}
 use Rattle.ast.specs.Part.{Part}
-use Rattle.sandzguli.specs.Calls.{Called}
+use Rattle.outcomes.specs.Calls.{Called}
 
 -- accepted: four times the count of bytes written, and the kind's number. A count is below 2^61, since no memory is larger; the
 -- remainder says so without a claim on texts. Refused: the highest bit, then the refusal's number and the record

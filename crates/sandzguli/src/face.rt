@@ -1,14 +1,14 @@
 // The library's face for C: a slice passes as pointer and length, an outcome as one word.
-use crate::calls::canonical;
-use crate::calls::copy;
-use crate::calls::split;
 use crate::part::label_span;
 use crate::word::outcome_word;
+use calls::canonical;
+use calls::copy;
+use calls::split;
 use checking::check;
 ghost use mathlib.Core.Path.{_≡_};
 ghost use Rattle.ast.specs.CheckPage.{check};
 ghost use Rattle.ast.specs.Part.{labelPart};
-ghost use Rattle.sandzguli.specs.Calls.{copy, canonicalText, splitText};
+ghost use Rattle.outcomes.specs.Calls.{copy, canonicalText, splitText};
 ghost use Rattle.sandzguli.specs.Words.{outcomeWord, labelWord, DoesWord};
 
 #[no_mangle]

@@ -1,7 +1,7 @@
 // The program `sheet`: a page on standard input; on standard output its split text, or `refused N at R`, and a line feed.
 //
-// At most one byte more than a page may have is read: what is written depends on no more (`output-first`, crate sandzguli).
-use sandzguli::sheet::put_sheet;
+// At most one byte more than a page may have is read: what is written depends on no more (`output-first`, crate program).
+use program::put_sheet;
 
 // A count of bytes says neither that the input has ended nor that it failed; another read does.
 fn input_failed() -> bool {

@@ -4,7 +4,7 @@ use denote.Ref.{now}
 use borrow.Author.Needs.{needs}
 use Rattle.ast.specs.Table.{isInTable, InTable}
 use Rattle.sandzguli.specs.Words.{outcomeWord}
-use Rattle.sandzguli.proofs.CallsLaws.{canonicalText-demand1}
+use Rattle.outcomes.proofs.CallsLaws.{canonicalText-demand1}
 use Rattle.sandzguli.proofs.face.sandzguli_canonical.Statement.{statement}
 use Rattle.sandzguli.proofs.face.sandzguli_canonical.Tie as tie
 

@@ -5,7 +5,8 @@ use Rattle.records.specs.Outcome.{refusal}
 use Rattle.records.specs.Answers.{kindOf}
 use Rattle.ast.specs.Table.{isInTable, InTable}
 use Rattle.judge.specs.Answers.{refusalNumber}
-use Rattle.sandzguli.proofs.WordLaws.{kindNumber-small, isInTable-small}
+use Rattle.outcomes.proofs.CallsLaws.{isInTable-small}
+use Rattle.sandzguli.proofs.WordLaws.{kindNumber-small}
 use Rattle.sandzguli.proofs.word.outcome_word.Statement.{statement}
 use Rattle.sandzguli.proofs.word.outcome_word.Tie as tie
 

@@ -1,0 +1,101 @@
+-- `calls::canonical` meets its contract: what the walk leaves is enough for the text, and each of the three ends has its law. Assumes nothing.
+use Prim.Native.Nat.{suc, _-_, _<_}
+use mathlib.Core.Path.{sym, _∙_}
+use native.Mathlib.Nat.{zero-add}
+use denote.Ref.{now}
+use borrow.Author.Tests.{leb-true}
+use borrow.Author.Needs.{needs}
+use Rattle.text.specs.Display.{display}
+use Rattle.view.proofs.ViewLaws.{unmarked}
+use Rattle.checking.specs.Answers.{Accepts}
+use Rattle.ast.specs.Tables.{Tables}
+use Rattle.records.specs.Answers.{kindOf}
+use Rattle.calls.proofs.RoomLaws.{accepted-some, tables-last}
+use Rattle.calls.proofs.DoesLaws.{does-refused, does-short, does-write}
+use Rattle.calls.proofs.canonical.Statement.{statement}
+use Rattle.calls.proofs.canonical.Tie as tie
+
+-- where the page is accepted: what the walk left in the tables
+known : (c : tie.After-walked) → let k = c .before .before .before .before in let s = k .before .before .before .before .before in
+    Accepts (now (s .args .page)) (k .walk .last .1 .0) (k .walk .last .1 .1 .0) (kindOf (c .walked .given .0 .0)) (c .walked .given .0 .1 .0)
+known c = rw (c .walked .given .1) at (c .before .before .before .before .walk .ensures)
+
+some : (c : tie.After-walked) → 0 < c .walked .given .0 .1 .0
+some c = accepted-some (now (c .before .before .before .before .before .before .before .before .before .args .page)) (known c .tree)
+
+last : (c : tie.After-walked) → let k = c .before .before .before .before in let s = k .before .before .before .before .before in
+    Tables (now (s .args .page)) (k .walk .last .1 .0) (k .walk .last .1 .1 .0) (suc (c .walked .given .0 .1 .0 - 1))
+last c = tables-last (some c) (known c .tables)
+
+slice-aggregate-walk : tie.Need-slice-aggregate-walk
+slice-aggregate-walk c = search needs
+
+slice-aggregate-walk-2 : tie.Need-slice-aggregate-walk-2
+slice-aggregate-walk-2 c = search needs
+
+walk-requires : tie.Need-walk-requires
+walk-requires c κs = search needs
+
+enum-known-walked : tie.Need-enum-known-walked
+enum-known-walked c = search needs
+
+slice-aggregate-text-fits : tie.Need-slice-aggregate-text-fits
+slice-aggregate-text-fits c = search needs
+
+slice-aggregate-text-fits-2 : tie.Need-slice-aggregate-text-fits-2
+slice-aggregate-text-fits-2 c = search needs
+
+sub-text-fits : tie.Need-sub-text-fits
+sub-text-fits c = some (c .before .before .before)
+
+text-fits-requires : tie.Need-text-fits-requires
+text-fits-requires c κs = last (c .before .before .before)
+
+slice-aggregate-write-text : tie.Need-slice-aggregate-write-text
+slice-aggregate-write-text c = search needs
+
+slice-aggregate-write-text-2 : tie.Need-slice-aggregate-write-text-2
+slice-aggregate-write-text-2 c = search needs
+
+sub-write-text : tie.Need-sub-write-text
+sub-write-text c = some (c .before .before .before .before .before .before .before)
+
+write-text-requires : tie.Need-write-text-requires
+write-text-requires c κs = (last (c .before .before .before .before .before .before .before .before), (unmarked _ _, rw zero-add (leb-true _ _ (sym (c .before .before .before .before .text-fits .ensures) ∙ c .before .before .before .if1 .taken))))
+
+same-length : tie.Need-same-length
+same-length c = search needs
+
+returns : tie.Need-returns
+returns c = does-write display (known (c .before .before .before .before .before .before .before .before .before .before .before) .tree) (known (c .before .before .before .before .before .before .before .before .before .before .before) .kind) (sym (c .before .before .before .before .before .before .before .text-fits .ensures) ∙ c .before .before .before .before .before .before .if1 .taken) (c .before .before .write-text .ensures)
+
+enum-known-walked-2 : tie.Need-enum-known-walked-2
+enum-known-walked-2 c = search needs
+
+returns-2 : tie.Need-returns-2
+returns-2 c = does-short display (known (c .before .before .before .before .before) .tree) (sym (c .before .text-fits .ensures) ∙ c .if1 .left)
+
+returns-3 : tie.Need-returns-3
+returns-3 c = does-refused display (rw (c .before .walked2 .given .1) at (c .before .before .before .before .before .walk .ensures))
+
+pub canonical-spec : {M : Type 1} → statement M
+canonical-spec =
+    tie.close
+    (tie.spec
+    slice-aggregate-walk
+    slice-aggregate-walk-2
+    walk-requires
+    enum-known-walked
+    slice-aggregate-text-fits
+    slice-aggregate-text-fits-2
+    sub-text-fits
+    text-fits-requires
+    slice-aggregate-write-text
+    slice-aggregate-write-text-2
+    sub-write-text
+    write-text-requires
+    same-length
+    returns
+    enum-known-walked-2
+    returns-2
+    returns-3)

@@ -1,0 +1,118 @@
+-- Document 01's starred bench examples, proved together by one computed test. (A program runs the others against the Rust.)
+use Prim.Native.Nat.{ℕ}
+use Prim.Native.String.{String}
+use mathlib.Core.Bool.{Bool, false, _&&_}
+use mathlib.Core.List.{List, [], _∷_, _++_}
+use lib.ListN.{replicate, length}
+use lib.Dec.{T, eqb}
+use Rattle.page.specs.Bytes.{bytes, all}
+use Rattle.page.specs.Bytes.{equal as equalBytes}
+use Rattle.records.specs.Kind.{Kind, vector, scalar, matrix, equalKind}
+use Rattle.records.specs.Record.{readRecord, readPage, writeRecord}
+use Rattle.ast.specs.CheckAst.{checkAst}
+use Rattle.ast.specs.CheckPage.{apply, checkPage, check}
+use Rattle.ast.specs.Part.{Part, labelPart}
+use Rattle.copy.specs.Copy.{copyPage}
+use Rattle.util.specs.Decimal.{digits, decimal}
+use Rattle.util.specs.Escape.{escapeByte, escape, quote}
+use Rattle.util.specs.Duration.{countOf, countsOf, durationCounts, displayCount, displayCounts, displayDuration}
+use Rattle.util.specs.Numeral.{displayNumber, displayLiteral, displayFill}
+use Rattle.label.specs.Label.{displayLabel, displayLabels, displayMatcher, atMost, insert, sort, joinedByCommas, displayMatchers}
+use Rattle.text.specs.Display.{display}
+use Rattle.text.specs.Pretty.{pretty}
+use Rattle.records.specs.Outcome.{Outcome, answer, refusal}
+use Rattle.outcomes.specs.Calls.{Called, copy, canonicalText, splitText}
+use Rattle.outcomes.specs.Output.{programOutput}
+
+-- what a page gives: its kind, its canonical text and its copy; or a refusal's number and record, and the program's output
+data Expected : Type 0 where
+  gives : Kind → String → List ℕ → Expected
+  refuses : ℕ → ℕ → String → Expected
+
+record Example : Type 0 where
+  page : List ℕ
+  expected : Expected
+
+abbrev example : List ℕ → Expected → Example
+example p e = record { page = p; expected = e }
+
+abbrev up : List ℕ
+up = 0x02 ∷ 0x02 ∷ 0x75 ∷ 0x70 ∷ 0x00 ∷ []
+
+abbrev examples : List Example
+examples =
+    -- `up`
+    example up (gives vector "up" (0x02 ∷ 0x02 ∷ 0x75 ∷ 0x70 ∷ 0x00 ∷ []))
+    -- `-5`: the copy has a negated number
+    ∷ example (0x00 ∷ 0x00 ∷ 0x05 ∷ 0x07 ∷ []) (gives scalar "-5" (0x00 ∷ 0x01 ∷ 0x05 ∷ []))
+    -- `up and up`: the copy has a many-to-many modifier
+    ∷ example (0x02 ∷ 0x02 ∷ 0x75 ∷ 0x70 ∷ 0x00 ∷ 0x02 ∷ 0x02 ∷ 0x75 ∷ 0x70 ∷ 0x00 ∷ 0x09 ∷ 0x06 ∷ 0x00 ∷ []) (gives vector "up and up" (0x02 ∷ 0x02 ∷ 0x75 ∷ 0x70 ∷ 0x00 ∷ 0x02 ∷ 0x02 ∷ 0x75 ∷ 0x70 ∷ 0x00 ∷ 0x09 ∷ 0x06 ∷ 0x01 ∷ 0x00 ∷ 0x00 ∷ 0x03 ∷ 0x00 ∷ 0x00 ∷ []))
+    -- the empty page
+    ∷ example ([]) (refuses 2 0 "refused 2 at 0\n")
+    -- `ln(0)` passes by the literal exception
+    ∷ example (0x00 ∷ 0x00 ∷ 0x00 ∷ 0x0b ∷ 0x02 ∷ 0x6c ∷ 0x6e ∷ 0x01 ∷ 0x00 ∷ 0x00 ∷ 0x00 ∷ 0x01 ∷ []) (gives vector "ln(0)" (0x00 ∷ 0x00 ∷ 0x00 ∷ 0x0b ∷ 0x02 ∷ 0x6c ∷ 0x6e ∷ 0x01 ∷ 0x00 ∷ 0x00 ∷ 0x00 ∷ 0x01 ∷ []))
+    -- `ln((0))`: no bare number
+    ∷ example (0x00 ∷ 0x00 ∷ 0x00 ∷ 0x08 ∷ 0x0b ∷ 0x02 ∷ 0x6c ∷ 0x6e ∷ 0x01 ∷ 0x00 ∷ 0x00 ∷ 0x00 ∷ 0x01 ∷ []) (refuses 30 2 "refused 30 at 2\n")
+    -- `exp(0)`
+    ∷ example (0x00 ∷ 0x00 ∷ 0x00 ∷ 0x0b ∷ 0x03 ∷ 0x65 ∷ 0x78 ∷ 0x70 ∷ 0x01 ∷ 0x00 ∷ 0x00 ∷ 0x00 ∷ 0x01 ∷ []) (refuses 30 1 "refused 30 at 1\n")
+    -- 31536000000 ms
+    ∷ example (0x02 ∷ 0x02 ∷ 0x75 ∷ 0x70 ∷ 0x00 ∷ 0x03 ∷ 0x80 ∷ 0xd8 ∷ 0xc4 ∷ 0xbd ∷ 0x75 ∷ []) (gives matrix "up[1y]" (0x02 ∷ 0x02 ∷ 0x75 ∷ 0x70 ∷ 0x00 ∷ 0x03 ∷ 0x80 ∷ 0xd8 ∷ 0xc4 ∷ 0xbd ∷ 0x75 ∷ []))
+    -- 32140800000 ms
+    ∷ example (0x02 ∷ 0x02 ∷ 0x75 ∷ 0x70 ∷ 0x00 ∷ 0x03 ∷ 0x80 ∷ 0xe0 ∷ 0xf6 ∷ 0xdd ∷ 0x77 ∷ []) (gives matrix "up[372d]" (0x02 ∷ 0x02 ∷ 0x75 ∷ 0x70 ∷ 0x00 ∷ 0x03 ∷ 0x80 ∷ 0xe0 ∷ 0xf6 ∷ 0xdd ∷ 0x77 ∷ []))
+    -- 32054400000 ms
+    ∷ example (0x02 ∷ 0x02 ∷ 0x75 ∷ 0x70 ∷ 0x00 ∷ 0x03 ∷ 0x80 ∷ 0xa8 ∷ 0xdd ∷ 0xb4 ∷ 0x77 ∷ []) (gives matrix "up[53w]" (0x02 ∷ 0x02 ∷ 0x75 ∷ 0x70 ∷ 0x00 ∷ 0x03 ∷ 0x80 ∷ 0xa8 ∷ 0xdd ∷ 0xb4 ∷ 0x77 ∷ []))
+    -- 1500 ms
+    ∷ example (0x02 ∷ 0x02 ∷ 0x75 ∷ 0x70 ∷ 0x00 ∷ 0x03 ∷ 0xdc ∷ 0x0b ∷ []) (gives matrix "up[1s500ms]" (0x02 ∷ 0x02 ∷ 0x75 ∷ 0x70 ∷ 0x00 ∷ 0x03 ∷ 0xdc ∷ 0x0b ∷ []))
+    -- fills NaN and NaN
+    ∷ example (0x02 ∷ 0x02 ∷ 0x75 ∷ 0x70 ∷ 0x00 ∷ 0x02 ∷ 0x02 ∷ 0x75 ∷ 0x70 ∷ 0x00 ∷ 0x09 ∷ 0x01 ∷ 0x01 ∷ 0x00 ∷ 0x00 ∷ 0x00 ∷ 0x01 ∷ 0x02 ∷ 0x01 ∷ 0x02 ∷ []) (gives vector "up + fill_left (NaN) fill_right (NaN) up" (0x02 ∷ 0x02 ∷ 0x75 ∷ 0x70 ∷ 0x00 ∷ 0x02 ∷ 0x02 ∷ 0x75 ∷ 0x70 ∷ 0x00 ∷ 0x09 ∷ 0x01 ∷ 0x01 ∷ 0x00 ∷ 0x00 ∷ 0x00 ∷ 0x01 ∷ 0x02 ∷ 0x01 ∷ 0x02 ∷ []))
+    ∷ []
+
+-- a buffer with bytes of its own, long enough for each example
+abbrev lent : List ℕ
+lent = replicate 64 7
+
+-- the answer, and the text at the start of the buffer with the buffer's own bytes behind it
+abbrev writes : Kind → List ℕ → Called → Bool
+writes k t c = answers (c .outcome) && equalBytes (c .buffer ++ replicate (length t) 7) (t ++ lent)
+  where
+    answers : Outcome → Bool
+    answers (answer j n) = equalKind k j && eqb n (length t)
+    answers (refusal n i) = false
+
+abbrev outcomeIs : Expected → Outcome → Bool
+outcomeIs (gives k t c) (answer j n) = equalKind k j && eqb n 0
+outcomeIs (gives k t c) (refusal n i) = false
+outcomeIs (refuses n i w) (answer j m) = false
+outcomeIs (refuses n i w) (refusal m j) = eqb n m && eqb i j
+
+abbrev writesAs : Expected → List ℕ → Bool
+writesAs (gives k t c) page = writes k (bytes t) (canonicalText page lent) && writes k c (copy page lent)
+writesAs (refuses n i w) page = equalBytes (programOutput page) (bytes w)
+
+abbrev holds : Example → Bool
+holds e = outcomeIs (e .expected) (check (e .page)) && writesAs (e .expected) (e .page)
+
+-- `up + on (x, y) group_left (y, x) up`, refused with 19: the label y that stands behind group_left, and not the y of the on list
+abbrev jointPage : List ℕ
+jointPage =
+    0x02 ∷ 0x02 ∷ 0x75 ∷ 0x70 ∷ 0x00 ∷ 0x02 ∷ 0x02 ∷ 0x75 ∷ 0x70 ∷ 0x00 ∷ 0x09 ∷ 0x01 ∷ 0x01 ∷ 0x00 ∷ 0x01 ∷ 0x02 ∷ 0x01 ∷ 0x78 ∷ 0x01 ∷ 0x79
+    ∷ 0x01 ∷ 0x02 ∷ 0x01 ∷ 0x79 ∷ 0x01 ∷ 0x78 ∷ 0x00 ∷ 0x00 ∷ []
+
+abbrev isPart : ℕ → ℕ → Part → Bool
+isPart start size p = eqb start (p .start) && eqb size (p .size)
+
+jointLabel : T (outcomeIs (refuses 19 2 "") (check jointPage) && isPart 23 1 (labelPart jointPage (check jointPage)))
+unfolding readRecord readPage checkAst apply checkPage labelPart
+jointLabel = tt
+
+-- row 5 of document 01's table: `up`, 1 byte lent. 5 has the number of records as index, and the buffer keeps its byte
+abbrev isTooShort : Called → Bool
+isTooShort c = outcomeIs (refuses 5 1 "") (c .outcome) && equalBytes (c .buffer) (7 ∷ [])
+
+tooShortForUp : T (isTooShort (copy up (7 ∷ [])) && isTooShort (canonicalText up (7 ∷ [])) && isTooShort (splitText up (7 ∷ [])))
+unfolding readRecord readPage writeRecord checkAst apply checkPage copyPage display pretty
+tooShortForUp = tt
+
+starred : T (all holds examples)
+unfolding readRecord readPage writeRecord checkAst apply checkPage copyPage digits decimal escapeByte escape quote countOf countsOf durationCounts displayCount displayCounts displayDuration displayNumber displayLiteral displayFill displayLabel displayLabels displayMatcher atMost insert sort joinedByCommas displayMatchers display pretty programOutput
+starred = tt

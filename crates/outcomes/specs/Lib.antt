@@ -1,0 +1,4 @@
+pub mod Calls
+pub mod Demand1
+pub mod Output
+pub mod Examples
