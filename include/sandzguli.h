@@ -14,9 +14,10 @@
  * Refusal 5 (output too short) is tested last: only a page that check accepts is refused with it, with the number of its records
  * as index, and a longer buffer then lets the call pass. All calls otherwise agree on a page's kind, or refusal and record.
  *
- * How long a buffer must be: SANDZGULI_COPY_BYTES hold every copy (proved). Texts have no proved bound. By a bound worked out by
- * hand 65,536 bytes hold every canonical text; split texts above that are rare (the longest that was built has 156,571 bytes).
- * Where a text may be longer than the buffer, lend more after refusal 5, as examples/c/print_query.c does.
+ * How long a buffer must be: SANDZGULI_COPY_BYTES hold every copy and SANDZGULI_CANONICAL_BYTES every canonical text (both
+ * proved). Canonical text is written without being measured first where the buffer has 4 bytes for each byte of the page and 128
+ * for each record. Split texts have no proved bound: above 65,536 bytes they are rare (the longest that was built has 156,571).
+ * Where a split text may be longer than the buffer, lend more after refusal 5, as examples/c/print_query.c does.
  *
  * Calls keep nothing between them, allocate nothing and use no global state: any thread may call at any time, with a page that
  * no one writes to meanwhile. Both texts recurse over the records of a page, at most 256 deep: the most stack that was measured
@@ -40,6 +41,9 @@ extern "C" {
 
 /* The longest copy of an accepted page. A copy above SANDZGULI_PAGE_BYTES is no page. */
 #define SANDZGULI_COPY_BYTES 8827
+
+/* No canonical text is longer. */
+#define SANDZGULI_CANONICAL_BYTES 65536
 
 /* The kind of a query. */
 enum sandzguli_kind {

@@ -15,8 +15,11 @@ type Writes = unsafe extern "C" fn(*const u8, usize, *mut u8, usize) -> u64;
 /// The longest copy of an accepted page (proved: `copyPage-length`).
 const COPY_BYTES: usize = 8827;
 
-/// Room for the first try at a text; most fit.
-const TEXT_BYTES: usize = 4096;
+/// No canonical text of an accepted page is longer (proved: `canonical-room`).
+const CANONICAL_BYTES: usize = 65536;
+
+/// Room for the first try at a split text; most fit.
+const SPLIT_BYTES: usize = 4096;
 
 /// What an accepted call wrote.
 #[derive(Debug, Clone, Copy, PartialEq, Eq)]
@@ -59,9 +62,15 @@ fn owned(call: Writes, page: &[u8], first_room: usize) -> Result<Vec<u8>, Refusa
     }
 }
 
-fn owned_text(call: Writes, page: &[u8]) -> Result<String, Refusal> {
-    let text = owned(call, page, TEXT_BYTES)?;
+fn owned_text(call: Writes, page: &[u8], first_room: usize) -> Result<String, Refusal> {
+    let text = owned(call, page, first_room)?;
     Ok(String::from_utf8(text).expect("a text has bytes below 128"))
+}
+
+/// Room for the canonical text of a page: 4 bytes for each of its bytes and 128 for each record (proved: `display-room`), and
+/// no page has more records than bytes.
+fn canonical_room(page: &[u8]) -> usize {
+    page.len().saturating_mul(132).min(CANONICAL_BYTES)
 }
 
 /// The kind of the query that a page holds, or why it is refused. Any byte string may be asked about.
@@ -137,7 +146,7 @@ pub fn copy_into(page: &[u8], out: &mut [u8]) -> Result<Written, Refusal> {
 /// assert_eq!(sandzguli::canonical(b"\x00\x00\x05\x07").unwrap(), "-5");
 /// ```
 pub fn canonical(page: &[u8]) -> Result<String, Refusal> {
-    owned_text(sandzguli_canonical, page)
+    owned_text(sandzguli_canonical, page, canonical_room(page))
 }
 
 /// [`canonical`] into a lent buffer. A refusal changes no byte of it, an accepted call only the bytes that it reports.
@@ -162,7 +171,7 @@ pub fn canonical_into(page: &[u8], out: &mut [u8]) -> Result<Written, Refusal> {
 /// assert_eq!(sandzguli::split(&page).unwrap(), lines);
 /// ```
 pub fn split(page: &[u8]) -> Result<String, Refusal> {
-    owned_text(sandzguli_split, page)
+    owned_text(sandzguli_split, page, SPLIT_BYTES)
 }
 
 /// [`split`] into a lent buffer. A refusal changes no byte of it, an accepted call only the bytes that it reports.

@@ -49,6 +49,18 @@ fn lent_buffers_are_as_before_behind_the_text() {
     }
 }
 
+/// The bound that is proved of canonical texts holds of the Rust's.
+#[test]
+fn canonical_texts_have_four_bytes_a_byte_and_128_a_record_at_most() {
+    for entry in support::entries().iter().filter(|entry| entry.word < 4) {
+        let records = Page::read(&entry.page)
+            .expect("the page is accepted")
+            .records
+            .len();
+        assert!(entry.canonical.len() <= 4 * entry.page.len() + 128 * records);
+    }
+}
+
 #[test]
 fn pages_are_read_and_written_again() {
     let (mut accepted, mut written) = (0, 0);
