@@ -1,6 +1,6 @@
 -- What a call that measures its text asks: an accepted page has a record, and the length, measured up to one byte more than the room,
 -- says whether the text fits. Assumes nothing.
-use Prim.Native.Nat.{ℕ, zero, suc, _+_, _-_, _≤_, _<_, min}
+use Prim.Native.Nat.{ℕ, suc, _+_, _-_, _≤_, _<_, min}
 use mathlib.Core.Path.{_≡_, subst}
 use mathlib.Core.Bool.{true, false}
 use mathlib.Core.List.{List, [], _∷_}
@@ -8,7 +8,6 @@ use native.Mathlib.Omega.{arith}
 use borrow.Author.Tests.{le-leb, lt-leb}
 use lib.ListN.{length}
 use lib.Dec.{leb}
-use Rattle.page.specs.Limits.{recordLimit}
 use Rattle.records.specs.Record.{Record, Ending, end, unreadable, readPage}
 use Rattle.ast.specs.Expr.{Expr}
 use Rattle.ast.specs.Walk.{Walked, stack, stopped, accepted, atEnd, finished, walk}
