@@ -9,6 +9,7 @@ use native.Mathlib.Omega.{arith}
 use lib.ListN.{length, getD}
 use lib.Dec.{T, ltb, eqb}
 use Rattle.page.specs.Bytes.{pick, isEmpty, any}
+use Rattle.page.proofs.NumberLaws.{left-of, right-of}
 use Rattle.records.specs.Kind.{Kind, vector, scalar, matrix, string, isVector, isScalar, isString, equalKind}
 use Rattle.records.specs.Code.{isOperator, isAggregator, isComparison, isSetOperator, isCountValues, rustAsksScalar, isLimit, hasParameter}
 use Rattle.records.specs.Literal.{Literal}
@@ -20,7 +21,7 @@ use Rattle.ast.specs.CheckAst.{returnsBool, isJoint, isGrouped, hasMatchingLabe
 use Rattle.records.specs.LiteralException.{isExempt}
 use Rattle.kinds.specs.Asked.{Group, groupOf, isOperatorGroup, isAggregatorGroup, sidesAllowed, hasBool, argumentsAllowed, declaredKind, areDeclared}
 use Rattle.kinds.specs.Demand3.{kindRefusals}
-use Rattle.agreement.proofs.Bools.{both, left-of, right-of, not-not, neither-left, neither-right, either-right, fails-left, fails-right}
+use Rattle.agreement.proofs.Bools.{both, not-not, neither-left, neither-right, either-right, fails-left, fails-right}
 use Rattle.agreement.proofs.Codes.{OperatorCase, isArithmetic, isComparing, isSet, operatorCase, AggregatorCase, isPlain, isCounting, isScaled, isLimiting, aggregatorCase}
 
 abbrev pub isKindRefusal : ℕ → Bool

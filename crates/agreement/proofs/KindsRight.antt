@@ -1,6 +1,6 @@
 -- Demand 3: the check's outcome of any page says what `Demand3.KindsRightWith` asks. By induction on the records: the kinds and bare
 -- numbers of the working-out's stack are those of the checker's (`right`), record by record (`Nodes.node`). Assumes nothing.
-use Prim.Native.Nat.{ℕ, zero, suc, _+_, _≤_, min}
+use Prim.Native.Nat.{ℕ, suc, _+_, _≤_, min}
 use mathlib.Core.Path.{_≡_, refl, sym, ap, ap₂, _∙_, subst}
 use mathlib.Core.Bool.{Bool, true, false, not, true≢false, false≢true}
 use mathlib.Core.List.{List, [], _∷_, map, tail, cons-ne-nil}
@@ -11,6 +11,7 @@ use lib.ListN.{length, take, drop, length-map, length-reverse, length-take}
 use lib.Dec.{T, leb, leb→le}
 use Rattle.page.specs.Bytes.{pick, all}
 use Rattle.page.specs.Read.{badField, pastLimit, badText}
+use Rattle.page.proofs.NumberLaws.{left-of, right-of}
 use Rattle.records.specs.Kind.{Kind}
 use Rattle.records.specs.Literal.{Literal}
 use Rattle.records.specs.Record.{Record, operands, Ending, end, unreadable, readPage}
@@ -23,7 +24,7 @@ use Rattle.ast.proofs.StackLaws.{map-drop, map-operandsOf}
 use Rattle.kinds.specs.Asked.{areAsAsked, kindGiven, isInPlace}
 use Rattle.kinds.specs.WorkingOut.{Value, Step, ended, WorkedOut, kinds, stepOf, bareNumber, isSetAside, putBack, putBare, workRecords, workPage}
 use Rattle.kinds.specs.Demand3.{nothingSetAside, allAsAsked, RunsClean, MeetsFirst, KindsRightWith}
-use Rattle.agreement.proofs.Bools.{both, left-of, right-of, either-left}
+use Rattle.agreement.proofs.Bools.{both, either-left}
 use Rattle.agreement.proofs.Lists.{all-drop, all-operandsOf}
 use Rattle.agreement.proofs.Faults.{isKindRefusal}
 use Rattle.agreement.proofs.NodeOf.{nodeOf, apply-operands, isFormed, NodeClaim}

@@ -8,7 +8,6 @@ use mathlib.Core.List.{List, [], _∷_, map}
 use mathlib.Core.Option.{Option, none, some}
 use lib.ListN.{length, drop, length-map}
 use lib.Dec.{leb}
-use lib.Ieee as Ieee
 use Rattle.page.specs.Bytes.{pick}
 use Rattle.page.specs.Text.{Text}
 use Rattle.records.specs.Kind.{Kind}
@@ -21,7 +20,7 @@ use Rattle.records.specs.Modifier.{LabelModifier, BinModifier}
 use Rattle.records.specs.Time.{Times, AtModifier, Offset}
 use Rattle.records.specs.Signature.{Function}
 use Rattle.records.specs.Stack.{operandsOf}
-use Rattle.records.specs.Record.{Leaf, number, string, selector, Wrapper, range, subquery, at, offset, unary, paren, Record, leaf, wrapper, binary, aggregate, call, operands}
+use Rattle.records.specs.Record.{Leaf, number, string, selector, Wrapper, range, subquery, at, offset, unary, paren, Record, leaf, wrapper, binary, aggregate, call}
 use Rattle.records.proofs.FloatLaws.{float-negate, float-isNan, float-isInfinite, float-atMostZero}
 use Rattle.ast.specs.Refusal.{firstFault, Result, refused, ok, unless, andThen}
 use Rattle.ast.specs.Expr.{Expr, Aggregate, AggregateParam, Unary, Binary, Paren, Subquery, NumberLiteral, StringLiteral, VectorSelector, MatrixSelector, Call, argsOf, valueType, scalarValue, withTimes}

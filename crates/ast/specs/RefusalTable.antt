@@ -1,5 +1,5 @@
 -- Document 01's table of refusals, row by row: what it refuses, its example, and where the definition of the row stands. The check gives
--- each example that number at that record, by one computed test. (5 needs a buffer: sandzguli/specs/Examples.)
+-- each example that number at that record, by one computed test. (5 needs a buffer: outcomes/specs/Examples.)
 use Prim.Native.Nat.{ℕ}
 use mathlib.Core.Bool.{Bool, false, _&&_}
 use mathlib.Core.List.{List, [], _∷_, _++_, map}
@@ -43,7 +43,7 @@ refusalTable =
     ∷ row 3 256 (up ++ replicate 256 0x08)
     -- 4: text not allowed: the metric name `9a` (page/specs/Read, `badText`)
     ∷ row 4 0 (0x02 ∷ 0x02 ∷ 0x39 ∷ 0x61 ∷ 0x00 ∷ [])
-    -- 5: output too short; tested last: `up`, 1 byte lent (sandzguli/specs/Calls, `tooShort`)
+    -- 5: output too short; tested last: `up`, 1 byte lent (outcomes/specs/Calls, `tooShort`)
     -- 6: unary on a string literal or range selector: `-"a"` (`newUnary`)
     ∷ row 6 1 (text ++ (0x07 ∷ []))
     -- 7: range after offset: `up offset 1m` then range (`rangeAfter`)

@@ -9,8 +9,7 @@ use Rattle.page.specs.Read.{FieldFault, faultNumber, Read, refused as refusedFi
 use Rattle.records.specs.Record.{Record, Records, followed, readRecord, readRecords}
 use Rattle.ast.specs.Refusal.{refused, ok}
 use Rattle.ast.specs.Expr.{Expr}
-use Rattle.ast.specs.Walk.{stack, Checked, refusedAt, atEnd, finished, walk}
-use Rattle.ast.specs.Walk as ast
+use Rattle.ast.specs.Walk.{Checked, refusedAt, atEnd, finished, walk}
 use Rattle.ast.specs.CheckPage.{apply}
 use Rattle.records.specs.Record as records
 

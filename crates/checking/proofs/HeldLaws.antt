@@ -7,7 +7,6 @@ use native.Mathlib.Omega.{arith}
 use lib.ListN.{length, set, drop, length-map, length-set}
 use lib.Seq.{drop-drop}
 use lib.Ieee.{Float}
-use Rattle.records.specs.Record as records
 use Rattle.ast.specs.Expr.{Expr}
 use Rattle.ast.specs.Node.{Node, nodeOf}
 use Rattle.ast.specs.Tables.{stackAt}
@@ -15,7 +14,6 @@ use Rattle.ast.proofs.StackLaws.{map-drop}
 use Rattle.judge.specs.Stack.{formOf, valueOf, nodes, Sized}
 use Rattle.judge.proofs.StackLaws.{nodeFrom-formOf, nodes-set, nodes-size, stack-size}
 use Rattle.checking.proofs.BasesLaws.{Bases, bases-drop, bases-more}
-use Rattle.checking.proofs.ProgressLaws.{Progress}
 
 -- ## The arrays
 

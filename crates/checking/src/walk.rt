@@ -17,7 +17,6 @@ use verdict::record::operand_count;
 ghost use Prim.Native.Nat.{_+_, _≤_, _<_};
 ghost use mathlib.Core.Path.{_≡_};
 ghost use lib.ListN.{length, drop};
-ghost use Rattle.records.specs.Record.{operands};
 ghost use Rattle.reader.specs.Answers.{recordOn};
 ghost use Rattle.ast.specs.Judge.{judgement};
 ghost use Rattle.judge.specs.Answers.{verdictMeant};

@@ -9,7 +9,7 @@ use native.Mathlib.Omega.{arith}
 use lib.ListN.{getD}
 use lib.Dec.{T, leb→le, leb}
 use Rattle.page.specs.Number.{writeNumber}
-use Rattle.page.proofs.NumberLaws.{right, write-small}
+use Rattle.page.proofs.NumberLaws.{right-of, write-small}
 use Rattle.page.proofs.ReaderLaws.{append-assoc}
 use Rattle.records.specs.Code.{isCode}
 use Rattle.records.specs.Literal.{writeLiteral}
@@ -49,7 +49,7 @@ cardinality-set manyToMany = refl
 
 -- a code is one byte
 code-written : (c : ℕ) → T (isCode c) → writeNumber c ≡ c ∷ []
-code-written c h = write-small c (omega (arith, leb→le c 30 (right (leb 1 c) (leb c 30) h)))
+code-written c h = write-small c (omega (arith, leb→le c 30 (right-of (leb 1 c) (leb c 30) h)))
 
 -- what stands before the cardinality, and behind its form
 abbrev pub before : ℕ → BinModifier → List ℕ

@@ -10,7 +10,7 @@ use lib.Dec.{T, eqb}
 use borrow.Author.Tests.{eqb-true, eqb-false}
 use Rattle.page.specs.Bytes.{pick, all}
 use Rattle.page.specs.Read.{Read, refused, got}
-use Rattle.page.proofs.NumberLaws.{Written, isByte, right}
+use Rattle.page.proofs.NumberLaws.{Written, isByte, right-of}
 use Rattle.records.specs.Literal.{Literal, negate}
 use Rattle.records.specs.Record.{number, string, selector, range, subquery, at, offset, unary, paren, Record, leaf, wrapper, binary, aggregate, call, readRecord, writeRecord, end, Records, followed, readRecords}
 use Rattle.records.proofs.RecordLaws.{record-law}
@@ -99,7 +99,7 @@ copyNumber-unaries (b ∷ bs) l (r ∷ rs) h g = by (eqb b 7) refl (copyNumber-u
     by : (c : Bool) → eqb b 7 ≡ c
         → ((m : Literal) (ms : List Record) → T (all isByte bs) → ReadsTo bs ms → copyNumber m (copyRecords ms) ≡ leaf (number (negated (unaries bs) m)) ∷ copyRecords (drop (unaries bs) ms))
         → copyNumber l (copyRecord r (copyRecords rs)) ≡ leaf (number (negated (pick c (suc (unaries bs)) 0) l)) ∷ copyRecords (drop (pick c (suc (unaries bs)) 0) (r ∷ rs))
-    by true q next = unary-taken l b bs r rs (eqb-true b 7 q) g (λ m more. next m rs (right (isByte b) (all isByte bs) h) more)
+    by true q next = unary-taken l b bs r rs (eqb-true b 7 q) g (λ m more. next m rs (right-of (isByte b) (all isByte bs) h) more)
     by false q next = unary-left l b bs r rs h q g
 
 -- ## The copy of a record and those behind it

@@ -16,7 +16,7 @@ use Rattle.page.specs.Bytes.{pick, all}
 use Rattle.page.specs.Limits.{pageLimit, recordLimit}
 use Rattle.page.specs.Read.{Read, got, pastLimit}
 use Rattle.page.specs.Text.{writeAll}
-use Rattle.page.proofs.NumberLaws.{Written, isByte, right}
+use Rattle.page.proofs.NumberLaws.{Written, isByte, right-of}
 use Rattle.page.proofs.ReaderLaws.{rest-bytes}
 use Rattle.records.specs.Record.{Record, readRecord, writeRecord, end, unreadable, noRecords, readRecords, readPage}
 use Rattle.records.proofs.RecordLaws.{record-law}
@@ -59,7 +59,7 @@ fromRecord-reads (suc i) s (r ∷ rs) (t, e, more) h =
 pub drop-bytes : (k : ℕ) (s : List ℕ) → T (all isByte s) → T (all isByte (drop k s))
 drop-bytes zero s h = h
 drop-bytes (suc k) [] h = h
-drop-bytes (suc k) (b ∷ bs) h = drop-bytes k bs (right (isByte b) (all isByte bs) h)
+drop-bytes (suc k) (b ∷ bs) h = drop-bytes k bs (right-of (isByte b) (all isByte bs) h)
 
 behind-bytes : (s : List ℕ) (r : Record) (t : List ℕ) → T (all isByte s) → got r t ≡ readRecord s → T (all isByte t)
 behind-bytes s r t h e =

@@ -1,20 +1,19 @@
 -- Every literal that is read off a page is within the limit: `readLiteral-exact` carried to fills, modifiers and records. Assumes nothing.
 use Prim.Native.Nat.{ℕ, zero, suc}
 use mathlib.Core.List.{List}
-use mathlib.Core.Option.{Option}
 use mathlib.Core.Path.{_≡_, subst}
 use native.Mathlib.Omega.{arith}
 use Rattle.page.specs.Read.{Read, refused, got, Reader, andThen, readerAt}
 use Rattle.page.specs.Number.{readNumber}
 use Rattle.page.specs.Text.{readAnyText, readMetricName, readCount, readList}
-use Rattle.records.specs.Literal.{Literal, readLiteral}
+use Rattle.records.specs.Literal.{readLiteral}
 use Rattle.records.specs.Float.{IsExact}
 use Rattle.records.specs.Field.{readFlag, readOption, optionForms}
 use Rattle.records.specs.Matcher.{readMatcher}
-use Rattle.records.specs.Modifier.{BinModifier, readLabelModifier, readCardinality, readBinModifier}
+use Rattle.records.specs.Modifier.{readLabelModifier, readCardinality, readBinModifier}
 use Rattle.records.specs.Time.{readAtModifier, readOffset}
 use Rattle.records.specs.Signature.{readFunction}
-use Rattle.records.specs.Record.{Record, readCode, recordForms, readRecord}
+use Rattle.records.specs.Record.{readCode, recordForms, readRecord}
 use Rattle.records.proofs.FloatLaws.{readLiteral-exact}
 use Rattle.float.specs.Fills.{FillExact}
 use Rattle.float.specs.Exact.{FillsExact, ModifierExact, RecordExact}

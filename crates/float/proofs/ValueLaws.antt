@@ -1,6 +1,6 @@
 -- The constants, the tests and the cast of the code on floats: what each is among the IEEE floats. Assumes nothing.
 use Prim.Native.Nat.{ℕ, _≤_, _^_}
-use mathlib.Core.Bool.{Bool, true, false, _||_}
+use mathlib.Core.Bool.{true, false, _||_}
 use mathlib.Core.Path.{_≡_, refl, sym, subst}
 use native.Mathlib.Omega.{arith}
 use lib.Dec.{T, le→leb}

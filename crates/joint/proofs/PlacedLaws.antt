@@ -6,8 +6,7 @@ use mathlib.Core.Bool.{true, false}
 use mathlib.Core.List.{List, [], _∷_}
 use native.Mathlib.Nat.{not-suc-le-zero}
 use native.Mathlib.Omega.{arith}
-use lib.ListN.{length, take, drop, length-drop}
-use lib.Seq.{length-take-le}
+use lib.ListN.{length, drop, length-drop}
 use Rattle.page.specs.Read.{FieldFault, Read, refused, got, andThen, readerAt, repeat}
 use Rattle.page.specs.Text.{Text, readAnyText}
 use Rattle.page.specs.Listed.{listed}
@@ -17,8 +16,9 @@ use Rattle.page.proofs.ListLaws.{passed, repeat-listed, listed-more, listed-ref
 use Rattle.records.specs.Field.{Labels}
 use Rattle.records.specs.Record.{Record, readRecord}
 use Rattle.records.specs.Outcome.{refusal}
+use Rattle.records.proofs.SpanLaws.{span-size}
 use Rattle.ast.specs.CheckAst.{hasLabel}
-use Rattle.ast.specs.Part.{Part, emptyPart, behind, fromRecord, Placed, readPlaced, firstIn, placedForms, readJoint, partIn, labelPart}
+use Rattle.ast.specs.Part.{Part, emptyPart, fromRecord, Placed, readPlaced, firstIn, placedForms, readJoint, partIn, labelPart}
 use Rattle.joint.specs.Answers.{spanPart, IsPart, placedPart, firstPart}
 
 -- no bytes where the part is empty
@@ -45,10 +45,9 @@ startsAt n size = record { start = n; size = size }
 -- a text read stands right before what is left behind it
 span-place : (page : List ℕ) (s : Span) → Lies page s → spanPart s ≡ partIn (length page) (got (placedAs (spanOn page s) (drop (s .end) page) ∷ []) [])
 span-place page s lies =
-    let sized : length (spanOn page s) ≡ s .end - s .start = length-take-le (s .end - s .start) (drop (s .start) page) (rw (length-drop (s .start) page) (omega (arith, lies .ordered, lies .inside))) in
     let left : length (drop (s .end) page) ≡ length page - s .end = length-drop (s .end) page in
     let from : s .start ≡ length page - (length page - s .end) - (s .end - s .start) = omega (arith, lies .ordered, lies .inside) in
-    rw (sized, left) (ap (λ (n : ℕ). startsAt n (s .end - s .start)) from)
+    rw (span-size page s lies, left) (ap (λ (n : ℕ). startsAt n (s .end - s .start)) from)
 
 -- ## The loop: `whole`, the part of the whole list, is that of the `left` labels from `at` on
 

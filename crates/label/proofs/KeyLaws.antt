@@ -5,24 +5,20 @@ use mathlib.Core.Bool.{Bool, true, false}
 use mathlib.Core.List.{List, [], _∷_, _++_, append-nil}
 use mathlib.Core.Path.{_≡_, refl, sym, ap}
 use lib.Dec.{eqb}
-use lib.ListN.{length, drop, length-drop}
-use lib.Seq.{length-take-le}
+use lib.ListN.{length}
 use Rattle.base.specs.Splice.{join}
 use Rattle.util.specs.Escape.{quote}
 use Rattle.page.specs.Bytes.{pick}
 use Rattle.page.specs.Limits.{pageLimit}
 use Rattle.page.specs.Text.{isLabel}
-use Rattle.page.specs.Answers.{spanOn, Lies}
-use Rattle.page.specs.declared.text.Span.{Span}
+use Rattle.page.specs.Answers.{spanOn}
+use Rattle.records.proofs.SpanLaws.{span-size}
 use Rattle.label.specs.declared.key.Printed.{Printed}
 use Rattle.label.specs.Label.{displayLabel, atMost}
 use Rattle.label.specs.Symbols.{operatorWord, matcherText}
 use Rattle.label.specs.Key.{unpacked, printedText, keyText, Prints}
 
 -- ## Sizes of parts
-
-span-size : (page : List ℕ) (s : Span) → Lies page s → length (spanOn page s) ≡ s .end - s .start
-span-size page s lies = length-take-le (s .end - s .start) (drop (s .start) page) (let e = length-drop (s .start) page in omega (arith, lies .ordered, lies .inside))
 
 -- what the numbers of a key are bounded by
 pub record Bounded (page : List ℕ) (p : Printed) : Type 0 where

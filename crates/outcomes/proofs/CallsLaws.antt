@@ -9,10 +9,10 @@ use lib.ListN.{length, drop, length-append, length-drop}
 use lib.Dec.{T, leb, eqb, leb→le}
 use Rattle.page.specs.Bytes.{pick}
 use Rattle.page.specs.Limits.{recordLimit}
-use Rattle.page.proofs.NumberLaws.{left, right}
+use Rattle.page.proofs.NumberLaws.{left-of, right-of}
 use Rattle.records.specs.Kind.{Kind}
 use Rattle.records.specs.Record.{readPage}
-use Rattle.records.specs.Outcome.{Outcome, answer, refusal}
+use Rattle.records.specs.Outcome.{answer, refusal}
 use Rattle.ast.specs.Expr.{Expr, valueType}
 use Rattle.ast.specs.Walk.{Checked, accepted, refusedAt}
 use Rattle.ast.specs.CheckPage.{checkPage, outcomeOf}
@@ -84,7 +84,7 @@ module _ (textOf : Expr → List ℕ) where
     where
       at-most : n ≡ count → n ≤ recordLimit
       at-most q = omega arith
-  writing-in count h (refusedAt n i) g buffer = (left (isInTable n) (not (eqb n 5)) (g .0), within (g .1))
+  writing-in count h (refusedAt n i) g buffer = (left-of (isInTable n) (not (eqb n 5)) (g .0), within (g .1))
     where
       within : i ≤ count → i ≤ recordLimit
       within q = omega arith
@@ -101,7 +101,7 @@ writing-demand1 page textOf =
 
 -- the table has 34 rows
 pub isInTable-small : (n : ℕ) → T (isInTable n) → n ≤ 34
-isInTable-small n h = leb→le n 34 (right (leb 1 n) (leb n 34) h)
+isInTable-small n h = leb→le n 34 (right-of (leb 1 n) (leb n 34) h)
 
 pub copy-demand1 : (page : List ℕ) → Demand1 page copy
 copy-demand1 page =

@@ -11,7 +11,7 @@ use lib.Dec.{leb}
 use Rattle.page.specs.Bytes.{pick}
 use Rattle.page.specs.Limits.{pageLimit}
 use Rattle.records.specs.Kind.{Kind}
-use Rattle.records.specs.Outcome.{Outcome, answer, refusal}
+use Rattle.records.specs.Outcome.{answer, refusal}
 use Rattle.ast.specs.Expr.{Expr, valueType}
 use Rattle.ast.specs.Walk.{Checked, accepted, refusedAt}
 use Rattle.ast.specs.CheckPage.{checkPage, outcomeOf, check}

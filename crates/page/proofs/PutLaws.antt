@@ -1,11 +1,11 @@
 -- The groups of a number, a byte at a time, as `put_number` writes them. Assumes nothing.
 use Prim.Native.Nat.{ℕ, zero, suc, _+_, _-_, _/_, _%_, _≤_, _<_}
-use mathlib.Core.Path.{_≡_, refl, _∙_}
-use mathlib.Core.List.{List, [], _∷_}
+use mathlib.Core.Path.{_≡_, refl}
+use mathlib.Core.List.{[], _∷_}
 use native.Mathlib.Omega.{arith}
 use borrow.Author.Tests.{lt-ltb, le-ltb}
 use Rattle.base.specs.Splice.{Cut}
-use Rattle.page.specs.Number.{writeGroups, writeNumber}
+use Rattle.page.specs.Number.{writeNumber}
 use Rattle.page.proofs.NumberLaws.{enough}
 
 -- ## writeNumber

@@ -1,4 +1,4 @@
--- Every reader of a record takes bytes from the front alone: what is left is a part of the page (`PositionLaws.Frontal`).
+-- Every reader of a record takes bytes from the front alone: what is left is a part of the page (`Frontal`, crate page).
 use Prim.Native.Nat.{ℕ, zero-le}
 use mathlib.Core.Path.{refl}
 use mathlib.Core.Bool.{Bool, true, false}
@@ -8,7 +8,7 @@ use Rattle.page.specs.Limits.{timeLimit, countLimit, textLimit, functionNameLim
 use Rattle.page.specs.Read.{Reader, _>>=_, return, ensure, badField, pastLimit}
 use Rattle.page.specs.Number.{readNumber}
 use Rattle.page.specs.Text.{Text, isText, isLabel, isSelectorName, readAnyText, readMetricName, readFunctionName, readCount, readList}
-use Rattle.page.proofs.PositionLaws.{Frontal, frontal-bind, frontal-return, frontal-ensure, frontal-number, frontal-choice, frontal-text, frontal-list}
+use Rattle.page.proofs.FrontalLaws.{Frontal, frontal-bind, frontal-return, frontal-ensure, frontal-number, frontal-choice, frontal-text, frontal-list}
 use Rattle.records.specs.Kind.{vector, scalar, matrix, string}
 use Rattle.records.specs.Code.{isCode}
 use Rattle.records.specs.Literal.{whole, infinite, plus, minus, nan, literalForms, readLiteral}

@@ -2,11 +2,11 @@
 -- so far, and what is left of the list, decide together. Assumes nothing.
 use Prim.Native.Nat.{ℕ, zero, suc, _-_, _≤_, _<_}
 use mathlib.Core.Path.{_≡_, refl, sym, ap, _∙_}
-use mathlib.Core.Bool.{Bool, true, false, _&&_, _||_, not}
-use mathlib.Core.List.{List, [], _∷_}
+use mathlib.Core.Bool.{Bool, true, false, _&&_, _||_}
+use mathlib.Core.List.{List, _∷_}
 use native.Mathlib.Omega.{arith}
 use Rattle.page.specs.Bytes.{all, any}
-use Rattle.page.specs.Read.{FieldFault, Read, refused, got, Reader, andThen, repeat, readerAt, badField}
+use Rattle.page.specs.Read.{FieldFault, Read, refused, got, andThen, readerAt, badField}
 use Rattle.page.specs.Number.{readNumber}
 use Rattle.page.specs.Text.{Text, readAnyText}
 use Rattle.page.specs.Listed.{listed}
@@ -112,14 +112,14 @@ and-all true = refl
 and-all false = refl
 
 -- a matcher whose marks were read
-pub record Read-marks (s t : List ℕ) (name accepts : Bool) : Type 0 where
+pub record MatcherMarked (s t : List ℕ) (name accepts : Bool) : Type 0 where
   pub matcher : Matcher
   pub reads : got matcher t ≡ readMatcher s
   pub names : name ≡ isNameMatcher matcher
   pub accept : accepts ≡ matchesEmpty matcher
 
 matcher-of : (m : Read Matcher) {t : List ℕ} {name accepts : Bool} {s : List ℕ} → m ≡ readMatcher s
-    → got (name, accepts) t ≡ andThen m (λ a u. got (marksOf a) u) → Read-marks s t name accepts
+    → got (name, accepts) t ≡ andThen m (λ a u. got (marksOf a) u) → MatcherMarked s t name accepts
 matcher-of (refused f) is e = let z : _≡_ {A = ℕ} 0 1 = cc in absurd (omega arith)
 matcher-of (got a u) {t} {name} {accepts} is e =
     let behind : u ≡ t = cc in
@@ -130,13 +130,13 @@ refused-of : (m : Read Matcher) {f : FieldFault} → refused f ≡ andThen m (λ
 refused-of (refused g) {f} e = let same : f ≡ g = cc in ap refused same
 refused-of (got a u) e = let z : _≡_ {A = ℕ} 0 1 = cc in absurd (omega arith)
 
-pub marks-refused-list : (s : List ℕ) {f : FieldFault} → refused f ≡ readMarks s → refused f ≡ readMatcher s
-marks-refused-list s e = refused-of (readMatcher s) e
+pub readMarks-refused : (s : List ℕ) {f : FieldFault} → refused f ≡ readMarks s → refused f ≡ readMatcher s
+readMarks-refused s e = refused-of (readMatcher s) e
 
 pub marked-more : (n : ℕ) (s : List ℕ) (left : ℕ) (t u : List ℕ) (named empty name accepts : Bool) → Marked n s left t named empty → 0 < left
     → got (name, accepts) u ≡ readMarks t → Marked n s (left - 1) u (named || name) (empty && accepts)
 marked-more n s left t u named empty name accepts inv h e =
-    let m : Read-marks t u name accepts = matcher-of (readMatcher t) refl e in
+    let m : MatcherMarked t u name accepts = matcher-of (readMatcher t) refl e in
     let more : listed readMatcher left t ≡ m .matcher ∷ listed readMatcher (left - 1) u = listed-more readMatcher left t h (m .reads) in
     record {
       passes = inv .passes ∙ passed-more readMatcher left t h (m .reads);

@@ -12,7 +12,7 @@ use Rattle.page.specs.Read.{Reader, _>>=_, return, ensure, badField, pastLimit}
 use Rattle.page.specs.Number.{readNumber, writeNumber}
 use Rattle.page.specs.Text.{Text, isText, isLabel, isSelectorName, readAnyText, writeText, writeList}
 use Rattle.page.specs.Allowed.{IsNumber, IsCount}
-use Rattle.page.proofs.NumberLaws.{right}
+use Rattle.page.proofs.NumberLaws.{right-of}
 use Rattle.page.proofs.ReaderLaws.{append-nil}
 use Rattle.page.proofs.ReadBackLaws.{Reads, ReadsBack, reads-return, reads-ensure, reads-as, reads-bind, reads-field, reads-tested, reads-choice, readNumber-back, readText-back, readCount-back, readList-back}
 use Rattle.records.specs.Kind.{vector, scalar, matrix, string}
@@ -143,7 +143,7 @@ readFunction-back f h =
 -- ## Records
 
 readCode-back : ReadsBack readCode writeNumber (λ c. T (isCode c))
-readCode-back c h = reads-tested isCode badField (readNumber-back c (omega (arith, leb→le c 30 (right (leb 1 c) (leb c 30) h)))) h
+readCode-back c h = reads-tested isCode badField (readNumber-back c (omega (arith, leb→le c 30 (right-of (leb 1 c) (leb c 30) h)))) h
 
 readSelector-back : (s : Selector) → IsSelector s → Reads readSelector (writeText (s .name) ++ writeList writeMatcher (s .matchers)) (leaf (selector s))
 readSelector-back s h =

@@ -1,4 +1,4 @@
--- Parts of the page without bytes: a part is empty where its ends meet. Assumes nothing.
+-- The size of a part of the page, and parts without bytes: a part is empty where its ends meet. Assumes nothing.
 use Prim.Native.Nat.{ℕ, _-_}
 use mathlib.Core.Path.{_≡_, refl, sym, _∙_}
 use mathlib.Core.Bool.{true, false}
@@ -17,7 +17,7 @@ full : (l : List ℕ) → (length l ≡ 0 → ⊥) → isEmpty l ≡ false
 full [] h = absurd (h refl)
 full (x ∷ l) h = refl
 
-span-size : (page : List ℕ) (s : Span) → Lies page s → length (spanOn page s) ≡ s .end - s .start
+pub span-size : (page : List ℕ) (s : Span) → Lies page s → length (spanOn page s) ≡ s .end - s .start
 span-size page s lies = length-take-le (s .end - s .start) (drop (s .start) page) (rw (length-drop (s .start) page) (omega (arith, lies .ordered, lies .inside)))
 
 pub span-empty : (page : List ℕ) (s : Span) → s .start ≡ s .end → isEmpty (spanOn page s) ≡ true

@@ -1,15 +1,13 @@
 -- Ranges, @ and offsets, going down: the tree that such a record ends is the one below with the record's part settled on it. And a tree
 -- that is no bare number stays none.
 use Prim.Native.Nat.{ℕ, suc, _-_}
-use native.Mathlib.Omega.{arith}
-use mathlib.Core.Path.{_≡_, refl, sym, ap, _∙_}
+use mathlib.Core.Path.{_≡_, refl, ap, _∙_}
 use mathlib.Core.List.{List}
 use mathlib.Core.Option.{Option, none, some}
-use lib.ListN.{getD}
 use Rattle.records.specs.Time.{Times, AtModifier, Offset}
 use Rattle.records.specs.Record.{Wrapper, range, at, offset, wrapper}
 use Rattle.ast.specs.Refusal.{ok}
-use Rattle.ast.specs.Expr.{Expr, Aggregate, AggregateParam, Unary, Binary, Paren, Subquery, NumberLiteral, StringLiteral, VectorSelector, MatrixSelector, Call, withTimes}
+use Rattle.ast.specs.Expr.{Expr, Aggregate, AggregateParam, Unary, Binary, Paren, Subquery, NumberLiteral, StringLiteral, VectorSelector, MatrixSelector, Call}
 use Rattle.ast.specs.Construct.{rangeAfter, newMatrixSelector, setAt, atExpr, setOffset, offsetExpr, noTimes}
 use Rattle.ast.specs.CheckPage.{wrap}
 use Rattle.ast.specs.Tables.{treeAt, Tables}

@@ -1,7 +1,7 @@
 -- The text of the tree that a record ends, from its layout and its operands on the stack: what the recursive functions go by.
 use Prim.Native.Nat.{ℕ, suc, _≤_, _<_}
 use native.Mathlib.Omega.{arith}
-use mathlib.Core.Path.{_≡_, ap, ap₂, _∙_}
+use mathlib.Core.Path.{_≡_, ap₂, _∙_}
 use mathlib.Core.Bool.{Bool, true}
 use mathlib.Core.List.{List, _++_}
 use lib.ListN.{length}
@@ -10,7 +10,7 @@ use Rattle.ast.specs.Expr.{Expr}
 use Rattle.ast.specs.Tables.{stackAt, treeAt, Tables}
 use Rattle.text.specs.Display.{display}
 use Rattle.text.specs.Pretty.{maxCharactersPerLine}
-use Rattle.text.specs.Layout.{Layout, layoutOf, children, front, between, rear, indentIf, frontAt, betweenAt, rearAt, innerMark, innerLevel, marked, joined}
+use Rattle.text.specs.Layout.{Layout, front, between, rear, indentIf, frontAt, betweenAt, rearAt, innerMark, innerLevel, marked, joined}
 use Rattle.text.specs.Seen.{Seen}
 use Rattle.text.proofs.DisplayLaws.{by-pieces}
 use Rattle.text.proofs.PrettyLaws.{short, long}

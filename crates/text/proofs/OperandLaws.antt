@@ -4,13 +4,13 @@ use Prim.Native.Nat.{ℕ, zero, suc, _-_, _≤_, _<_}
 use native.Mathlib.Numerals.{sub-one}
 use native.Mathlib.Omega.{arith}
 use mathlib.Core.Path.{_≡_, refl, sym, ap, _∙_}
-use mathlib.Core.List.{List, [], _∷_, _++_, map, reverse, reverse-cons, append-assoc, append-nil}
+use mathlib.Core.List.{List, [], _∷_, _++_, map, reverse-cons, append-assoc, append-nil}
 use lib.ListN.{length, take, getD}
-use Rattle.page.specs.Bytes.{join, joinRest}
+use Rattle.page.specs.Bytes.{joinRest}
 use Rattle.records.specs.Stack.{operandsOf}
 use Rattle.ast.specs.Expr.{Expr}
-use Rattle.ast.specs.Tables.{stackAt, treeAt, Entry, Tables}
-use Rattle.text.specs.Layout.{texts, joined}
+use Rattle.ast.specs.Tables.{stackAt, treeAt, Tables}
+use Rattle.text.specs.Layout.{joined}
 
 -- ## joined
 

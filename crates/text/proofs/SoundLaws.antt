@@ -1,24 +1,23 @@
 -- Every tree on the stack of an accepted page is sound: names begin with a letter, `_` or `:`, the words of the codes with no space,
 -- and a selector without a name has matchers, or it is refused with 34.
 use Prim.Native.Nat.{ℕ, zero, suc, _-_, _≤_, _<_}
-use Prim.Native.String.{String}
 use native.Mathlib.Omega.{arith}
 use mathlib.Core.Path.{_≡_, refl, sym, ap, subst, _∙_}
-use mathlib.Core.Bool.{Bool, true, false, _&&_, _||_, not}
+use mathlib.Core.Bool.{Bool, true, false, _||_, not}
 use mathlib.Core.List.{List, [], _∷_}
 use mathlib.Core.Option.{Option, none, some}
 use lib.ListN.{length, drop, getD, replicate}
 use lib.Dec.{T, leb, eqb, leb→le}
 use Rattle.base.specs.Table.{at}
 use Rattle.page.specs.Bytes.{bytes, all}
-use Rattle.page.specs.Read.{Read, got}
+use Rattle.page.specs.Read.{got}
 use Rattle.page.specs.Text.{Text, isAlpha, isAlphaNumeric, isLabel, isMetricName, isSelectorName}
-use Rattle.page.proofs.ReadBackLaws.{Got}
 use Rattle.records.specs.Stack.{operandsOf}
 use Rattle.records.specs.Code.{isCode, words, word, hasParameter}
 use Rattle.records.specs.Matcher.{Matcher, Selector}
 use Rattle.records.specs.Record.{Leaf, number, string, selector, Wrapper, range, subquery, at as atRecord, offset, unary, paren, Record, leaf, wrapper, binary, aggregate, call, operands, readRecord}
 use Rattle.page.specs.Allowed.{Each}
+use Rattle.page.proofs.NumberLaws.{left-of, right-of}
 use Rattle.records.specs.Literal.{Literal, negate}
 use Rattle.records.specs.Modifier.{LabelModifier}
 use Rattle.records.specs.Time.{Times}
@@ -29,7 +28,7 @@ use Rattle.ast.specs.Expr.{Expr, Args, Aggregate, AggregateParam, Unary, Binary
 use Rattle.ast.specs.Construct.{newAggregateOf, noTimes}
 use Rattle.ast.specs.CheckAst.{selectorRows, checkAst}
 use Rattle.ast.specs.CheckPage.{leafExpr, wrap, apply}
-use Rattle.ast.specs.Tables.{stackAt, treeAt, Entry, Tables}
+use Rattle.ast.specs.Tables.{stackAt, treeAt, Tables}
 use Rattle.text.specs.Display.{displaySelector}
 use Rattle.text.specs.Chain.{withAt, withOffset, settled}
 use Rattle.text.proofs.TrimLaws.{Begins, begins, begins-append, Sound}
@@ -44,17 +43,13 @@ stackAt-none page = refl
 
 -- ## Names and words
 
-both : (a b : Bool) → T (a && b) → T a
-both true b h = tt
-both false b h = h
-
 label-begins : (t : Text) → T (isLabel t) → Begins t
 label-begins [] h = absurd h
-label-begins (c ∷ cs) h = begins c cs (λ e. subst (λ (x : ℕ). T (isAlpha x)) e (both (isAlpha c) (all isAlphaNumeric cs) h))
+label-begins (c ∷ cs) h = begins c cs (λ e. subst (λ (x : ℕ). T (isAlpha x)) e (left-of (isAlpha c) (all isAlphaNumeric cs) h))
 
 metric-begins : (c : ℕ) (cs : Text) → T (isMetricName (c ∷ cs)) → Begins (c ∷ cs)
 metric-begins c cs h =
-    begins c cs (λ e. subst (λ (x : ℕ). T (isAlpha x || eqb x 58)) e (both (isAlpha c || eqb c 58) (all (λ x. isAlphaNumeric x || eqb x 58) cs) h))
+    begins c cs (λ e. subst (λ (x : ℕ). T (isAlpha x || eqb x 58)) e (left-of (isAlpha c || eqb c 58) (all (λ x. isAlphaNumeric x || eqb x 58) cs) h))
 
 isBeginning : List ℕ → Bool
 isBeginning [] = false
@@ -71,12 +66,8 @@ word-test k x = isBeginning (bytes (getD words k ""))
 
 word-begins : (c : ℕ) → T (isCode c) → Begins (word c)
 unfolding isBeginning word-test
-word-begins c h = beginning (word c) (at word-test (replicate 30 0) tt (c - 1) (below (leb→le 1 c (both (leb 1 c) (leb c 30) h)) (leb→le c 30 (second (leb 1 c) (leb c 30) h))))
+word-begins c h = beginning (word c) (at word-test (replicate 30 0) tt (c - 1) (below (leb→le 1 c (left-of (leb 1 c) (leb c 30) h)) (leb→le c 30 (right-of (leb 1 c) (leb c 30) h))))
   where
-    second : (a b : Bool) → T (a && b) → T b
-    second true b k = k
-    second false b k = absurd k
-
     below : 1 ≤ c → c ≤ 30 → c - 1 < 30
     below x y = omega arith
 

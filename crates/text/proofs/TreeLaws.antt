@@ -3,24 +3,20 @@
 use Prim.Native.Nat.{ℕ}
 use native.Mathlib.Omega.{arith}
 use mathlib.Core.Path.{_≡_, refl, sym, ap, _∙_}
-use mathlib.Core.Bool.{Bool, true, false}
-use mathlib.Core.List.{List, [], _∷_}
+use mathlib.Core.List.{List, _∷_}
 use mathlib.Core.Option.{Option, none, some}
-use lib.ListN.{length, drop, getD}
+use lib.ListN.{length, drop}
 use lib.Dec.{leb}
 use Rattle.page.specs.Bytes.{pick}
 use Rattle.records.specs.Stack.{operandsOf}
 use Rattle.records.specs.Modifier.{LabelModifier, BinModifier}
-use Rattle.records.specs.Code.{hasParameter}
 use Rattle.records.specs.Signature.{Function}
-use Rattle.records.specs.Record.{Leaf, Wrapper, Record, leaf, wrapper, binary, aggregate, call}
+use Rattle.records.specs.Record.{Leaf, Wrapper, leaf, wrapper, binary, aggregate, call}
 use Rattle.ast.specs.Refusal.{Result, refused, ok, unless, firstFault, andThen}
-use Rattle.ast.specs.Expr.{Expr, Args, Aggregate, AggregateParam, Unary, Binary, Paren, Subquery, NumberLiteral, StringLiteral, VectorSelector, MatrixSelector, Call, argsOf, valueType}
-use Rattle.ast.specs.Construct.{newAggregate, newAggregateOf}
+use Rattle.ast.specs.Expr.{Expr, Aggregate, AggregateParam, Unary, Binary, Paren, Subquery, NumberLiteral, StringLiteral, VectorSelector, MatrixSelector, Call, argsOf, valueType}
+use Rattle.ast.specs.Construct.{newAggregate}
 use Rattle.ast.specs.CheckAst.{binaryRows, checkedModifier, aggregateRows, callRows, kindsOf, firstLiteral, unaryRows, subqueryRows, selectorRows, checkAst}
 use Rattle.ast.specs.CheckPage.{leafExpr, wrap, push, pushCall, apply}
-use Rattle.ast.specs.Tables.{stackAt, treeAt, Entry, Tables}
-use Rattle.text.specs.Layout.{argsList, children}
 
 -- what `check_ast` makes of a node that it accepts
 abbrev pub checkedExpr : Expr → Expr

@@ -6,7 +6,7 @@ use mathlib.Core.Path.{_≡_, refl, sym, ap, _∙_}
 use mathlib.Core.Bool.{Bool, true, false, not}
 use mathlib.Core.List.{List}
 use mathlib.Core.Option.{Option, none, some}
-use Rattle.records.specs.Literal.{Literal, plus, minus, nan, negate}
+use Rattle.records.specs.Literal.{Literal, plus, minus, nan}
 use Rattle.records.specs.Time.{Times}
 use Rattle.records.specs.Record.{number, string, selector, Wrapper, range, subquery, at, offset, unary, paren, Record, leaf, wrapper, binary, aggregate, call}
 use Rattle.ast.specs.Refusal.{ok}
@@ -16,7 +16,7 @@ use Rattle.ast.specs.CheckPage.{wrap}
 use Rattle.ast.specs.Tables.{treeAt, Tables}
 use Rattle.text.specs.Layout.{Layout, whole, negation, suffixed, enclosed, infixed, layoutOf}
 use Rattle.text.specs.Chain.{withAt, withOffset, settled}
-use Rattle.text.specs.Seen.{Reads, Seen}
+use Rattle.text.specs.Seen.{Reads}
 use Rattle.text.proofs.EntryLaws.{leaf-tree, wrapped, negated, unary-value}
 use Rattle.text.proofs.SeenLaws.{number-is, seen-subquery, seen-paren, seen-binary, seen-aggregate, seen-call}
 use Rattle.text.proofs.ChainLaws.{settled-nothing, chain-range, chain-at, chain-offset}

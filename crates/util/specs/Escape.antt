@@ -1,6 +1,5 @@
 -- Escaped and quoted texts (util/string.rs, `escape_string`).
 use Prim.Native.Nat.{ℕ, zero, suc}
-use Prim.Native.String.{String}
 use mathlib.Core.List.{List, [], _∷_, _++_}
 use lib.Dec.{eqb}
 use Rattle.page.specs.Bytes.{pick, bytes}

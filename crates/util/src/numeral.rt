@@ -4,7 +4,6 @@ use crate::decimal::put_decimal;
 use page::put_byte;
 use page::put_bytes;
 use records::Literal;
-ghost use mathlib.Core.Path.{_≡_};
 ghost use Prim.Native.Nat.{_+_, _≤_};
 ghost use lib.ListN.{length};
 ghost use Rattle.base.specs.Splice.{Wrote};

@@ -4,7 +4,6 @@ use crate::label::has_labels;
 use judge::Verdict;
 use judge::binary::Marks;
 use judge::binary::judge_sides;
-use records::BinModifier;
 use records::Cardinality;
 use records::Kind;
 use records::LabelModifier;

@@ -2,7 +2,7 @@
 use Prim.Native.Nat.{ℕ, suc, _+_, _-_, _≤_, _<_}
 use native.Mathlib.Numerals.{add-one}
 use native.Mathlib.Omega.{arith}
-use mathlib.Core.Bool.{Bool, true, false, _&&_}
+use mathlib.Core.Bool.{Bool}
 use mathlib.Core.List.{List, [], _∷_}
 use mathlib.Core.Path.{_≡_, refl, sym, ap, _∙_}
 use lib.Dec.{T, leb, eqb, eqb→eq, leb→le}
@@ -11,6 +11,7 @@ use lib.Seq.{getD-take, drop-cons, length-take-le}
 use Rattle.base.specs.Splice.{Cut}
 use Rattle.base.specs.Table.{at}
 use Rattle.page.specs.Bytes.{equal, bytes}
+use Rattle.page.proofs.NumberLaws.{left-of, right-of}
 use Rattle.records.specs.Code.{words, word}
 use Rattle.words.specs.Words.{letters, starts, wordAt}
 
@@ -29,21 +30,13 @@ short i x = leb (getD starts (i + 1) 0 - x) 12
 inside : ℕ → ℕ → Bool
 inside i x = leb (getD starts (i + 1) 0) (length letters)
 
-both-left : (a b : Bool) → T (a && b) → T a
-both-left true b t = tt
-both-left false b t = t
-
-both-right : (a b : Bool) → T (a && b) → T b
-both-right true b t = t
-both-right false b t = absurd t
-
 equal-same : (a b : List ℕ) → T (equal a b) → a ≡ b
 equal-same [] [] t = refl
 equal-same [] (y ∷ ys) t = absurd t
 equal-same (x ∷ xs) [] t = absurd t
 equal-same (x ∷ xs) (y ∷ ys) t =
-    let e = eqb→eq x y (both-left (eqb x y) (equal xs ys) t) in
-    rw e (ap (λ (l : List ℕ). y ∷ l) (equal-same xs ys (both-right (eqb x y) (equal xs ys) t)))
+    let e = eqb→eq x y (left-of (eqb x y) (equal xs ys) t) in
+    rw e (ap (λ (l : List ℕ). y ∷ l) (equal-same xs ys (right-of (eqb x y) (equal xs ys) t)))
 
 -- the first 31 places; behind the last one stands its end
 places : List ℕ

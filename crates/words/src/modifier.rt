@@ -5,7 +5,6 @@ use crate::labelled::put_labelled;
 use page::put_byte;
 use records::Cardinality;
 use records::LabelModifier;
-use util::capped_add;
 ghost use mathlib.Core.Path.{_≡_};
 ghost use Prim.Native.Nat.{_+_, _≤_, min};
 ghost use lib.ListN.{length};

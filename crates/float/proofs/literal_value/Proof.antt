@@ -1,5 +1,4 @@
 -- `float::literal_value` meets its contract: the float of each form. Assumes nothing.
-use lib.Ieee as Ieee
 use borrow.Author.Needs.{needs}
 use Rattle.float.proofs.literal_value.Statement.{statement}
 use Rattle.float.proofs.literal_value.Tie as tie

@@ -1,5 +1,4 @@
 -- `measure::widths_of` meets its contract: nothing is known of an empty table, and measuring keeps it right. Assumes nothing.
-use denote.Ref.{now}
 use Rattle.view.proofs.ViewLaws.{unmarked}
 use Rattle.measure.proofs.WidthLaws.{known-none}
 use borrow.Author.Needs.{needs}

@@ -1,13 +1,10 @@
 -- `joint::group::first_joint` meets its contract. The loop's invariant: what is left of the group labels decides. Assumes nothing.
 use mathlib.Core.Path.{_≡_, refl, sym, ap, _∙_}
-use lib.ListN.{length, drop}
 use denote.Ref.{now}
 use borrow.Author.Needs.{needs}
-use Rattle.ast.specs.Part.{readPlaced}
 use Rattle.ast.specs.CheckAst.{hasLabel}
 use Rattle.records.specs.Answers.{labelsOn}
-use Rattle.page.specs.Listed.{listed}
-use Rattle.joint.specs.Answers.{placedPart, firstOn}
+use Rattle.joint.specs.Answers.{firstOn}
 use Rattle.joint.proofs.PlacedLaws.{nowhere, place-found, place-next, place-refused, place-none}
 use Rattle.joint.proofs.group.first_joint.Statement.{statement}
 use Rattle.joint.proofs.group.first_joint.Tie as tie

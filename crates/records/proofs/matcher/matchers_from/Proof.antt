@@ -4,7 +4,7 @@ use lib.ListN.{drop}
 use mathlib.Core.Path.{refl}
 use Rattle.page.proofs.ListLaws.{all-read, one-refused}
 use Rattle.records.specs.Matcher.{readMatcher}
-use Rattle.records.proofs.MarkLaws.{Marked, marked-more, all-marked, marks-refused-list}
+use Rattle.records.proofs.MarkLaws.{Marked, marked-more, all-marked, readMarks-refused}
 use borrow.Author.Needs.{needs}
 use Rattle.records.proofs.matcher.matchers_from.Statement.{statement}
 use Rattle.records.proofs.matcher.matchers_from.Tie as tie
@@ -41,7 +41,7 @@ enum-known-f c = search needs
 returns : tie.Need-returns Inv-loop μ-loop
 returns c =
     let e = rw (c .before .f .given .1) at (c .before .before .before .mark-matcher .ensures) in
-    (one-refused readMatcher _ _ (c .before .before .before .before .before .loop .left) (drop (c .before .before .before .before .before .loop .at) (now (c .before .before .before .before .before .before .before .args .page))) (c .before .before .before .before .before .loop .inv .passes) (c .before .before .before .before .loop-test .taken) (marks-refused-list (drop (c .before .before .before .before .before .loop .at) (now (c .before .before .before .before .before .before .before .args .page))) e), tt)
+    (one-refused readMatcher _ _ (c .before .before .before .before .before .loop .left) (drop (c .before .before .before .before .before .loop .at) (now (c .before .before .before .before .before .before .before .args .page))) (c .before .before .before .before .before .loop .inv .passes) (c .before .before .before .before .loop-test .taken) (readMarks-refused (drop (c .before .before .before .before .before .loop .at) (now (c .before .before .before .before .before .before .before .args .page))) e), tt)
 
 returns-2 : tie.Need-returns-2 Inv-loop μ-loop
 returns-2 c =
