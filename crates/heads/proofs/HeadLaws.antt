@@ -1,5 +1,5 @@
 -- Modifiers, operators, aggregators and selectors in the pieces that are written, and their lengths up to a cap. Assumes nothing.
-use Prim.Native.Nat.{ℕ, _+_, _<_, min}
+use Prim.Native.Nat.{ℕ, _+_, min}
 use native.Mathlib.Omega.{arith}
 use mathlib.Core.Bool.{Bool, true, false}
 use mathlib.Core.List.{List, [], _∷_, _++_, append-nil}
@@ -8,9 +8,7 @@ use mathlib.Core.Path.{_≡_, refl, sym, ap, _∙_, subst}
 use lib.ListN.{length, length-append}
 use Rattle.base.specs.Splice.{Cut, join}
 use Rattle.page.specs.Bytes.{isEmpty}
-use Rattle.page.specs.Read.{FieldFault, refused, got}
-use Rattle.page.specs.Listed.{listed}
-use Rattle.page.proofs.ListLaws.{listed-more, listed-none, listed-refused}
+use Rattle.page.specs.Listed.{listed, AllRead}
 use Rattle.records.specs.Code.{word}
 use Rattle.records.specs.Matcher.{Matcher, readMatcher, Selector}
 use Rattle.records.specs.Modifier.{LabelModifier, BinModifier}
@@ -21,7 +19,7 @@ use Rattle.records.specs.declared.modifier.BinModifier.{BinModifier as CodeModi
 use Rattle.float.specs.Exact.{FillsExact, ModifierExact}
 use Rattle.label.specs.Label.{displayMatchers}
 use Rattle.text.specs.Display.{displayBool, displayMatching, displayCardinality, displayFills, displayModifier, displayOperator, displayGrouping, displayAggregator, displayBraces, displaySelector}
-use Rattle.words.proofs.LabelledLaws.{four, never}
+use Rattle.words.proofs.LabelledLaws.{four, never, none-listed, some-listed}
 
 -- ## displayModifier
 
@@ -61,41 +59,31 @@ module _ (page : List ℕ) (c : ℕ) (m : Modifier) where
 pub operator-exact : (page : List ℕ) (m : Modifier) (own : CodeModifier) → m ≡ Some own → ModifierExact (modifierOn page m) → FillsExact (binModifierOn page own)
 operator-exact page m own e h = subst (λ (x : Modifier). ModifierExact (modifierOn page x)) e h
 
--- ## displayBraces, displaySelector; r is what `no_matchers` answered
+-- ## displayBraces, displaySelector: n matchers from s on
 
-module _ (ms : List Matcher) (r : Bool) (is : r ≡ isEmpty ms) where
-  pub braces-none : r ≡ true → displayBraces ms ≡ []
-  braces-none yes· = by ms (sym is ∙ yes·)
+module _ (n : ℕ) (s : List ℕ) where
+  pub braces-none : n ≡ 0 → displayBraces (listed readMatcher n s) ≡ []
+  braces-none none = by (listed readMatcher n s) (none-listed readMatcher n s none)
     where
       by : (ms : List Matcher) → isEmpty ms ≡ true → displayBraces ms ≡ []
       by [] e = refl
       by (m ∷ ms) e = absurd (never e)
 
-  pub braces-some : r ≡ false → displayBraces ms ≡ join ((123 ∷ []) ∷ displayMatchers ms ∷ (125 ∷ []) ∷ [])
-  unfolding join
-  braces-some no· = by ms (sym is ∙ no·)
-    where
-      by : (ms : List Matcher) → isEmpty ms ≡ false → displayBraces ms ≡ 123 ∷ (displayMatchers ms ++ (125 ∷ []))
-      by [] e = absurd (never (sym e))
-      by (m ∷ ms) e = refl
+  module _ (all : AllRead readMatcher n s) (some· : n ≡ 0 → ⊥) where
+    pub braces-some : displayBraces (listed readMatcher n s) ≡ join ((123 ∷ []) ∷ displayMatchers (listed readMatcher n s) ∷ (125 ∷ []) ∷ [])
+    unfolding join
+    braces-some = by (listed readMatcher n s) (some-listed readMatcher n s all some·)
+      where
+        by : (ms : List Matcher) → isEmpty ms ≡ false → displayBraces ms ≡ 123 ∷ (displayMatchers ms ++ (125 ∷ []))
+        by [] e = absurd (never (sym e))
+        by (m ∷ ms) e = refl
 
-  pub length-braces : r ≡ false → length (displayBraces ms) ≡ 2 + length (displayMatchers ms)
-  unfolding join
-  length-braces no· = ap length (braces-some no·) ∙ omega (arith, length-append (displayMatchers ms) (125 ∷ []))
+    pub length-braces : length (displayBraces (listed readMatcher n s)) ≡ 2 + length (displayMatchers (listed readMatcher n s))
+    unfolding join
+    length-braces = ap length braces-some ∙ omega (arith, length-append (displayMatchers (listed readMatcher n s)) (125 ∷ []))
 
 pub selector-cut : (s : Selector) → Cut (displaySelector s) (s .name) (displayBraces (s .matchers))
 selector-cut s = record { is = refl }
-
--- ## isEmpty of a list of matchers
-
-pub no-matchers-none : (n : ℕ) (s : List ℕ) → n ≡ 0 → true ≡ isEmpty (listed readMatcher n s)
-no-matchers-none n s e = rw (listed-none readMatcher n s (omega arith))
-
-pub no-matchers-refused : (n : ℕ) (s : List ℕ) {f : FieldFault} → refused f ≡ readMatcher s → true ≡ isEmpty (listed readMatcher n s)
-no-matchers-refused n s e = rw (listed-refused readMatcher n s e)
-
-pub no-matchers-some : (n : ℕ) (s : List ℕ) {m : Matcher} {rest : List ℕ} → 0 < n → got m rest ≡ readMatcher s → false ≡ isEmpty (listed readMatcher n s)
-no-matchers-some n s h e = rw (listed-more readMatcher n s h e)
 
 -- ## displayAggregator
 

@@ -20,7 +20,7 @@ ghost use mathlib.Core.Path.{_≡_};
 ghost use Prim.Native.Nat.{_+_, _≤_, min};
 ghost use lib.ListN.{length};
 ghost use Rattle.base.specs.Splice.{Wrote};
-ghost use Rattle.records.specs.Answers.{labelModifierOn, fillOf, binModifierOn, modifierOn};
+ghost use Rattle.records.specs.Answers.{labelModifierOn, LabelModifierStored, fillOf, binModifierOn, BinModifierStored, modifierOn, ModifierStored};
 ghost use Rattle.float.specs.Fills.{fillValues, FillExact};
 ghost use Rattle.float.specs.Exact.{ModifierExact};
 ghost use Rattle.text.specs.Display.{displayBool, displayModifier, displayOperator, displayAggregator};
@@ -46,6 +46,7 @@ fn put_bool(returns_bool: bool, out: &mut [u8], at: usize) -> usize
 
 // The fill numbers come as floats, with marks that say whether they are there.
 fn modifier_len(page: &[u8], modifier: BinModifier, values: FillValues, cap: usize) -> usize
+    requires { ⌜ BinModifierStored (now page) modifier ⌝ }
     requires { ⌜ (values ≡ fillValues (fillOf (modifier .lhs)) (fillOf (modifier .rhs))) × FillExact (fillOf (modifier .lhs)) × FillExact (fillOf (modifier .rhs)) ⌝ }
     ensures { λ r. ⌜ r ≡ min (length (displayModifier (binModifierOn (now (page .entry)) modifier))) cap ⌝ }
 {
@@ -65,6 +66,7 @@ fn put_modifier(
     out: &mut [u8],
     at: usize,
 ) -> usize
+    requires { ⌜ BinModifierStored (now page) modifier ⌝ }
     requires { ⌜ (values ≡ fillValues (fillOf (modifier .lhs)) (fillOf (modifier .rhs))) × FillExact (fillOf (modifier .lhs)) × FillExact (fillOf (modifier .rhs)) ⌝ }
     requires { ⌜ at + length (displayModifier (binModifierOn (now page) modifier)) ≤ length (now out) ⌝ }
     ensures { λ r. ⌜ Wrote (now (out .entry)) (now (out .exit)) at (displayModifier (binModifierOn (now (page .entry)) modifier)) r ⌝ }
@@ -80,6 +82,7 @@ fn put_modifier(
 }
 
 pub fn operator_len(page: &[u8], code: u64, modifier: Modifier, cap: usize) -> usize
+    requires { ⌜ ModifierStored (now page) modifier ⌝ }
     requires { ⌜ ModifierExact (modifierOn (now page) modifier) ⌝ }
     ensures { λ r. ⌜ r ≡ min (length (displayOperator code (modifierOn (now (page .entry)) modifier))) cap ⌝ }
 {
@@ -96,6 +99,7 @@ pub fn operator_len(page: &[u8], code: u64, modifier: Modifier, cap: usize) -> u
 }
 
 pub fn put_operator(page: &[u8], code: u64, modifier: Modifier, out: &mut [u8], at: usize) -> usize
+    requires { ⌜ ModifierStored (now page) modifier ⌝ }
     requires { ⌜ ModifierExact (modifierOn (now page) modifier) ⌝ }
     requires { ⌜ at + length (displayOperator code (modifierOn (now page) modifier)) ≤ length (now out) ⌝ }
     ensures { λ r. ⌜ Wrote (now (out .entry)) (now (out .exit)) at (displayOperator code (modifierOn (now (page .entry)) modifier)) r ⌝ }
@@ -113,6 +117,7 @@ pub fn put_operator(page: &[u8], code: u64, modifier: Modifier, out: &mut [u8], 
 }
 
 pub fn aggregator_len(page: &[u8], code: u64, grouping: LabelModifier, cap: usize) -> usize
+    requires { ⌜ LabelModifierStored (now page) grouping ⌝ }
     ensures { λ r. ⌜ r ≡ min (length (displayAggregator code (labelModifierOn (now (page .entry)) grouping))) cap ⌝ }
 {
     let word = word_len(code);
@@ -126,6 +131,7 @@ pub fn put_aggregator(
     out: &mut [u8],
     at: usize,
 ) -> usize
+    requires { ⌜ LabelModifierStored (now page) grouping ⌝ }
     requires { ⌜ at + length (displayAggregator code (labelModifierOn (now page) grouping)) ≤ length (now out) ⌝ }
     ensures { λ r. ⌜ Wrote (now (out .entry)) (now (out .exit)) at (displayAggregator code (labelModifierOn (now (page .entry)) grouping)) r ⌝ }
 {

@@ -5,48 +5,36 @@ use page::put_byte;
 use page::put_bytes;
 use page::text_at;
 use reader::Selector;
-use records::MatcherField;
-use records::read_matcher;
 use util::capped_add;
 ghost use mathlib.Core.Path.{_≡_};
 ghost use Prim.Native.Nat.{_+_, _≤_, min};
-ghost use lib.ListN.{length};
+ghost use lib.ListN.{length, drop};
 ghost use Rattle.base.specs.Splice.{Wrote};
-ghost use Rattle.page.specs.Bytes.{isEmpty};
 ghost use Rattle.page.specs.Limits.{pageLimit, countLimit};
+ghost use Rattle.page.specs.Listed.{AllRead};
 ghost use Rattle.page.specs.Answers.{Lies};
+ghost use Rattle.records.specs.Matcher.{readMatcher};
 ghost use Rattle.records.specs.Answers.{matchersOn};
 ghost use Rattle.reader.specs.Answers.{selectorOn};
 ghost use Rattle.text.specs.Display.{displayBraces, displaySelector};
 
-// Whether a list has no matchers.
-fn no_matchers(page: &[u8], start: usize, count: usize) -> bool
-    ensures { λ r. ⌜ r ≡ isEmpty (matchersOn (now (page .entry)) start count) ⌝ }
-{
-    if count == 0 {
-        return true;
-    }
-    match read_matcher(page, start) {
-        MatcherField::Got(matcher, next) => false,
-        MatcherField::Bad(fault) => true,
-    }
-}
-
 fn braces_len(page: &[u8], start: usize, count: usize, cap: usize) -> usize
+    requires { ⌜ AllRead readMatcher count (drop start (now page)) ⌝ }
     ensures { λ r. ⌜ r ≡ min (length (displayBraces (matchersOn (now (page .entry)) start count))) cap ⌝ }
 {
-    if no_matchers(page, start, count) {
+    if count == 0 {
         return 0;
     }
     capped_add(2, matchers_len(page, start, count, cap), cap)
 }
 
 fn put_braces(page: &[u8], start: usize, count: usize, out: &mut [u8], at: usize) -> usize
+    requires { ⌜ AllRead readMatcher count (drop start (now page)) ⌝ }
     requires { ⌜ (length (matchersOn (now page) start count) ≤ countLimit) × (length (now page) ≤ pageLimit) ⌝ }
     requires { ⌜ at + length (displayBraces (matchersOn (now page) start count)) ≤ length (now out) ⌝ }
     ensures { λ r. ⌜ Wrote (now (out .entry)) (now (out .exit)) at (displayBraces (matchersOn (now (page .entry)) start count)) r ⌝ }
 {
-    if no_matchers(page, start, count) {
+    if count == 0 {
         return at;
     }
     let first = put_byte(b'{', out, at);
@@ -56,6 +44,7 @@ fn put_braces(page: &[u8], start: usize, count: usize, out: &mut [u8], at: usize
 
 pub fn selector_len(page: &[u8], selector: Selector, cap: usize) -> usize
     requires { ⌜ Lies (now page) (selector .name) ⌝ }
+    requires { ⌜ AllRead readMatcher (selector .count) (drop (selector .matchers) (now page)) ⌝ }
     ensures { λ r. ⌜ r ≡ min (length (displaySelector (selectorOn (now (page .entry)) selector))) cap ⌝ }
 {
     let name = text_at(page, selector.name);
@@ -68,6 +57,7 @@ pub fn selector_len(page: &[u8], selector: Selector, cap: usize) -> usize
 
 pub fn put_selector(page: &[u8], selector: Selector, out: &mut [u8], at: usize) -> usize
     requires { ⌜ Lies (now page) (selector .name) ⌝ }
+    requires { ⌜ AllRead readMatcher (selector .count) (drop (selector .matchers) (now page)) ⌝ }
     requires { ⌜ (length (matchersOn (now page) (selector .matchers) (selector .count)) ≤ countLimit) × (length (now page) ≤ pageLimit) ⌝ }
     requires { ⌜ at + length (displaySelector (selectorOn (now page) selector)) ≤ length (now out) ⌝ }
     ensures { λ r. ⌜ Wrote (now (out .entry)) (now (out .exit)) at (displaySelector (selectorOn (now (page .entry)) selector)) r ⌝ }

@@ -7,11 +7,11 @@ use mathlib.Core.List.{List, [], _∷_, _++_, map, append-nil, append-assoc}
 use mathlib.Core.Path.{_≡_, refl, sym, ap, _∙_, subst}
 use lib.ListN.{length, take, set, length-set}
 use lib.Seq.{take-suc-set}
-use Rattle.page.specs.Read.{FieldFault, refused, got}
+use Rattle.page.specs.Read.{got}
 use Rattle.page.specs.Text.{Text, isLabel}
 use Rattle.page.specs.Listed.{listed}
 use Rattle.page.specs.Answers.{spanOn}
-use Rattle.page.proofs.ListLaws.{listed-more, listed-none, listed-refused}
+use Rattle.page.proofs.ListLaws.{listed-more, listed-none}
 use Rattle.util.specs.Escape.{quote}
 use Rattle.records.specs.Matcher.{MatchOp, equal, notEqual, re, notRe, Matcher, readMatcher, matchOpNumber}
 use Rattle.page.proofs.ReadBackLaws.{Got}
@@ -117,16 +117,11 @@ module _ {page : List ℕ} {all : List Matcher} {before keys : List ℕ} {left :
           areKeys = rw front (areKeys-append page (take i keys) (k ∷ []) (w .areKeys) (areKeys-one page k (rw packed (prints .prints))));
         }
 
-  collect-ends : listed readMatcher left s ≡ [] → Collected page all keys i
-  collect-ends none =
+  pub collect-end : left ≤ 0 → Collected page all keys i
+  collect-end h =
+      let none = listed-none readMatcher left s h in
       record {
         texts = sym (append-nil (keyTexts page (take i keys))) ∙ ap (λ (l : List Matcher). keyTexts page (take i keys) ++ map displayMatcher l) (sym none) ∙ w .texts;
         areKeys = w .areKeys;
         inside = let r = w .room in omega arith;
       }
-
-  pub collect-end : left ≤ 0 → Collected page all keys i
-  collect-end h = collect-ends (listed-none readMatcher left s h)
-
-  pub collect-refused : {f : FieldFault} → refused f ≡ readMatcher s → Collected page all keys i
-  collect-refused e = collect-ends (listed-refused readMatcher left s e)

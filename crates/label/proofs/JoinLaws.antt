@@ -9,10 +9,10 @@ use lib.ListN.{length, getD, take, drop, drop-of-length-le, length-append}
 use lib.Seq.{drop-cons}
 use Rattle.base.specs.Cases.{by-flag}
 use Rattle.base.specs.Splice.{Cut, Wrote}
-use Rattle.page.specs.Read.{FieldFault, refused, got}
+use Rattle.page.specs.Read.{got}
 use Rattle.page.specs.Text.{Text}
 use Rattle.page.specs.Listed.{listed}
-use Rattle.page.proofs.ListLaws.{listed-more, listed-none, listed-refused}
+use Rattle.page.proofs.ListLaws.{listed-more, listed-none}
 use Rattle.util.specs.Escape.{quote}
 use Rattle.records.specs.Matcher.{Matcher, readMatcher, matchOpNumber}
 use Rattle.label.specs.Label.{displayLabel, displayMatcher, atMost, insert, sort, joinedByCommas, moreByCommas, displayMatchers}
@@ -92,10 +92,6 @@ module _ (n : ℕ) (s : List ℕ) where
   pub matchers-none : n ≤ 0 → length (moreByCommas (map displayMatcher (listed readMatcher n s))) ≡ 0
   unfolding moreByCommas
   matchers-none h = rw (listed-none readMatcher n s h)
-
-  pub matchers-refused : {f : FieldFault} → refused f ≡ readMatcher s → length (moreByCommas (map displayMatcher (listed readMatcher n s))) ≡ 0
-  unfolding moreByCommas
-  matchers-refused e = rw (listed-refused readMatcher n s e)
 
   matchers-more : {m : Matcher} {rest : List ℕ} → 0 < n → got m rest ≡ readMatcher s
       → length (moreByCommas (map displayMatcher (listed readMatcher n s)))

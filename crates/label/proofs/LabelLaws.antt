@@ -6,10 +6,10 @@ use mathlib.Core.List.{List, [], _∷_, _++_}
 use mathlib.Core.Path.{_≡_, refl, ap, _∙_}
 use lib.ListN.{length, length-append}
 use Rattle.base.specs.Splice.{Cut, cut-length}
-use Rattle.page.specs.Read.{FieldFault, refused, got}
+use Rattle.page.specs.Read.{got}
 use Rattle.page.specs.Text.{Text, isLabel, readAnyText}
 use Rattle.page.specs.Listed.{listed}
-use Rattle.page.proofs.ListLaws.{listed-more, listed-none, listed-refused}
+use Rattle.page.proofs.ListLaws.{listed-more, listed-none}
 use Rattle.util.specs.Escape.{quote}
 use Rattle.label.specs.Label.{displayLabel, displayLabels, displayMoreLabels}
 
@@ -59,17 +59,9 @@ module _ (n : ℕ) (s : List ℕ) where
   unfolding displayMoreLabels
   displayMoreLabels-none h = rw (listed-none readAnyText n s h)
 
-  pub displayMoreLabels-refused : {f : FieldFault} → refused f ≡ readAnyText s → displayMoreLabels (listed readAnyText n s) ≡ []
-  unfolding displayMoreLabels
-  displayMoreLabels-refused e = rw (listed-refused readAnyText n s e)
-
   pub displayLabels-none : n ≡ 0 → displayLabels (listed readAnyText n s) ≡ []
   unfolding displayLabels
   displayLabels-none h = rw (listed-none readAnyText n s (omega arith))
-
-  pub displayLabels-refused : {f : FieldFault} → refused f ≡ readAnyText s → displayLabels (listed readAnyText n s) ≡ []
-  unfolding displayLabels
-  displayLabels-refused e = rw (listed-refused readAnyText n s e)
 
 -- ## `more_labels_len`: the sum so far and what is left come to the whole, up to the cap
 

@@ -1,5 +1,5 @@
 // The matchers of a selector (label/matcher.rs, `Display` of `Matchers`): their texts sorted as bytes, with a comma between each two.
-// The list stays on the page: where its first matcher starts and how many there are.
+// The list stays on the page: where its first matcher starts and how many there are. All can be read, so that no byte is tested again.
 use crate::key::Printed;
 use crate::key::pack;
 use crate::key::unpack;
@@ -12,19 +12,19 @@ use page::put_bytes;
 use page::text_at;
 use records::MatchOp;
 use records::Matcher;
-use records::MatcherField;
-use records::read_matcher;
+use records::stored_matcher;
 use util::capped_add;
 use util::put_quoted;
 use util::quoted_len;
 ghost use mathlib.Core.Path.{_≡_};
 ghost use mathlib.Core.List.{map};
 ghost use Prim.Native.Nat.{_+_, _≤_, _<_, min};
-ghost use lib.ListN.{length};
+ghost use lib.ListN.{length, drop};
 ghost use Rattle.base.specs.Splice.{Wrote};
 ghost use Rattle.page.specs.Limits.{pageLimit, countLimit};
 ghost use Rattle.page.specs.Text.{isLabel};
-ghost use Rattle.records.specs.Matcher.{matchOpNumber};
+ghost use Rattle.page.specs.Listed.{AllRead};
+ghost use Rattle.records.specs.Matcher.{readMatcher, matchOpNumber};
 ghost use Rattle.records.specs.Allowed.{IsMatcher};
 ghost use Rattle.records.specs.Answers.{opOf, matcherOn, matchersOn, MatcherLies};
 ghost use Rattle.label.specs.Label.{displayLabel, displayMatcher, joinedByCommas, moreByCommas, displayMatchers};
@@ -58,8 +58,9 @@ fn printed(page: &[u8], matcher: Matcher) -> Printed
     }
 }
 
-// The keys of so many matchers from a position on, and how many could be read: all, where the list was read once.
+// The keys of so many matchers from a position on, and how many there are.
 fn collect(page: &[u8], start: usize, count: usize, keys: &mut [u64]) -> usize
+    requires { ⌜ AllRead readMatcher count (drop start (now page)) ⌝ }
     requires { ⌜ (length (matchersOn (now page) start count) ≤ length (now keys)) × (length (now page) ≤ pageLimit) ⌝ }
     ensures { λ r. ⌜ Collected (now (page .entry)) (matchersOn (now (page .entry)) start count) (now (keys .exit)) r ⌝ }
 {
@@ -67,17 +68,11 @@ fn collect(page: &[u8], start: usize, count: usize, keys: &mut [u64]) -> usize
     let mut at = start;
     let mut left = count;
     while 0 < left {
-        match read_matcher(page, at) {
-            MatcherField::Got(matcher, next) => {
-                keys[i] = pack(page, printed(page, matcher));
-                i = i + 1;
-                at = next;
-                left = left - 1;
-            }
-            MatcherField::Bad(fault) => {
-                return i;
-            }
-        }
+        let stored = stored_matcher(page, at);
+        keys[i] = pack(page, printed(page, stored.matcher));
+        i = i + 1;
+        at = stored.next;
+        left = left - 1;
     }
     i
 }
@@ -135,6 +130,7 @@ fn put_in_order(page: &[u8], order: &[u64], out: &mut [u8], at: usize) -> usize
 }
 
 pub fn put_matchers(page: &[u8], start: usize, count: usize, out: &mut [u8], at: usize) -> usize
+    requires { ⌜ AllRead readMatcher count (drop start (now page)) ⌝ }
     requires { ⌜ (length (matchersOn (now page) start count) ≤ countLimit) × (length (now page) ≤ pageLimit) ⌝ }
     requires { ⌜ at + length (displayMatchers (matchersOn (now page) start count)) ≤ length (now out) ⌝ }
     ensures { λ r. ⌜ Wrote (now (out .entry)) (now (out .exit)) at (displayMatchers (matchersOn (now (page .entry)) start count)) r ⌝ }
@@ -159,6 +155,7 @@ fn matcher_len(page: &[u8], matcher: Matcher, cap: usize) -> usize
 
 // A comma and a matcher, for each. The length needs no order.
 fn more_matchers_len(page: &[u8], start: usize, count: usize, cap: usize) -> usize
+    requires { ⌜ AllRead readMatcher count (drop start (now page)) ⌝ }
     ensures { λ r. ⌜ r ≡ min (length (moreByCommas (map displayMatcher (matchersOn (now (page .entry)) start count)))) cap ⌝ }
 {
     let mut total: usize = 0;
@@ -168,32 +165,27 @@ fn more_matchers_len(page: &[u8], start: usize, count: usize, cap: usize) -> usi
         if cap <= total {
             return cap;
         }
-        match read_matcher(page, at) {
-            MatcherField::Got(matcher, next) => {
-                let one = matcher_len(page, matcher, cap);
-                total = capped_add(total, capped_add(1, one, cap), cap);
-                at = next;
-                left = left - 1;
-            }
-            MatcherField::Bad(fault) => {
-                return total;
-            }
-        }
+        let stored = stored_matcher(page, at);
+        let one = matcher_len(page, stored.matcher, cap);
+        total = capped_add(total, capped_add(1, one, cap), cap);
+        at = stored.next;
+        left = left - 1;
     }
     total
 }
 
 pub fn matchers_len(page: &[u8], start: usize, count: usize, cap: usize) -> usize
+    requires { ⌜ AllRead readMatcher count (drop start (now page)) ⌝ }
     ensures { λ r. ⌜ r ≡ min (length (displayMatchers (matchersOn (now (page .entry)) start count))) cap ⌝ }
 {
     if count == 0 {
         return 0;
     }
-    match read_matcher(page, start) {
-        MatcherField::Got(matcher, next) => {
-            let first = matcher_len(page, matcher, cap);
-            capped_add(first, more_matchers_len(page, next, count - 1, cap), cap)
-        }
-        MatcherField::Bad(fault) => 0,
-    }
+    let stored = stored_matcher(page, start);
+    let first = matcher_len(page, stored.matcher, cap);
+    capped_add(
+        first,
+        more_matchers_len(page, stored.next, count - 1, cap),
+        cap,
+    )
 }

@@ -107,6 +107,19 @@ module _ (page : List ℕ) (at limit : ℕ) (inside : at < length page) where
     more : readUpTo limit (drop at page) ≡ joined limit (getD page at 0) (readUpTo (limit / 128) (drop (at + 1) page))
     more = rw (add-one, drop-cons page at 0 inside, le-ltb (getD page at 0) 128 high) (larger limit (getD page at 0) (readGroups (drop (suc at) page)))
 
+    joined-high : {n : ℕ} {t : List ℕ} (m : Read ℕ) → got n t ≡ joined limit (getD page at 0) m → 128 ≤ n
+    joined-high (refused f) e = let z : _≡_ {A = ℕ} 0 1 = cc in absurd (omega arith)
+    joined-high (got zero rest) e = let z : _≡_ {A = ℕ} 0 1 = cc in absurd (omega arith)
+    joined-high {n} {t} (got (suc v) rest) e = by (leb (getD page at 0 - 128 + 128 * suc v) limit) e
+      where
+        by : (c : Bool) → got n t ≡ pick c (got (getD page at 0 - 128 + 128 * suc v) rest) (refused badField) → 128 ≤ n
+        by true e = let same : n ≡ getD page at 0 - 128 + 128 * suc v = cc in omega (arith, same)
+        by false e = let z : _≡_ {A = ℕ} 0 1 = cc in absurd (omega arith)
+
+    -- a number of more than one byte
+    pub high-number : {n : ℕ} {t : List ℕ} → got n t ≡ readUpTo limit (drop at page) → 128 ≤ n
+    high-number e = joined-high (readUpTo (limit / 128) (drop (at + 1) page)) (e ∙ more)
+
     pub none-behind : {f : FieldFault} → refused f ≡ readUpTo (limit / 128) (drop (at + 1) page) → refused f ≡ readUpTo limit (drop at page)
     none-behind e = sym (more ∙ ap (joined limit (getD page at 0)) (sym e))
 

@@ -10,7 +10,7 @@ use Rattle.page.specs.Read.{FieldFault, badField, pastLimit, badText, Re
 use Rattle.page.specs.Number.{readGroups}
 use Rattle.page.specs.Text.{isAlpha, isAlphaNumeric, isText, isSelectorName, isLabel, readText}
 use Rattle.page.specs.Text as text
-use Rattle.page.specs.Listed.{listed}
+use Rattle.page.specs.Listed.{listed, AllRead}
 use Rattle.page.specs.declared.fault.Fault.{Fault}
 use Rattle.page.specs.declared.fault.Fault.the-variants.{BadField, PastLimit, BadText}
 use Rattle.page.specs.declared.number.Number.{Number}
@@ -104,3 +104,8 @@ module _ {A : Type 0} where
   abbrev pub listAt : Reader A → List ℕ → ListField → Read (List A)
   listAt r page (list-answer.Got start count next) = got (listed r count (drop start page)) (drop next page)
   listAt r page (list-answer.Bad f) = refused (faultOf f)
+
+  -- a list that was read: all of its elements can be read again
+  abbrev pub listStored : Reader A → List ℕ → ListField → Type 0
+  listStored r page (list-answer.Got start count next) = AllRead r count (drop start page)
+  listStored r page (list-answer.Bad f) = Unit {0}

@@ -24,6 +24,7 @@ pub use text::Text;
 pub use text::TextClass;
 pub use text::read_text;
 pub use text::same_text;
+pub use text::stored_text;
 pub use text::text_at;
 pub use text::within;
 pub use write::number_len;

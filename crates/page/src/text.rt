@@ -8,7 +8,9 @@ use crate::number::read_number;
 ghost use mathlib.Core.Path.{_≡_};
 ghost use lib.ListN.{drop};
 ghost use Rattle.page.specs.Bytes.{equal};
-ghost use Rattle.page.specs.Text.{isSelectorName};
+ghost use Rattle.page.specs.Read.{got};
+ghost use Rattle.page.specs.Text.{isSelectorName, readAnyText};
+ghost use Rattle.page.specs.Listed.{Readable};
 ghost use Rattle.page.specs.Answers.{limitOf, allowedBy, readTextOf, spanOn, Lies, textAt, textLies, Within};
 
 // A part of the page, from its first byte to the position behind its last.
@@ -94,6 +96,21 @@ pub fn read_text(page: &[u8], at: usize, class: TextClass) -> Text
             }
         }
         Number::Bad => Text::Bad(Fault::BadField),
+    }
+}
+
+// A text that can be read: its length says where it ends, and its bytes are not tested again.
+pub fn stored_text(page: &[u8], at: usize) -> Span
+    requires { ⌜ Readable readAnyText (drop at (now page)) ⌝ }
+    ensures { λ r. ⌜ got (spanOn (now (page .entry)) r) (drop (r .end) (now (page .entry))) ≡ readAnyText (drop at (now (page .entry))) ⌝ }
+    ensures { λ r. ⌜ Lies (now (page .entry)) r ⌝ }
+{
+    match read_number(page, at) {
+        Number::Got(n, start) => Span {
+            start: start,
+            end: start + n as usize,
+        },
+        Number::Bad => Span { start: at, end: at },
     }
 }
 

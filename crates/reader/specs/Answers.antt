@@ -4,10 +4,11 @@ use mathlib.Core.List.{List}
 use lib.ListN.{drop}
 use Rattle.page.specs.Read.{Read, refused, got}
 use Rattle.page.specs.Text.{Text}
+use Rattle.page.specs.Listed.{AllRead}
 use Rattle.page.specs.Answers.{faultOf, spanOn, Lies}
 use Rattle.records.specs.Matcher as matcher
 use Rattle.records.specs.Record as spec
-use Rattle.records.specs.Answers.{matchersOn, literalOf, labelModifierOn, modifierOn, atModifierOf, offsetOf, stepOf}
+use Rattle.records.specs.Answers.{matchersOn, literalOf, labelModifierOn, LabelModifierStored, modifierOn, ModifierStored, atModifierOf, offsetOf, stepOf}
 use Rattle.records.specs.Marks.{ListMarked}
 use Rattle.records.specs.SignatureAnswers.{functionOn, FunctionLies}
 use Rattle.reader.specs.declared.Selector.{Selector}
@@ -40,12 +41,14 @@ abbrev pub recordAt : List ℕ → RecordField → Read spec.Record
 recordAt page (record-answer.Got r next) = got (recordOn page r) (drop next page)
 recordAt page (record-answer.Bad f) = refused (faultOf f)
 
--- a selector's name lies on the page, and its marks are those of its matchers
+-- a selector's name lies on the page, its marks are those of its matchers, and these can all be read again
 pub record SelectorRead (page : List ℕ) (s : Selector) : Type 0 where
   pub name : Lies page (s .name)
   pub marked : ListMarked (matchersOn page (s .matchers) (s .count)) (s .named) (s .empty)
+  pub stored : AllRead matcher.readMatcher (s .count) (drop (s .matchers) page)
 
--- a record's own texts lie on the page: a string, a selector's name, a function's name (with the count of its kinds)
+-- a record's own texts lie on the page: a string, a selector's name, a function's name (with the count of its kinds); its labels and matchers
+-- can all be read again
 abbrev pub TextsLie : List ℕ → Record → Type 0
 TextsLie page (code.Number l) = Unit {0}
 TextsLie page (code.String s) = Lies page s
@@ -56,8 +59,8 @@ TextsLie page (code.At a) = Unit {0}
 TextsLie page (code.Offset o) = Unit {0}
 TextsLie page code.Unary = Unit {0}
 TextsLie page code.Paren = Unit {0}
-TextsLie page (code.Binary c m) = Unit {0}
-TextsLie page (code.Aggregate c m n) = Unit {0}
+TextsLie page (code.Binary c m) = ModifierStored page m
+TextsLie page (code.Aggregate c m n) = LabelModifierStored page m
 TextsLie page (code.Call f n) = FunctionLies page f
 
 abbrev pub recordLies : List ℕ → RecordField → Type 0

@@ -19,7 +19,7 @@ use Rattle.records.specs.Marks.{marksOf, readMarks, patternMarks, markFo
 -- ## One matcher
 
 -- by cases on the operators' numbers
-by-operator : (P : ℕ → Type 0) → P 0 → P 1 → P 2 → P 3 → (op : ℕ) → op ≤ 3 → P op
+pub by-operator : (P : ℕ → Type 0) → P 0 → P 1 → P 2 → P 3 → (op : ℕ) → op ≤ 3 → P op
 by-operator P a b c d zero h = a
 by-operator P a b c d (suc zero) h = b
 by-operator P a b c d (suc (suc zero)) h = c

@@ -6,7 +6,7 @@ use mathlib.Core.Option.{Option, none, some}
 use lib.ListN.{drop}
 use Rattle.page.specs.Read.{badField, Read, refused, got, Reader, _>>=_, return}
 use Rattle.page.specs.Text.{readAnyText}
-use Rattle.page.specs.Listed.{listed}
+use Rattle.page.specs.Listed.{listed, AllRead}
 use Rattle.page.specs.Answers.{faultOf, spanOn, Lies}
 use Rattle.records.specs.Kind as kinds
 use Rattle.records.specs.Field as field
@@ -151,6 +151,16 @@ abbrev pub labelModifierAt : List ℕ → LabelModifierField → Read (Option mo
 labelModifierAt page (label-modifier-answer.Got m next) = got (labelModifierOn page m) (drop next page)
 labelModifierAt page (label-modifier-answer.Bad f) = refused (faultOf f)
 
+-- the labels of a modifier that was read: all can be read again
+abbrev pub LabelModifierStored : List ℕ → LabelModifier → Type 0
+LabelModifierStored page label-modifier.None = Unit {0}
+LabelModifierStored page (label-modifier.Include start count) = AllRead readAnyText count (drop start page)
+LabelModifierStored page (label-modifier.Exclude start count) = AllRead readAnyText count (drop start page)
+
+abbrev pub labelModifierStored : List ℕ → LabelModifierField → Type 0
+labelModifierStored page (label-modifier-answer.Got m next) = LabelModifierStored page m
+labelModifierStored page (label-modifier-answer.Bad f) = Unit {0}
+
 abbrev pub cardinalityOn : List ℕ → Cardinality → modifier.Cardinality
 cardinalityOn page OneToOne = modifier.oneToOne
 cardinalityOn page (ManyToOne start count) = modifier.manyToOne (labelsOn page start count)
@@ -161,6 +171,16 @@ abbrev pub cardinalityAt : List ℕ → CardinalityField → Read modifier.Cardi
 cardinalityAt page (cardinality-answer.Got c next) = got (cardinalityOn page c) (drop next page)
 cardinalityAt page (cardinality-answer.Bad f) = refused (faultOf f)
 
+abbrev pub CardinalityStored : List ℕ → Cardinality → Type 0
+CardinalityStored page OneToOne = Unit {0}
+CardinalityStored page (ManyToOne start count) = AllRead readAnyText count (drop start page)
+CardinalityStored page (OneToMany start count) = AllRead readAnyText count (drop start page)
+CardinalityStored page ManyToMany = Unit {0}
+
+abbrev pub cardinalityStored : List ℕ → CardinalityField → Type 0
+cardinalityStored page (cardinality-answer.Got c next) = CardinalityStored page c
+cardinalityStored page (cardinality-answer.Bad f) = Unit {0}
+
 abbrev binModifierOf : Bool → Option modifier.LabelModifier → modifier.Cardinality → Option literal.Literal → Option literal.Literal → modifier.BinModifier
 binModifierOf b m c l r = record { returnBool = b; matching = m; card = c; fillValues = record { lhs = l; rhs = r } }
 
@@ -170,6 +190,14 @@ binModifierOn page m = binModifierOf (m .«returns_bool») (labelModifierOn page
 abbrev pub binModifierAt : List ℕ → BinModifierField → Read modifier.BinModifier
 binModifierAt page (bin-answer.Got m next) = got (binModifierOn page m) (drop next page)
 binModifierAt page (bin-answer.Bad f) = refused (faultOf f)
+
+pub record BinModifierStored (page : List ℕ) (m : BinModifier) : Type 0 where
+  pub matching : LabelModifierStored page (m .matching)
+  pub card : CardinalityStored page (m .card)
+
+abbrev pub binModifierStored : List ℕ → BinModifierField → Type 0
+binModifierStored page (bin-answer.Got m next) = BinModifierStored page m
+binModifierStored page (bin-answer.Bad f) = Unit {0}
 
 -- what follows the flag, the matching and the cardinality in `readBinModifier`
 abbrev pub readFills : Bool → Option modifier.LabelModifier → modifier.Cardinality → Reader modifier.BinModifier
@@ -182,6 +210,14 @@ modifierOn page (bin-modifier.Some m) = some (binModifierOn page m)
 abbrev pub modifierAt : List ℕ → ModifierField → Read (Option modifier.BinModifier)
 modifierAt page (modifier-answer.Got m next) = got (modifierOn page m) (drop next page)
 modifierAt page (modifier-answer.Bad f) = refused (faultOf f)
+
+abbrev pub ModifierStored : List ℕ → Modifier → Type 0
+ModifierStored page bin-modifier.None = Unit {0}
+ModifierStored page (bin-modifier.Some m) = BinModifierStored page m
+
+abbrev pub modifierStored : List ℕ → ModifierField → Type 0
+modifierStored page (modifier-answer.Got m next) = ModifierStored page m
+modifierStored page (modifier-answer.Bad f) = Unit {0}
 
 -- ## Times
 

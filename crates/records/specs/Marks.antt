@@ -8,6 +8,7 @@ use lib.Dec.{eqb}
 use Rattle.page.specs.Bytes.{pick, all, any, isEmpty}
 use Rattle.page.specs.Read.{Read, refused, got, Reader, _>>=_, return}
 use Rattle.page.specs.Text.{readAnyText}
+use Rattle.page.specs.Listed.{AllRead}
 use Rattle.page.specs.Answers.{faultOf}
 use Rattle.records.specs.Field.{readFlag}
 use Rattle.records.specs.Matcher as matcher
@@ -50,6 +51,7 @@ pub record ListMarked (ms : List matcher.Matcher) (named empty : Bool) : Type 0 
   pub names : named ≡ any isNameMatcher ms
   pub accept : empty ≡ all matchesEmpty ms
 
+-- the marks are those of the list, and all of its matchers can be read again
 abbrev pub matchersMarked : List ℕ → Matchers → Type 0
-matchersMarked page (matchers-answer.Got start count named empty next) = ListMarked (matchersOn page start count) named empty
+matchersMarked page (matchers-answer.Got start count named empty next) = ListMarked (matchersOn page start count) named empty × AllRead matcher.readMatcher count (drop start page)
 matchersMarked page (matchers-answer.Bad f) = Unit {0}

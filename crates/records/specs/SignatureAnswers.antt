@@ -10,8 +10,6 @@ use Rattle.records.specs.Kind.{Kind}
 use Rattle.records.specs.Field.{readKind}
 use Rattle.records.specs.Signature as signature
 use Rattle.records.specs.Answers.{kindOf, kindsOn}
-use Rattle.page.specs.declared.list.ListField.{ListField}
-use Rattle.page.specs.declared.list.ListField.the-variants as list-answer
 use Rattle.records.specs.declared.signature.Variadic.{Variadic}
 use Rattle.records.specs.declared.signature.Variadic.the-variants.{Fixed, Unlimited, UpTo}
 use Rattle.records.specs.declared.signature.VariadicField.{VariadicField}
@@ -38,11 +36,6 @@ functionOn page f = functionOf (spanOn page (f .name)) (kindsOn page (f .kinds) 
 abbrev pub functionAt : List ℕ → FunctionField → Read signature.Function
 functionAt page (function-answer.Got f next) = got (functionOn page f) (drop next page)
 functionAt page (function-answer.Bad f) = refused (faultOf f)
-
--- a list of kinds has as many as its count says
-abbrev pub kindsWhole : List ℕ → ListField → Type 0
-kindsWhole page (list-answer.Got start count next) = length (kindsOn page start count) ≡ count
-kindsWhole page (list-answer.Bad f) = Unit {0}
 
 -- the name lies on the page, and there are as many kinds as are declared
 pub record FunctionLies (page : List ℕ) (f : Function) : Type 0 where

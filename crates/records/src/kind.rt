@@ -3,10 +3,9 @@ ghost use mathlib.Core.Path.{_≡_};
 ghost use lib.ListN.{drop};
 ghost use Rattle.page.specs.Read.{repeat};
 ghost use Rattle.page.specs.Text.{readList};
-ghost use Rattle.page.specs.Answers.{listAt};
+ghost use Rattle.page.specs.Answers.{listAt, listStored};
 ghost use Rattle.records.specs.Field.{readFlag, readKind};
 ghost use Rattle.records.specs.Answers.{flagAt, kindAt};
-ghost use Rattle.records.specs.SignatureAnswers.{kindsWhole};
 
 // 0 or 1, and the position behind it.
 pub enum Flag {
@@ -58,7 +57,7 @@ pub fn read_kind(page: &[u8], at: usize) -> KindField
 // So many kinds from a position on.
 pub fn kinds_from(page: &[u8], start: usize, count: usize) -> page::ListField
     ensures { λ r. ⌜ listAt readKind (now (page .entry)) r ≡ repeat count readKind (drop start (now (page .entry))) ⌝ }
-    ensures { λ r. ⌜ kindsWhole (now (page .entry)) r ⌝ }
+    ensures { λ r. ⌜ listStored readKind (now (page .entry)) r ⌝ }
 {
     let mut left = count;
     let mut at = start;
@@ -79,7 +78,7 @@ pub fn kinds_from(page: &[u8], start: usize, count: usize) -> page::ListField
 // A count, and so many kinds.
 pub fn read_kinds(page: &[u8], at: usize) -> page::ListField
     ensures { λ r. ⌜ listAt readKind (now (page .entry)) r ≡ readList readKind (drop at (now (page .entry))) ⌝ }
-    ensures { λ r. ⌜ kindsWhole (now (page .entry)) r ⌝ }
+    ensures { λ r. ⌜ listStored readKind (now (page .entry)) r ⌝ }
 {
     match page::read_count(page, at) {
         page::Count::Got(count, start) => kinds_from(page, start, count),

@@ -5,6 +5,7 @@ pub mod literal;
 pub mod matcher;
 pub mod modifier;
 pub mod signature;
+pub mod stored;
 pub mod time;
 
 pub use kind::Flag;
@@ -48,6 +49,8 @@ pub use signature::Variadic;
 pub use signature::VariadicField;
 pub use signature::read_function;
 pub use signature::read_variadic;
+pub use stored::StoredMatcher;
+pub use stored::stored_matcher;
 pub use time::Amount;
 pub use time::AtField;
 pub use time::AtModifier;

@@ -10,6 +10,7 @@ ghost use lib.ListN.{drop};
 ghost use Rattle.records.specs.Field.{readOption};
 ghost use Rattle.records.specs.Modifier.{readLabelModifier, readCardinality, readBinModifier};
 ghost use Rattle.records.specs.Answers.{labelModifierAt, labelModifierOn, cardinalityAt, cardinalityOn, binModifierAt, readFills, modifierAt};
+ghost use Rattle.records.specs.Answers.{LabelModifierStored, labelModifierStored, CardinalityStored, cardinalityStored, binModifierStored, modifierStored};
 
 // `on` and `by` include, `ignoring` and `without` exclude: the start of the first label and their count.
 pub enum LabelModifier {
@@ -25,6 +26,7 @@ pub enum LabelModifierField {
 
 pub fn read_label_modifier(page: &[u8], at: usize) -> LabelModifierField
     ensures { λ r. ⌜ labelModifierAt (now (page .entry)) r ≡ readLabelModifier (drop at (now (page .entry))) ⌝ }
+    ensures { λ r. ⌜ labelModifierStored (now (page .entry)) r ⌝ }
 {
     match page::read_number(page, at) {
         page::Number::Got(n, next) => match n {
@@ -62,6 +64,7 @@ pub enum CardinalityField {
 
 pub fn read_cardinality(page: &[u8], at: usize) -> CardinalityField
     ensures { λ r. ⌜ cardinalityAt (now (page .entry)) r ≡ readCardinality (drop at (now (page .entry))) ⌝ }
+    ensures { λ r. ⌜ cardinalityStored (now (page .entry)) r ⌝ }
 {
     match page::read_number(page, at) {
         page::Number::Got(n, next) => match n {
@@ -107,7 +110,9 @@ fn read_fills(
     matching: LabelModifier,
     card: Cardinality,
 ) -> BinModifierField
+    requires { ⌜ LabelModifierStored (now page) matching × CardinalityStored (now page) card ⌝ }
     ensures { λ r. ⌜ binModifierAt (now (page .entry)) r ≡ readFills flag (labelModifierOn (now (page .entry)) matching) (cardinalityOn (now (page .entry)) card) (drop at (now (page .entry))) ⌝ }
+    ensures { λ r. ⌜ binModifierStored (now (page .entry)) r ⌝ }
 {
     match read_fill(page, at) {
         FillField::Got(lhs, next) => match read_fill(page, next) {
@@ -129,6 +134,7 @@ fn read_fills(
 
 pub fn read_bin_modifier(page: &[u8], at: usize) -> BinModifierField
     ensures { λ r. ⌜ binModifierAt (now (page .entry)) r ≡ readBinModifier (drop at (now (page .entry))) ⌝ }
+    ensures { λ r. ⌜ binModifierStored (now (page .entry)) r ⌝ }
 {
     match read_flag(page, at) {
         Flag::Got(flag, next) => match read_label_modifier(page, next) {
@@ -155,6 +161,7 @@ pub enum ModifierField {
 
 pub fn read_modifier(page: &[u8], at: usize) -> ModifierField
     ensures { λ r. ⌜ modifierAt (now (page .entry)) r ≡ readOption readBinModifier (drop at (now (page .entry))) ⌝ }
+    ensures { λ r. ⌜ modifierStored (now (page .entry)) r ⌝ }
 {
     match page::read_number(page, at) {
         page::Number::Got(n, next) => match n {

@@ -96,7 +96,7 @@ module _ {page starts : List ℕ} {i j : ℕ} {parts : Parts} (s : Starts page s
   view-selector {v} r =
       record {
         seen = seen-selector tables j (b .low) _ _ (b .tree) (selectorOn page v) (r .reads);
-        lies = record { name = r .lies .name; few = allowed _ (r .reads .reads) .1 .0; short = page-short tables };
+        lies = record { name = r .lies .name; stored = r .lies .stored; few = allowed _ (r .reads .reads) .1 .0; short = page-short tables };
       }
 
   pub view-subquery : {n : ℕ} {t : _} → Standing page starts j (code.Subquery n t) → Viewed page i (record { own = own.Subquery n t parts; end = j; count = 1 })
@@ -106,10 +106,10 @@ module _ {page starts : List ℕ} {i j : ℕ} {parts : Parts} (s : Starts page s
   view-paren r = record { seen = seen-paren tables j (b .low) _ _ (b .tree) (r .reads); lies = tt }
 
   pub view-binary : {c : ℕ} {m : _} → Standing page starts j (code.Binary c m) → Viewed page i (record { own = own.Binary c m; end = j; count = 2 })
-  view-binary {c} {m} r = record { seen = seen-binary tables j (b .low) _ _ (b .tree) c (modifierOn page m) (r .reads); lies = exact (modifierOn page m) (allowed _ (r .reads .reads) .1) }
+  view-binary {c} {m} r = record { seen = seen-binary tables j (b .low) _ _ (b .tree) c (modifierOn page m) (r .reads); lies = (r .lies, exact (modifierOn page m) (allowed _ (r .reads .reads) .1)) }
 
   pub view-aggregate : {c : ℕ} {m : _} {n : ℕ} → Standing page starts j (code.Aggregate c m n) → Viewed page i (record { own = own.Aggregate c m; end = j; count = n })
-  view-aggregate {c} {m} {n} r = record { seen = seen-aggregate tables j (b .low) _ _ (b .tree) c (labelModifierOn page m) n (r .reads); lies = tt }
+  view-aggregate {c} {m} {n} r = record { seen = seen-aggregate tables j (b .low) _ _ (b .tree) c (labelModifierOn page m) n (r .reads); lies = r .lies }
 
   pub view-call : {f : _} {n : ℕ} → Standing page starts j (code.Call f n) → Viewed page i (record { own = own.Call f; end = j; count = n })
   view-call {f} {n} r = record { seen = seen-call tables j (b .low) _ _ (b .tree) (functionOn page f) n (r .reads); lies = r .lies .name }

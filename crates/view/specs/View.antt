@@ -4,11 +4,13 @@ use mathlib.Core.Path.{_≡_}
 use mathlib.Core.Bool.{Bool, true, false}
 use mathlib.Core.List.{List, [], _++_}
 use mathlib.Core.Option.{Option, none, some}
-use lib.ListN.{length}
+use lib.ListN.{length, drop}
 use Rattle.page.specs.Limits.{pageLimit, countLimit}
+use Rattle.page.specs.Listed.{AllRead}
 use Rattle.page.specs.Answers.{spanOn, Lies}
 use Rattle.records.specs.Literal as literal
-use Rattle.records.specs.Answers.{literalOf, stepOf, matchersOn, modifierOn, labelModifierOn}
+use Rattle.records.specs.Matcher.{readMatcher}
+use Rattle.records.specs.Answers.{literalOf, stepOf, matchersOn, modifierOn, ModifierStored, labelModifierOn, LabelModifierStored}
 use Rattle.float.specs.Exact.{ModifierExact}
 use Rattle.reader.specs.Answers.{selectorOn, recordOn, TextsLie}
 use Rattle.reader.specs.declared.Selector.{Selector}
@@ -58,13 +60,14 @@ layoutOn page (own.Binary c m) = infixed (displayOperator c (modifierOn page m))
 layoutOn page (own.Aggregate c m) = enclosed (displayAggregator c (labelModifierOn page m))
 layoutOn page (own.Call f) = enclosed (spanOn page (f .name))
 
--- a selector's name lies on the page, and its matchers are no more than a page allows
+-- a selector's name lies on the page, and its matchers can all be read and are no more than a page allows
 pub record SelectorLies (page : List ℕ) (s : Selector) : Type 0 where
   pub name : Lies page (s .name)
+  pub stored : AllRead readMatcher (s .count) (drop (s .matchers) page)
   pub few : length (matchersOn page (s .matchers) (s .count)) ≤ countLimit
   pub short : length page ≤ pageLimit
 
--- its texts lie on the page, and its fills are exact as floats
+-- its texts lie on the page, its labels and matchers can all be read, and its fills are exact as floats
 abbrev pub OwnLies : List ℕ → Own → Type 0
 OwnLies page (own.Number l) = Unit {0}
 OwnLies page (own.String s) = Lies page s
@@ -72,8 +75,8 @@ OwnLies page (own.Selector s p) = SelectorLies page s
 OwnLies page (own.Subquery n s p) = Unit {0}
 OwnLies page own.Unary = Unit {0}
 OwnLies page own.Paren = Unit {0}
-OwnLies page (own.Binary c m) = ModifierExact (modifierOn page m)
-OwnLies page (own.Aggregate c m) = Unit {0}
+OwnLies page (own.Binary c m) = ModifierStored page m × ModifierExact (modifierOn page m)
+OwnLies page (own.Aggregate c m) = LabelModifierStored page m
 OwnLies page (own.Call f) = Lies page (f .name)
 
 pub record Viewed (page : List ℕ) (i : ℕ) (v : View) : Type 0 where

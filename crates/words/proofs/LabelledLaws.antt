@@ -1,21 +1,21 @@
 -- Words with labels in brackets: the texts of matching, cardinality and grouping by their forms, as the code has them. Assumes nothing.
-use Prim.Native.Nat.{ℕ, _+_, _<_, min}
+use Prim.Native.Nat.{ℕ, _+_, min}
 use Prim.Native.String.{String}
 use native.Mathlib.Omega.{arith}
 use mathlib.Core.Bool.{Bool, true, false}
 use mathlib.Core.List.{List, [], _∷_, _++_, append-assoc}
 use mathlib.Core.Option.{some}
 use mathlib.Core.Path.{_≡_, refl, sym, ap, _∙_}
-use lib.ListN.{length, length-append}
+use lib.ListN.{length, length-append, drop}
 use Rattle.base.specs.Splice.{Cut, cut-length, join}
 use Rattle.page.specs.Bytes.{pick, bytes, isEmpty}
-use Rattle.page.specs.Read.{FieldFault, refused, got}
-use Rattle.page.specs.Text.{Text, readAnyText}
-use Rattle.page.specs.Listed.{listed}
-use Rattle.page.proofs.ListLaws.{listed-more, listed-none, listed-refused}
+use Rattle.page.specs.Read.{Reader}
+use Rattle.page.specs.Text.{readAnyText}
+use Rattle.page.specs.Listed.{listed, AllRead}
+use Rattle.page.proofs.ListLaws.{listed-none}
 use Rattle.records.specs.Field.{Labels}
 use Rattle.records.specs.Modifier.{include, exclude}
-use Rattle.records.specs.Answers.{labelsOn, labelModifierOn, cardinalityOn}
+use Rattle.records.specs.Answers.{labelsOn, labelModifierOn, LabelModifierStored, cardinalityOn}
 use Rattle.records.specs.declared.modifier.LabelModifier.{LabelModifier}
 use Rattle.records.specs.declared.modifier.LabelModifier.the-variants.{None, Include, Exclude}
 use Rattle.records.specs.declared.modifier.Cardinality.{Cardinality}
@@ -40,18 +40,20 @@ pub length-labelledBytes : (w : List ℕ) (ls : Labels) → length (labelledByte
 unfolding labelledBytes join
 length-labelledBytes w ls = omega (arith, length-append w (32 ∷ 40 ∷ (displayLabels ls ++ (41 ∷ []))), length-append (displayLabels ls) (41 ∷ []))
 
--- ## isEmpty of a list of labels
+-- ## isEmpty of a list that can be read: its count says it
 
-pub no-labels-none : (n : ℕ) (s : List ℕ) → n ≡ 0 → true ≡ isEmpty (listed readAnyText n s)
-no-labels-none n s e = rw (listed-none readAnyText n s (omega arith))
+module _ {A : Type 0} (r : Reader A) (n : ℕ) (s : List ℕ) where
+  pub none-listed : n ≡ 0 → isEmpty (listed r n s) ≡ true
+  none-listed none = rw (listed-none r n s (omega arith))
 
-pub no-labels-refused : (n : ℕ) (s : List ℕ) {f : FieldFault} → refused f ≡ readAnyText s → true ≡ isEmpty (listed readAnyText n s)
-no-labels-refused n s e = rw (listed-refused readAnyText n s e)
+  pub some-listed : AllRead r n s → (n ≡ 0 → ⊥) → isEmpty (listed r n s) ≡ false
+  some-listed all some· = by (listed r n s) all
+    where
+      by : (l : List A) → length l ≡ n → isEmpty l ≡ false
+      by [] e = absurd (some· (sym e))
+      by (a ∷ l) e = refl
 
-pub no-labels-some : (n : ℕ) (s : List ℕ) {t : Text} {rest : List ℕ} → 0 < n → got t rest ≡ readAnyText s → false ≡ isEmpty (listed readAnyText n s)
-no-labels-some n s h e = rw (listed-more readAnyText n s h e)
-
--- ## Matching and grouping; r is what `no_labels` answered
+-- ## Matching and grouping
 
 ignored : (ls : Labels) → isEmpty ls ≡ false → displayMatching (some (exclude ls)) ≡ labelled " ignoring" ls
 ignored [] e = absurd (never (sym e))
@@ -76,12 +78,12 @@ module _ (page : List ℕ) (m : LabelModifier) where
   pub matching-on : (s n : ℕ) → m ≡ Include s n → displayMatching (labelModifierOn page m) ≡ labelledBytes (32 ∷ 111 ∷ 110 ∷ []) (labelsOn page s n)
   matching-on s n e = rw e (labelled-bytes " on" (labelsOn page s n))
 
-  module _ (s n : ℕ) (r : Bool) (e : m ≡ Exclude s n) (is : r ≡ isEmpty (labelsOn page s n)) where
-    pub matching-vanishes : r ≡ true → displayMatching (labelModifierOn page m) ≡ []
-    matching-vanishes yes· = rw e (vanished (labelsOn page s n) (sym is ∙ yes·))
+  module _ (s n : ℕ) (e : m ≡ Exclude s n) where
+    pub matching-vanishes : n ≡ 0 → displayMatching (labelModifierOn page m) ≡ []
+    matching-vanishes none = rw e (vanished (labelsOn page s n) (none-listed readAnyText n (drop s page) none))
 
-    pub matching-ignoring : r ≡ false → displayMatching (labelModifierOn page m) ≡ labelledBytes (32 ∷ 105 ∷ 103 ∷ 110 ∷ 111 ∷ 114 ∷ 105 ∷ 110 ∷ 103 ∷ []) (labelsOn page s n)
-    matching-ignoring no· = rw e (ignored (labelsOn page s n) (sym is ∙ no·) ∙ labelled-bytes " ignoring" (labelsOn page s n))
+    pub matching-ignoring : LabelModifierStored page m → (n ≡ 0 → ⊥) → displayMatching (labelModifierOn page m) ≡ labelledBytes (32 ∷ 105 ∷ 103 ∷ 110 ∷ 111 ∷ 114 ∷ 105 ∷ 110 ∷ 103 ∷ []) (labelsOn page s n)
+    matching-ignoring all some· = rw e (ignored (labelsOn page s n) (some-listed readAnyText n (drop s page) (rw e at all) some·) ∙ labelled-bytes " ignoring" (labelsOn page s n))
 
   pub grouping-none : m ≡ None → displayGrouping (labelModifierOn page m) ≡ []
   grouping-none e = rw e
@@ -90,12 +92,12 @@ module _ (page : List ℕ) (m : LabelModifier) where
       → Cut (displayGrouping (labelModifierOn page m)) (labelledBytes (32 ∷ 119 ∷ 105 ∷ 116 ∷ 104 ∷ 111 ∷ 117 ∷ 116 ∷ []) (labelsOn page s n)) (32 ∷ [])
   grouping-without s n e = record { is = rw e (ap (λ (l : List ℕ). l ++ (32 ∷ [])) (labelled-bytes " without" (labelsOn page s n))) }
 
-  module _ (s n : ℕ) (r : Bool) (e : m ≡ Include s n) (is : r ≡ isEmpty (labelsOn page s n)) where
-    pub grouping-vanishes : r ≡ true → displayGrouping (labelModifierOn page m) ≡ []
-    grouping-vanishes yes· = rw e (ungrouped (labelsOn page s n) (sym is ∙ yes·))
+  module _ (s n : ℕ) (e : m ≡ Include s n) where
+    pub grouping-vanishes : n ≡ 0 → displayGrouping (labelModifierOn page m) ≡ []
+    grouping-vanishes none = rw e (ungrouped (labelsOn page s n) (none-listed readAnyText n (drop s page) none))
 
-    pub grouping-by : r ≡ false → Cut (displayGrouping (labelModifierOn page m)) (labelledBytes (32 ∷ 98 ∷ 121 ∷ []) (labelsOn page s n)) (32 ∷ [])
-    grouping-by no· = record { is = rw e (grouped (labelsOn page s n) (sym is ∙ no·) ∙ ap (λ (l : List ℕ). l ++ (32 ∷ [])) (labelled-bytes " by" (labelsOn page s n))) }
+    pub grouping-by : LabelModifierStored page m → (n ≡ 0 → ⊥) → Cut (displayGrouping (labelModifierOn page m)) (labelledBytes (32 ∷ 98 ∷ 121 ∷ []) (labelsOn page s n)) (32 ∷ [])
+    grouping-by all some· = record { is = rw e (grouped (labelsOn page s n) (some-listed readAnyText n (drop s page) (rw e at all) some·) ∙ ap (λ (l : List ℕ). l ++ (32 ∷ [])) (labelled-bytes " by" (labelsOn page s n))) }
 
 -- ## Cardinality
 

@@ -1,23 +1,22 @@
 // A word with a list of labels in brackets, as ` on (a, b)`.
 use label::labels_len;
 use label::put_labels;
-use page::Text;
-use page::TextClass;
 use page::put_byte;
 use page::put_bytes;
-use page::read_text;
 use util::capped_add;
 ghost use mathlib.Core.Path.{_≡_};
 ghost use Prim.Native.Nat.{_+_, _≤_, min};
-ghost use lib.ListN.{length};
+ghost use lib.ListN.{length, drop};
 ghost use Rattle.base.specs.Splice.{Wrote};
-ghost use Rattle.page.specs.Bytes.{isEmpty};
+ghost use Rattle.page.specs.Text.{readAnyText};
+ghost use Rattle.page.specs.Listed.{AllRead};
 ghost use Rattle.records.specs.Answers.{labelsOn};
 ghost use Rattle.label.specs.Label.{displayLabels};
 ghost use Rattle.words.specs.Labelled.{labelledBytes};
 
 // The length with a word of so many bytes.
 pub fn labelled_len(word: usize, page: &[u8], start: usize, count: usize, cap: usize) -> usize
+    requires { ⌜ AllRead readAnyText count (drop start (now page)) ⌝ }
     ensures { λ r. ⌜ r ≡ min (word + 3 + length (displayLabels (labelsOn (now (page .entry)) start count))) cap ⌝ }
 {
     let head = capped_add(word, 3, cap);
@@ -32,6 +31,7 @@ pub fn put_labelled(
     out: &mut [u8],
     at: usize,
 ) -> usize
+    requires { ⌜ AllRead readAnyText count (drop start (now page)) ⌝ }
     requires { ⌜ at + length (labelledBytes (now word) (labelsOn (now page) start count)) ≤ length (now out) ⌝ }
     ensures { λ r. ⌜ Wrote (now (out .entry)) (now (out .exit)) at (labelledBytes (now (word .entry)) (labelsOn (now (page .entry)) start count)) r ⌝ }
 {
@@ -39,17 +39,4 @@ pub fn put_labelled(
     let labels = put_bytes(b" (", out, bracket);
     let closing = put_labels(page, start, count, out, labels);
     put_byte(b')', out, closing)
-}
-
-// Whether a list has no labels.
-pub fn no_labels(page: &[u8], start: usize, count: usize) -> bool
-    ensures { λ r. ⌜ r ≡ isEmpty (labelsOn (now (page .entry)) start count) ⌝ }
-{
-    if count == 0 {
-        return true;
-    }
-    match read_text(page, start, TextClass::Any) {
-        Text::Got(label) => false,
-        Text::Bad(fault) => true,
-    }
 }

@@ -33,21 +33,21 @@ enum-told c = search needs
 returns : tie.Need-returns
 returns c =
     let e = rw (c .before .before .before .before .before .before .before .before .before .code .given .1) at (c .before .before .before .before .before .before .before .before .before .before .before .read-code .ensures) in
-    let f = rw (c .before .before .before .before .before .m .given .1) at (c .before .before .before .before .before .before .before .read-label-modifier .ensures) in
+    let f = rw (c .before .before .before .before .before .m .given .1) at (c .before .before .before .before .before .before .before .read-label-modifier .ensures .0) in
     let g = rw (c .before .n .given .1) at (c .before .before .before .read-count .ensures) in
-    (simp (← e, ← f, ← g), tt)
+    (simp (← e, ← f, ← g), rw (c .before .before .before .before .before .m .given .1) at (c .before .before .before .before .before .before .before .read-label-modifier .ensures .1))
 
 returns-2 : tie.Need-returns-2
 returns-2 c =
     let e = rw (c .before .before .before .before .before .before .before .before .before .code .given .1) at (c .before .before .before .before .before .before .before .before .before .before .before .read-code .ensures) in
-    let f = rw (c .before .before .before .before .before .m .given .1) at (c .before .before .before .before .before .before .before .read-label-modifier .ensures) in
+    let f = rw (c .before .before .before .before .before .m .given .1) at (c .before .before .before .before .before .before .before .read-label-modifier .ensures .0) in
     let g = rw (c .before .f .given .1) at (c .before .before .before .read-count .ensures) in
     (simp (← e, ← f, ← g), tt)
 
 returns-3 : tie.Need-returns-3
 returns-3 c =
     let e = rw (c .before .before .before .before .before .code .given .1) at (c .before .before .before .before .before .before .before .read-code .ensures) in
-    let f = rw (c .before .f2 .given .1) at (c .before .before .before .read-label-modifier .ensures) in
+    let f = rw (c .before .f2 .given .1) at (c .before .before .before .read-label-modifier .ensures .0) in
     (simp (← e, ← f), tt)
 
 returns-4 : tie.Need-returns-4

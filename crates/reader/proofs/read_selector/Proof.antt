@@ -26,7 +26,8 @@ returns c =
     let e = rw (c .before .before .before .before .before .name .given .1) at (c .before .before .before .before .before .before .before .read-text .ensures .0) in
     let f = rw (c .before .matchers .given .1) at (c .before .before .before .read-matchers .ensures .0) in
     let name = rw (c .before .before .before .before .before .name .given .1) at (c .before .before .before .before .before .before .before .read-text .ensures .1) in
-    (simp (← e, ← f), record { name = name; marked = rw (c .before .matchers .given .1) at (c .before .before .before .read-matchers .ensures .1) })
+    let marked = rw (c .before .matchers .given .1) at (c .before .before .before .read-matchers .ensures .1) in
+    (simp (← e, ← f), record { name = name; marked = marked .0; stored = marked .1 })
 
 returns-2 : tie.Need-returns-2
 returns-2 c =

@@ -22,10 +22,10 @@ enum-known-modifier : tie.Need-enum-known-modifier
 enum-known-modifier c = search needs
 
 fill-values-requires : tie.Need-fill-values-requires
-fill-values-requires c κs = let exact = operator-exact _ _ _ (c .before .modifier .given .1) (c .before .before .before .before .before .pre) in (exact .lhs, exact .rhs)
+fill-values-requires c κs = let exact = operator-exact _ _ _ (c .before .modifier .given .1) (c .before .before .before .before .before .pre .1) in (exact .lhs, exact .rhs)
 
 modifier-len-requires : tie.Need-modifier-len-requires
-modifier-len-requires c κs = let exact = operator-exact _ _ _ (c .before .before .modifier .given .1) (c .before .before .before .before .before .before .pre) in (c .fill-values .ensures, exact .lhs, exact .rhs)
+modifier-len-requires c κs = let exact = operator-exact _ _ _ (c .before .before .modifier .given .1) (c .before .before .before .before .before .before .pre .1) in (rw (c .before .before .modifier .given .1) at (c .before .before .before .before .before .before .pre .0), (c .fill-values .ensures, exact .lhs, exact .rhs))
 
 capped-add-requires-2 : tie.Need-capped-add-requires-2
 capped-add-requires-2 c κs = search needs

@@ -1,39 +1,37 @@
--- The measure is the labels left. Assumes nothing.
 -- `label::label::more_labels_len` meets its contract. Invariant: the sum so far and what is left come to the whole, up to the cap.
+-- The measure is the labels left. Assumes nothing.
 use borrow.Author.Needs.{needs}
 use denote.Ref.{now}
 use Prim.Native.Nat.{_+_, _≤_, min}
 use native.Mathlib.Omega.{arith}
 use mathlib.Core.Path.{_≡_, ap}
 use lib.ListN.{length, drop}
-use Rattle.page.specs.Listed.{listed}
+use Rattle.page.specs.Listed.{listed, AllRead}
 use Rattle.page.specs.Text.{readAnyText}
+use Rattle.page.proofs.ListLaws.{first-read, others-read}
 use Rattle.label.specs.Label.{displayMoreLabels}
-use Rattle.label.proofs.LabelLaws.{displayMoreLabels-none, displayMoreLabels-refused, labels-sum-on}
+use Rattle.label.proofs.LabelLaws.{displayMoreLabels-none, labels-sum-on}
 use Rattle.label.proofs.label.more_labels_len.Statement.{statement}
 use Rattle.label.proofs.label.more_labels_len.Tie as tie
 
 abbrev Inv-loop : tie.InvT-loop
 Inv-loop page start count cap total₀ from₀ left₀ total from left = (min (length (displayMoreLabels (listed readAnyText count (drop start page)))) cap
-    ≡ min (total + length (displayMoreLabels (listed readAnyText left (drop from page)))) cap) × (total ≤ cap)
+    ≡ min (total + length (displayMoreLabels (listed readAnyText left (drop from page)))) cap) × (total ≤ cap) × AllRead readAnyText left (drop from page)
 
 abbrev μ-loop : tie.MeasureT-loop
 μ-loop page start count cap total₀ from₀ left₀ total from left = left
 
 loop-holds : tie.Need-loop-holds Inv-loop μ-loop
-loop-holds c = (omega arith, omega arith)
+loop-holds c = (omega arith, omega arith, c .before .pre)
 
 returns : tie.Need-returns Inv-loop μ-loop
 returns c = omega (arith, c .before .before .loop .inv)
 
-read-text-requires : tie.Need-read-text-requires Inv-loop μ-loop
-read-text-requires c κs = search needs
-
-enum-known-span : tie.Need-enum-known-span Inv-loop μ-loop
-enum-known-span c = search needs
+stored-text-requires : tie.Need-stored-text-requires Inv-loop μ-loop
+stored-text-requires c κs = first-read readAnyText (c .before .before .loop .left) (drop (c .before .before .loop .from) (now (c .before .before .before .before .args .page))) (c .before .before .loop .inv .2) (c .before .loop-test .taken)
 
 text-at-requires : tie.Need-text-at-requires Inv-loop μ-loop
-text-at-requires c κs = rw (c .before .span .given .1) at (c .before .before .before .read-text .ensures .1)
+text-at-requires c κs = c .stored-text .ensures .1
 
 label-len-requires : tie.Need-label-len-requires Inv-loop μ-loop
 label-len-requires c κs = search needs
@@ -52,18 +50,13 @@ loop-less c = search needs
 
 loop-again : tie.Need-loop-again Inv-loop μ-loop
 loop-again c = (
-  labels-sum-on _ _ _ _ _ _ _ _ _ (c .before .before .before .before .before .before .before .before .before .loop-test .taken) (rw (c .before .before .before .before .before .span .given .1) at (c .before .before .before .before .before .before .before .read-text .ensures .0)) (c .before .before .before .before .before .before .before .before .before .before .loop .inv .0) (c .before .before .before .text-at .ensures) (c .before .before .label-len .ensures) (c .before .capped-add .ensures) (c .capped-add2 .ensures),
+  labels-sum-on _ _ _ _ _ _ _ _ _ (c .before .before .before .before .before .before .loop-test .taken) (c .before .before .before .before .stored-text .ensures .0) (c .before .before .before .before .before .before .before .loop .inv .0) (c .before .before .before .text-at .ensures) (c .before .before .label-len .ensures) (c .before .capped-add .ensures) (c .capped-add2 .ensures),
   omega (arith, c .capped-add2 .ensures),
+  others-read readAnyText (c .before .before .before .before .before .before .before .loop .left) (drop (c .before .before .before .before .before .before .before .loop .from) (now (c .before .before .before .before .before .before .before .before .before .args .page))) (c .before .before .before .before .before .before .before .loop .inv .2) (c .before .before .before .before .before .before .loop-test .taken) (c .before .before .before .before .stored-text .ensures .0),
 )
 
-enum-known-fault : tie.Need-enum-known-fault Inv-loop μ-loop
-enum-known-fault c = search needs
-
 returns-2 : tie.Need-returns-2 Inv-loop μ-loop
-returns-2 c = omega (arith, c .before .before .before .before .before .before .loop .inv, ap length (displayMoreLabels-refused (c .before .before .before .before .before .before .loop .left) (drop (c .before .before .before .before .before .before .loop .from) (now (c .before .before .before .before .before .before .before .before .args .page))) (rw (c .before .fault .given .1) at (c .before .before .before .read-text .ensures .0))))
-
-returns-3 : tie.Need-returns-3 Inv-loop μ-loop
-returns-3 c = omega (arith, c .before .loop .inv, ap length (displayMoreLabels-none (c .before .loop .left) (drop (c .before .loop .from) (now (c .before .before .before .args .page))) (c .loop-test .left)))
+returns-2 c = omega (arith, c .before .loop .inv, ap length (displayMoreLabels-none (c .before .loop .left) (drop (c .before .loop .from) (now (c .before .before .before .args .page))) (c .loop-test .left)))
 
 pub more-labels-len-spec : {M : Type 1} → statement M
 more-labels-len-spec =
@@ -73,8 +66,7 @@ more-labels-len-spec =
     μ-loop
     loop-holds
     returns
-    read-text-requires
-    enum-known-span
+    stored-text-requires
     text-at-requires
     label-len-requires
     capped-add-requires
@@ -82,6 +74,4 @@ more-labels-len-spec =
     sub-left
     loop-less
     loop-again
-    enum-known-fault
-    returns-2
-    returns-3)
+    returns-2)

@@ -1,44 +1,43 @@
--- Assumes nothing.
 -- `label::matcher::collect` meets its contract. Invariant: the keys stored, then those of the matchers left. The measure is the matchers left.
+-- Assumes nothing.
 use borrow.Author.Needs.{needs}
 use denote.Ref.{now}
 use native.Mathlib.Omega.{arith}
 use lib.ListN.{drop}
+use Rattle.page.specs.Listed.{AllRead}
+use Rattle.page.proofs.ListLaws.{first-read, others-read}
+use Rattle.records.specs.Matcher.{readMatcher}
 use Rattle.records.specs.Answers.{matchersOn}
-use Rattle.label.proofs.CollectLaws.{read-allowed}
-use Rattle.label.proofs.CollectLaws.{Collecting, collect-start, collect-room, collect-on, collect-end, collect-refused}
+use Rattle.label.proofs.CollectLaws.{read-allowed, Collecting, collect-start, collect-room, collect-on, collect-end}
 use Rattle.label.proofs.matcher.collect.Statement.{statement}
 use Rattle.label.proofs.matcher.collect.Tie as tie
 
 abbrev Inv-loop : tie.InvT-loop
-Inv-loop page start count keys₀ i₀ at₀ left₀ keys i at left = Collecting page (matchersOn page start count) keys₀ keys left (drop at page) i
+Inv-loop page start count keys₀ i₀ at₀ left₀ keys i at left = Collecting page (matchersOn page start count) keys₀ keys left (drop at page) i × AllRead readMatcher left (drop at page)
 
 abbrev μ-loop : tie.MeasureT-loop
 μ-loop page start count keys₀ i₀ at₀ left₀ keys i at left = left
 
 loop-holds : tie.Need-loop-holds Inv-loop μ-loop
-loop-holds c = collect-start _ _ _ _ (c .before .before .pre .0)
+loop-holds c = (collect-start _ _ _ _ (c .before .before .pre .1 .0), c .before .before .pre .0)
 
-read-matcher-requires : tie.Need-read-matcher-requires Inv-loop μ-loop
-read-matcher-requires c κs = search needs
-
-enum-known-matcher : tie.Need-enum-known-matcher Inv-loop μ-loop
-enum-known-matcher c = search needs
+stored-matcher-requires : tie.Need-stored-matcher-requires Inv-loop μ-loop
+stored-matcher-requires c κs = first-read readMatcher (c .before .loop .left) (drop (c .before .loop .at) (now (c .before .before .before .before .args .page))) (c .before .loop .inv .1) (c .loop-test .taken)
 
 printed-requires : tie.Need-printed-requires Inv-loop μ-loop
-printed-requires c κs = (rw (c .before .matcher .given .1) at (c .before .before .before .read-matcher .ensures .1), read-allowed (drop (c .before .before .before .before .before .loop .at) (now (c .before .before .before .before .before .before .before .before .args .page))) (rw (c .before .matcher .given .1) at (c .before .before .before .read-matcher .ensures .0)))
+printed-requires c κs = (c .stored-matcher .ensures .1, read-allowed (drop (c .before .before .loop .at) (now (c .before .before .before .before .before .args .page))) (c .stored-matcher .ensures .0))
 
 pack-requires : tie.Need-pack-requires Inv-loop μ-loop
-pack-requires c κs = (c .printed .ensures .prints, c .before .before .before .before .before .before .before .before .before .pre .1)
+pack-requires c κs = (c .printed .ensures .prints, c .before .before .before .before .before .before .pre .1 .1)
 
 mul-keys : tie.Need-mul-keys Inv-loop μ-loop
-mul-keys c = let h = collect-room (c .before .before .before .before .before .before .before .loop .inv) (c .before .before .before .before .before .before .loop-test .taken) (rw (c .before .before .before .matcher .given .1) at (c .before .before .before .before .before .read-matcher .ensures .0)) in omega arith
+mul-keys c = let h = collect-room (c .before .before .before .before .loop .inv .0) (c .before .before .before .loop-test .taken) (c .before .before .stored-matcher .ensures .0) in omega arith
 
 slice-write-keys : tie.Need-slice-write-keys Inv-loop μ-loop
-slice-write-keys c = collect-room (c .before .before .before .before .before .before .before .loop .inv) (c .before .before .before .before .before .before .loop-test .taken) (rw (c .before .before .before .matcher .given .1) at (c .before .before .before .before .before .read-matcher .ensures .0))
+slice-write-keys c = collect-room (c .before .before .before .before .loop .inv .0) (c .before .before .before .loop-test .taken) (c .before .before .stored-matcher .ensures .0)
 
 add-i : tie.Need-add-i Inv-loop μ-loop
-add-i c = let h = collect-room (c .before .before .before .before .before .before .before .loop .inv) (c .before .before .before .before .before .before .loop-test .taken) (rw (c .before .before .before .matcher .given .1) at (c .before .before .before .before .before .read-matcher .ensures .0)) in omega arith
+add-i c = let h = collect-room (c .before .before .before .before .loop .inv .0) (c .before .before .before .loop-test .taken) (c .before .before .stored-matcher .ensures .0) in omega arith
 
 sub-left : tie.Need-sub-left Inv-loop μ-loop
 sub-left c = search needs
@@ -47,22 +46,16 @@ loop-less : tie.Need-loop-less Inv-loop μ-loop
 loop-less c = search needs
 
 loop-again : tie.Need-loop-again Inv-loop μ-loop
-loop-again c = collect-on (c .before .before .before .before .before .before .before .loop .inv) (c .before .before .before .before .before .before .loop-test .taken) (rw (c .before .before .before .matcher .given .1) at (c .before .before .before .before .before .read-matcher .ensures .0)) _ _ (c .before .printed .ensures) (c .pack .ensures)
-
-enum-known-fault : tie.Need-enum-known-fault Inv-loop μ-loop
-enum-known-fault c = search needs
+loop-again c = (
+  collect-on (c .before .before .before .before .loop .inv .0) (c .before .before .before .loop-test .taken) (c .before .before .stored-matcher .ensures .0) _ _ (c .before .printed .ensures) (c .pack .ensures),
+  others-read readMatcher (c .before .before .before .before .loop .left) (drop (c .before .before .before .before .loop .at) (now (c .before .before .before .before .before .before .before .args .page))) (c .before .before .before .before .loop .inv .1) (c .before .before .before .loop-test .taken) (c .before .before .stored-matcher .ensures .0),
+)
 
 same-length : tie.Need-same-length Inv-loop μ-loop
 same-length c = search needs
 
 returns : tie.Need-returns Inv-loop μ-loop
-returns c = collect-refused (c .before .before .before .before .before .loop .inv) (rw (c .before .fault .given .1) at (c .before .before .before .read-matcher .ensures .0))
-
-same-length-2 : tie.Need-same-length-2 Inv-loop μ-loop
-same-length-2 c = search needs
-
-returns-2 : tie.Need-returns-2 Inv-loop μ-loop
-returns-2 c = collect-end (c .before .loop .inv) (c .loop-test .left)
+returns c = collect-end (c .before .loop .inv .0) (c .loop-test .left)
 
 pub collect-spec : {M : Type 1} → statement M
 collect-spec =
@@ -71,8 +64,7 @@ collect-spec =
     Inv-loop
     μ-loop
     loop-holds
-    read-matcher-requires
-    enum-known-matcher
+    stored-matcher-requires
     printed-requires
     pack-requires
     mul-keys
@@ -81,8 +73,5 @@ collect-spec =
     sub-left
     loop-less
     loop-again
-    enum-known-fault
     same-length
-    returns
-    same-length-2
-    returns-2)
+    returns)

@@ -1,5 +1,5 @@
--- The measure is the matchers left. Assumes nothing.
 -- `label::matcher::more_matchers_len` meets its contract. Invariant: the sum so far and what is left come to the whole, up to the cap.
+-- The measure is the matchers left. Assumes nothing.
 use borrow.Author.Needs.{needs}
 use denote.Ref.{now}
 use Prim.Native.Nat.{_+_, _≤_, min}
@@ -7,33 +7,33 @@ use native.Mathlib.Omega.{arith}
 use mathlib.Core.Path.{_≡_}
 use mathlib.Core.List.{map}
 use lib.ListN.{length, drop}
+use Rattle.page.specs.Listed.{AllRead}
+use Rattle.page.proofs.ListLaws.{first-read, others-read}
+use Rattle.records.specs.Matcher.{readMatcher}
 use Rattle.records.specs.Answers.{matchersOn}
 use Rattle.label.specs.Label.{displayMatcher, moreByCommas}
-use Rattle.label.proofs.JoinLaws.{matchers-none, matchers-refused, matchers-sum-on}
+use Rattle.label.proofs.JoinLaws.{matchers-none, matchers-sum-on}
 use Rattle.label.proofs.matcher.more_matchers_len.Statement.{statement}
 use Rattle.label.proofs.matcher.more_matchers_len.Tie as tie
 
 abbrev Inv-loop : tie.InvT-loop
 Inv-loop page start count cap total₀ at₀ left₀ total at left = (min (length (moreByCommas (map displayMatcher (matchersOn page start count)))) cap
-    ≡ min (total + length (moreByCommas (map displayMatcher (matchersOn page at left)))) cap) × (total ≤ cap)
+    ≡ min (total + length (moreByCommas (map displayMatcher (matchersOn page at left)))) cap) × (total ≤ cap) × AllRead readMatcher left (drop at page)
 
 abbrev μ-loop : tie.MeasureT-loop
 μ-loop page start count cap total₀ at₀ left₀ total at left = left
 
 loop-holds : tie.Need-loop-holds Inv-loop μ-loop
-loop-holds c = (omega arith, omega arith)
+loop-holds c = (omega arith, omega arith, c .before .pre)
 
 returns : tie.Need-returns Inv-loop μ-loop
 returns c = omega (arith, c .before .before .loop .inv)
 
-read-matcher-requires : tie.Need-read-matcher-requires Inv-loop μ-loop
-read-matcher-requires c κs = search needs
-
-enum-known-matcher : tie.Need-enum-known-matcher Inv-loop μ-loop
-enum-known-matcher c = search needs
+stored-matcher-requires : tie.Need-stored-matcher-requires Inv-loop μ-loop
+stored-matcher-requires c κs = first-read readMatcher (c .before .before .loop .left) (drop (c .before .before .loop .at) (now (c .before .before .before .before .args .page))) (c .before .before .loop .inv .2) (c .before .loop-test .taken)
 
 matcher-len-requires : tie.Need-matcher-len-requires Inv-loop μ-loop
-matcher-len-requires c κs = rw (c .before .matcher .given .1) at (c .before .before .before .read-matcher .ensures .1)
+matcher-len-requires c κs = c .stored-matcher .ensures .1
 
 capped-add-requires : tie.Need-capped-add-requires Inv-loop μ-loop
 capped-add-requires c κs = search needs
@@ -49,18 +49,13 @@ loop-less c = search needs
 
 loop-again : tie.Need-loop-again Inv-loop μ-loop
 loop-again c = (
-  matchers-sum-on _ _ _ _ _ _ _ _ (c .before .before .before .before .before .before .before .before .loop-test .taken) (rw (c .before .before .before .before .matcher .given .1) at (c .before .before .before .before .before .before .read-matcher .ensures .0)) (c .before .before .before .before .before .before .before .before .before .loop .inv .0) (c .before .before .matcher-len .ensures) (c .before .capped-add .ensures) (c .capped-add2 .ensures),
+  matchers-sum-on _ _ _ _ _ _ _ _ (c .before .before .before .before .before .loop-test .taken) (c .before .before .before .stored-matcher .ensures .0) (c .before .before .before .before .before .before .loop .inv .0) (c .before .before .matcher-len .ensures) (c .before .capped-add .ensures) (c .capped-add2 .ensures),
   omega (arith, c .capped-add2 .ensures),
+  others-read readMatcher (c .before .before .before .before .before .before .loop .left) (drop (c .before .before .before .before .before .before .loop .at) (now (c .before .before .before .before .before .before .before .before .args .page))) (c .before .before .before .before .before .before .loop .inv .2) (c .before .before .before .before .before .loop-test .taken) (c .before .before .before .stored-matcher .ensures .0),
 )
 
-enum-known-fault : tie.Need-enum-known-fault Inv-loop μ-loop
-enum-known-fault c = search needs
-
 returns-2 : tie.Need-returns-2 Inv-loop μ-loop
-returns-2 c = omega (arith, c .before .before .before .before .before .before .loop .inv, matchers-refused (c .before .before .before .before .before .before .loop .left) (drop (c .before .before .before .before .before .before .loop .at) (now (c .before .before .before .before .before .before .before .before .args .page))) (rw (c .before .fault .given .1) at (c .before .before .before .read-matcher .ensures .0)))
-
-returns-3 : tie.Need-returns-3 Inv-loop μ-loop
-returns-3 c = omega (arith, c .before .loop .inv, matchers-none (c .before .loop .left) (drop (c .before .loop .at) (now (c .before .before .before .args .page))) (c .loop-test .left))
+returns-2 c = omega (arith, c .before .loop .inv, matchers-none (c .before .loop .left) (drop (c .before .loop .at) (now (c .before .before .before .args .page))) (c .loop-test .left))
 
 pub more-matchers-len-spec : {M : Type 1} → statement M
 more-matchers-len-spec =
@@ -70,14 +65,11 @@ more-matchers-len-spec =
     μ-loop
     loop-holds
     returns
-    read-matcher-requires
-    enum-known-matcher
+    stored-matcher-requires
     matcher-len-requires
     capped-add-requires
     capped-add-requires-2
     sub-left
     loop-less
     loop-again
-    enum-known-fault
-    returns-2
-    returns-3)
+    returns-2)

@@ -10,7 +10,7 @@ slice-aggregate-collect : tie.Need-slice-aggregate-collect
 slice-aggregate-collect c = search needs
 
 collect-requires : tie.Need-collect-requires
-collect-requires c κs = search needs
+collect-requires c κs = (c .before .before .before .pre .0, (c .before .before .before .pre .1 .0 .0, c .before .before .before .pre .1 .0 .1))
 
 array-borrow-prefix-keys : tie.Need-array-borrow-prefix-keys
 array-borrow-prefix-keys c = search needs
@@ -22,7 +22,7 @@ arrange-requires : tie.Need-arrange-requires
 arrange-requires c κs = c .before .before .before .collect .ensures .areKeys
 
 put-in-order-requires : tie.Need-put-in-order-requires
-put-in-order-requires c κs = (c .before .before .before .before .arrange .ensures .keys, sorted-fits (c .before .before .before .before .before .before .before .before .collect .ensures) (c .before .before .before .before .arrange .ensures) _ _ (c .before .before .before .before .before .before .before .before .before .before .before .before .pre .1))
+put-in-order-requires c κs = (c .before .before .before .before .arrange .ensures .keys, sorted-fits (c .before .before .before .before .before .before .before .before .collect .ensures) (c .before .before .before .before .arrange .ensures) _ _ (c .before .before .before .before .before .before .before .before .before .before .before .before .pre .1 .1))
 
 same-length : tie.Need-same-length
 same-length c = search needs

@@ -3,7 +3,7 @@ use borrow.Author.Needs.{needs}
 use mathlib.Core.Path.{_≡_, refl, _∙_}
 use lib.ListN.{drop}
 use denote.Ref.{now}
-use Rattle.page.proofs.ListLaws.{passed, passed-more, all-read, one-refused}
+use Rattle.page.proofs.ListLaws.{passed, passed-more, read-length, all-read, one-refused}
 use Rattle.page.specs.Text.{readAnyText}
 use Rattle.records.proofs.label.labels_from.Statement.{statement}
 use Rattle.records.proofs.label.labels_from.Tie as tie
@@ -40,10 +40,12 @@ enum-known-f c = search needs
 returns : tie.Need-returns Inv-loop μ-loop
 returns c =
     let e = rw (c .before .f .given .1) at (c .before .before .before .read-text .ensures .0) in
-    one-refused readAnyText _ _ (c .before .before .before .before .before .loop .left) (drop (c .before .before .before .before .before .loop .at) (now (c .before .before .before .before .before .before .before .args .page))) (c .before .before .before .before .before .loop .inv) (c .before .before .before .before .loop-test .taken) e
+    (one-refused readAnyText _ _ (c .before .before .before .before .before .loop .left) (drop (c .before .before .before .before .before .loop .at) (now (c .before .before .before .before .before .before .before .args .page))) (c .before .before .before .before .before .loop .inv) (c .before .before .before .before .loop-test .taken) e, tt)
 
 returns-2 : tie.Need-returns-2 Inv-loop μ-loop
-returns-2 c = all-read readAnyText _ _ (c .before .loop .left) (drop (c .before .loop .at) (now (c .before .before .before .args .page))) (c .before .loop .inv) (c .loop-test .left)
+returns-2 c =
+    let e = all-read readAnyText (c .before .before .before .args .count) (drop (c .before .before .before .args .start) (now (c .before .before .before .args .page))) (c .before .loop .left) (drop (c .before .loop .at) (now (c .before .before .before .args .page))) (c .before .loop .inv) (c .loop-test .left) in
+    (e, read-length readAnyText (c .before .before .before .args .count) (drop (c .before .before .before .args .start) (now (c .before .before .before .args .page))) e)
 
 pub labels-from-spec : {M : Type 1} → statement M
 labels-from-spec =

@@ -2,7 +2,7 @@
 use denote.Ref.{now}
 use lib.ListN.{drop}
 use mathlib.Core.Path.{refl}
-use Rattle.page.proofs.ListLaws.{all-read, one-refused}
+use Rattle.page.proofs.ListLaws.{read-length, all-read, one-refused}
 use Rattle.records.specs.Matcher.{readMatcher}
 use Rattle.records.proofs.MarkLaws.{Marked, marked-more, all-marked, readMarks-refused}
 use borrow.Author.Needs.{needs}
@@ -45,7 +45,8 @@ returns c =
 
 returns-2 : tie.Need-returns-2 Inv-loop μ-loop
 returns-2 c =
-    (all-read readMatcher _ _ (c .before .loop .left) (drop (c .before .loop .at) (now (c .before .before .before .args .page))) (c .before .loop .inv .passes) (c .loop-test .left), all-marked (c .before .before .before .args .count) (drop (c .before .before .before .args .start) (now (c .before .before .before .args .page))) (c .before .loop .left) _ (c .before .loop .named) (c .before .loop .empty) (c .before .loop .inv) (c .loop-test .left))
+    let e = all-read readMatcher (c .before .before .before .args .count) (drop (c .before .before .before .args .start) (now (c .before .before .before .args .page))) (c .before .loop .left) (drop (c .before .loop .at) (now (c .before .before .before .args .page))) (c .before .loop .inv .passes) (c .loop-test .left) in
+    (e, (all-marked (c .before .before .before .args .count) (drop (c .before .before .before .args .start) (now (c .before .before .before .args .page))) (c .before .loop .left) _ (c .before .loop .named) (c .before .loop .empty) (c .before .loop .inv) (c .loop-test .left), read-length readMatcher (c .before .before .before .args .count) (drop (c .before .before .before .args .start) (now (c .before .before .before .args .page))) e))
 
 pub matchers-from-spec : {M : Type 1} → statement M
 matchers-from-spec =

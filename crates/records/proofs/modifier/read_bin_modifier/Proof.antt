@@ -22,7 +22,7 @@ enum-known-card : tie.Need-enum-known-card
 enum-known-card c = search needs
 
 read-fills-requires : tie.Need-read-fills-requires
-read-fills-requires c κs = search needs
+read-fills-requires c κs = (rw (c .before .before .before .before .before .matching .given .1) at (c .before .before .before .before .before .before .before .read-label-modifier .ensures .1), rw (c .before .card .given .1) at (c .before .before .before .read-cardinality .ensures .1))
 
 enum-known-f : tie.Need-enum-known-f
 enum-known-f c = search needs
@@ -35,20 +35,20 @@ enum-told c = search needs
 
 returns : tie.Need-returns
 returns c = let e = rw (c .before .before .before .before .before .before .before .before .before .before .flag .given .1) at (c .before .before .before .before .before .before .before .before .before .before .before .before .read-flag .ensures) in
-    let f = rw (c .before .before .before .before .before .before .matching .given .1) at (c .before .before .before .before .before .before .before .before .read-label-modifier .ensures) in
-    let g = rw (c .before .before .card .given .1) at (c .before .before .before .before .read-cardinality .ensures) in simp (← e, ← f, ← g, c .read-fills .ensures)
+    let f = rw (c .before .before .before .before .before .before .matching .given .1) at (c .before .before .before .before .before .before .before .before .read-label-modifier .ensures .0) in
+    let g = rw (c .before .before .card .given .1) at (c .before .before .before .before .read-cardinality .ensures .0) in (simp (← e, ← f, ← g, c .read-fills .ensures .0), c .read-fills .ensures .1)
 
 returns-2 : tie.Need-returns-2
 returns-2 c = let e = rw (c .before .before .before .before .before .before .before .before .before .flag .given .1) at (c .before .before .before .before .before .before .before .before .before .before .before .read-flag .ensures) in
-    let f = rw (c .before .before .before .before .before .matching .given .1) at (c .before .before .before .before .before .before .before .read-label-modifier .ensures) in
-    let g = rw (c .before .f .given .1) at (c .before .before .before .read-cardinality .ensures) in simp (← e, ← f, ← g)
+    let f = rw (c .before .before .before .before .before .matching .given .1) at (c .before .before .before .before .before .before .before .read-label-modifier .ensures .0) in
+    let g = rw (c .before .f .given .1) at (c .before .before .before .read-cardinality .ensures .0) in (simp (← e, ← f, ← g), tt)
 
 returns-3 : tie.Need-returns-3
 returns-3 c = let e = rw (c .before .before .before .before .before .flag .given .1) at (c .before .before .before .before .before .before .before .read-flag .ensures) in
-    let f = rw (c .before .f2 .given .1) at (c .before .before .before .read-label-modifier .ensures) in simp (← e, ← f)
+    let f = rw (c .before .f2 .given .1) at (c .before .before .before .read-label-modifier .ensures .0) in (simp (← e, ← f), tt)
 
 returns-4 : tie.Need-returns-4
-returns-4 c = let e = rw (c .enum-told .given .1) at (c .before .before .read-flag .ensures) in simp (← e)
+returns-4 c = let e = rw (c .enum-told .given .1) at (c .before .before .read-flag .ensures) in (simp (← e), tt)
 
 pub read-bin-modifier-spec : {M : Type 1} → statement M
 read-bin-modifier-spec =

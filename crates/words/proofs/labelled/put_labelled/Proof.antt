@@ -1,4 +1,4 @@
--- `heads::labelled::put_labelled` meets its contract: the pieces of its text, one after the other. Assumes nothing.
+-- `words::labelled::put_labelled` meets its contract: the pieces of its text, one after the other. Assumes nothing.
 use borrow.Author.Needs.{needs}
 use denote.Ref.{now}
 use mathlib.Core.Path.{refl}
@@ -15,7 +15,7 @@ begun : (s : tie.Start)
     → Run (now (s .args .out)) (now (s .args .out)) (s .args .at) (labelledBytes (now (s .args .word)) (labelsOn (now (s .args .page)) (s .args .start) (s .args .count)))
     (now (s .args .word) ∷ (32 ∷ 40 ∷ []) ∷ displayLabels (labelsOn (now (s .args .page)) (s .args .start) (s .args .count)) ∷ (41 ∷ []) ∷ []) (s .args .at)
 unfolding join labelledBytes
-begun s = start (s .pre) (refl)
+begun s = start (s .pre .1) refl
 
 put-bytes-requires : tie.Need-put-bytes-requires
 put-bytes-requires c κs = fits (begun (c .before .before .before .before))
@@ -27,7 +27,7 @@ put-bytes-requires-2 : tie.Need-put-bytes-requires-2
 put-bytes-requires-2 c κs = fits (next (begun (c .before .before .before .before .before .before .before .before .before)) (c .before .before .before .before .put-bytes .ensures))
 
 put-labels-requires : tie.Need-put-labels-requires
-put-labels-requires c κs = fits (next (next (begun (c .before .before .before .before .before .before .before .before .before .before .before .before .before)) (c .before .before .before .before .before .before .before .before .put-bytes .ensures)) (c .before .before .before .put-bytes2 .ensures))
+put-labels-requires c κs = (c .before .before .before .before .before .before .before .before .before .before .before .before .before .pre .0, fits (next (next (begun (c .before .before .before .before .before .before .before .before .before .before .before .before .before)) (c .before .before .before .before .before .before .before .before .put-bytes .ensures)) (c .before .before .before .put-bytes2 .ensures)))
 
 put-byte-requires : tie.Need-put-byte-requires
 put-byte-requires c κs = fits (next (next (next (begun (c .before .before .before .before .before .before .before .before .before .before .before .before .before .before .before .before .before)) (c .before .before .before .before .before .before .before .before .before .before .before .before .put-bytes .ensures)) (c .before .before .before .before .before .before .before .put-bytes2 .ensures)) (c .before .before .before .put-labels .ensures))

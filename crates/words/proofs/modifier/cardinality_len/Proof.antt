@@ -1,4 +1,4 @@
--- `heads::modifier::cardinality_len` meets its contract, form by form. Assumes nothing.
+-- `words::modifier::cardinality_len` meets its contract, form by form. Assumes nothing.
 use borrow.Author.Needs.{needs}
 use native.Mathlib.Omega.{arith}
 use Rattle.words.proofs.LabelledLaws.{length-labelledBytes, cardinality-one, cardinality-many, cardinality-left, cardinality-right}
@@ -12,13 +12,13 @@ enum-known-card : tie.Need-enum-known-card
 enum-known-card c = search needs
 
 labelled-len-requires : tie.Need-labelled-len-requires
-labelled-len-requires c κs = search needs
+labelled-len-requires c κs = rw (c .before .card .given .1) at (c .before .before .before .before .pre)
 
 enum-known-card-2 : tie.Need-enum-known-card-2
 enum-known-card-2 c = search needs
 
 labelled-len-requires-2 : tie.Need-labelled-len-requires-2
-labelled-len-requires-2 c κs = search needs
+labelled-len-requires-2 c κs = rw (c .before .card2 .given .1) at (c .before .before .before .before .pre)
 
 enum-told-2 : tie.Need-enum-told-2
 enum-told-2 c = search needs

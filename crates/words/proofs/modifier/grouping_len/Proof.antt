@@ -1,4 +1,4 @@
--- `heads::modifier::grouping_len` meets its contract, form by form. Assumes nothing.
+-- `words::modifier::grouping_len` meets its contract, form by form. Assumes nothing.
 use borrow.Author.Needs.{needs}
 use native.Mathlib.Omega.{arith}
 use mathlib.Core.Path.{refl}
@@ -12,26 +12,23 @@ enum-told c = search needs
 enum-known-grouping : tie.Need-enum-known-grouping
 enum-known-grouping c = search needs
 
-no-labels-requires : tie.Need-no-labels-requires
-no-labels-requires c κs = search needs
-
 returns : tie.Need-returns
-returns c = rw (grouping-vanishes _ _ _ _ _ (c .before .before .before .grouping .given .1) (c .before .no-labels .ensures) (c .if1 .taken)) (omega arith)
+returns c = rw (grouping-vanishes _ _ _ _ (c .before .before .grouping .given .1) (c .if1 .taken)) (omega arith)
 
 labelled-len-requires : tie.Need-labelled-len-requires
-labelled-len-requires c κs = search needs
+labelled-len-requires c κs = rw (c .before .before .grouping .given .1) at (c .before .before .before .before .before .pre)
 
 enum-known-grouping-2 : tie.Need-enum-known-grouping-2
 enum-known-grouping-2 c = search needs
 
 labelled-len-requires-2 : tie.Need-labelled-len-requires-2
-labelled-len-requires-2 c κs = search needs
+labelled-len-requires-2 c κs = rw (c .before .grouping2 .given .1) at (c .before .before .before .before .pre)
 
 returns-2 : tie.Need-returns-2
 returns-2 c = rw (grouping-none _ _ (c .enum-told .given .1)) (omega arith)
 
 returns-3 : tie.Need-returns-3
-returns-3 c = grouping-measured _ _ _ _ _ refl (grouping-by _ _ _ _ _ (c .before .before .before .before .grouping .given .1) (c .before .before .no-labels .ensures) (c .before .if1 .left)) (c .labelled-len .ensures)
+returns-3 c = grouping-measured _ _ _ _ _ refl (grouping-by _ _ _ _ (c .before .before .before .grouping .given .1) (c .before .before .before .before .before .before .pre) (c .before .if1 .left)) (c .labelled-len .ensures)
 
 returns-4 : tie.Need-returns-4
 returns-4 c = grouping-measured _ _ _ _ _ refl (grouping-without _ _ _ _ (c .before .before .grouping2 .given .1)) (c .labelled-len2 .ensures)
@@ -42,7 +39,6 @@ grouping-len-spec =
     (tie.spec
     enum-told
     enum-known-grouping
-    no-labels-requires
     returns
     labelled-len-requires
     enum-known-grouping-2

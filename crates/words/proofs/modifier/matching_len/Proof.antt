@@ -1,4 +1,4 @@
--- `heads::modifier::matching_len` meets its contract, form by form. Assumes nothing.
+-- `words::modifier::matching_len` meets its contract, form by form. Assumes nothing.
 use borrow.Author.Needs.{needs}
 use native.Mathlib.Omega.{arith}
 use Rattle.words.proofs.LabelledLaws.{length-labelledBytes, matching-none, matching-on, matching-vanishes, matching-ignoring}
@@ -12,19 +12,16 @@ enum-known-matching : tie.Need-enum-known-matching
 enum-known-matching c = search needs
 
 labelled-len-requires : tie.Need-labelled-len-requires
-labelled-len-requires c κs = search needs
+labelled-len-requires c κs = rw (c .before .matching .given .1) at (c .before .before .before .before .pre)
 
 enum-known-matching-2 : tie.Need-enum-known-matching-2
 enum-known-matching-2 c = search needs
 
-no-labels-requires : tie.Need-no-labels-requires
-no-labels-requires c κs = search needs
-
 returns : tie.Need-returns
-returns c = rw (matching-vanishes _ _ _ _ _ (c .before .before .before .matching2 .given .1) (c .before .no-labels .ensures) (c .if1 .taken)) (omega arith)
+returns c = rw (matching-vanishes _ _ _ _ (c .before .before .matching2 .given .1) (c .if1 .taken)) (omega arith)
 
 labelled-len-requires-2 : tie.Need-labelled-len-requires-2
-labelled-len-requires-2 c κs = search needs
+labelled-len-requires-2 c κs = rw (c .before .before .matching2 .given .1) at (c .before .before .before .before .before .pre)
 
 returns-2 : tie.Need-returns-2
 returns-2 c = rw (matching-none _ _ (c .enum-told .given .1)) (omega arith)
@@ -33,7 +30,7 @@ returns-3 : tie.Need-returns-3
 returns-3 c = rw (matching-on _ _ _ _ (c .before .before .matching .given .1), length-labelledBytes) (c .labelled-len .ensures)
 
 returns-4 : tie.Need-returns-4
-returns-4 c = rw (matching-ignoring _ _ _ _ _ (c .before .before .before .before .matching2 .given .1) (c .before .before .no-labels .ensures) (c .before .if1 .left), length-labelledBytes) (c .labelled-len2 .ensures)
+returns-4 c = rw (matching-ignoring _ _ _ _ (c .before .before .before .matching2 .given .1) (c .before .before .before .before .before .before .pre) (c .before .if1 .left), length-labelledBytes) (c .labelled-len2 .ensures)
 
 pub matching-len-spec : {M : Type 1} → statement M
 matching-len-spec =
@@ -43,7 +40,6 @@ matching-len-spec =
     enum-known-matching
     labelled-len-requires
     enum-known-matching-2
-    no-labels-requires
     returns
     labelled-len-requires-2
     returns-2

@@ -1,4 +1,4 @@
--- `heads::modifier::put_cardinality` meets its contract, form by form. Assumes nothing.
+-- `words::modifier::put_cardinality` meets its contract, form by form. Assumes nothing.
 use borrow.Author.Needs.{needs}
 use Rattle.base.specs.Splice.{begin, finish}
 use Rattle.words.proofs.LabelledLaws.{cardinality-one, cardinality-many, cardinality-left, cardinality-right}
@@ -15,7 +15,7 @@ slice-aggregate-put-labelled : tie.Need-slice-aggregate-put-labelled
 slice-aggregate-put-labelled c = search needs
 
 put-labelled-requires : tie.Need-put-labelled-requires
-put-labelled-requires c κs = rw (cardinality-left _ _ _ _ (c .before .before .before .card .given .1)) at (c .before .before .before .before .before .before .before .pre)
+put-labelled-requires c κs = (rw (c .before .before .before .card .given .1) at (c .before .before .before .before .before .before .before .pre .0), rw (cardinality-left _ _ _ _ (c .before .before .before .card .given .1)) at (c .before .before .before .before .before .before .before .pre .1))
 
 enum-known-card-2 : tie.Need-enum-known-card-2
 enum-known-card-2 c = search needs
@@ -24,13 +24,13 @@ slice-aggregate-put-labelled-2 : tie.Need-slice-aggregate-put-labelled-2
 slice-aggregate-put-labelled-2 c = search needs
 
 put-labelled-requires-2 : tie.Need-put-labelled-requires-2
-put-labelled-requires-2 c κs = rw (cardinality-right _ _ _ _ (c .before .before .before .card2 .given .1)) at (c .before .before .before .before .before .before .before .pre)
+put-labelled-requires-2 c κs = (rw (c .before .before .before .card2 .given .1) at (c .before .before .before .before .before .before .before .pre .0), rw (cardinality-right _ _ _ _ (c .before .before .before .card2 .given .1)) at (c .before .before .before .before .before .before .before .pre .1))
 
 enum-told-2 : tie.Need-enum-told-2
 enum-told-2 c = search needs
 
 returns : tie.Need-returns
-returns c = finish (begin _ _ _ (c .before .before .before .before .pre)) (cardinality-one _ _ (c .enum-told .given .1))
+returns c = finish (begin _ _ _ (c .before .before .before .before .pre .1)) (cardinality-one _ _ (c .enum-told .given .1))
 
 same-length : tie.Need-same-length
 same-length c = search needs
@@ -45,7 +45,7 @@ returns-3 : tie.Need-returns-3
 returns-3 c = rw (cardinality-right _ _ _ _ (c .before .before .before .before .before .before .card2 .given .1)) (c .before .before .put-labelled2 .ensures)
 
 returns-4 : tie.Need-returns-4
-returns-4 c = finish (begin _ _ _ (c .before .before .before .before .pre)) (cardinality-many _ _ (c .enum-told2 .given .1))
+returns-4 c = finish (begin _ _ _ (c .before .before .before .before .pre .1)) (cardinality-many _ _ (c .enum-told2 .given .1))
 
 pub put-cardinality-spec : {M : Type 1} → statement M
 put-cardinality-spec =

@@ -1,4 +1,4 @@
--- `heads::modifier::put_matching` meets its contract, form by form. Assumes nothing.
+-- `words::modifier::put_matching` meets its contract, form by form. Assumes nothing.
 use borrow.Author.Needs.{needs}
 use Rattle.base.specs.Splice.{begin, finish}
 use Rattle.words.proofs.LabelledLaws.{matching-none, matching-on, matching-vanishes, matching-ignoring}
@@ -15,25 +15,22 @@ slice-aggregate-put-labelled : tie.Need-slice-aggregate-put-labelled
 slice-aggregate-put-labelled c = search needs
 
 put-labelled-requires : tie.Need-put-labelled-requires
-put-labelled-requires c κs = rw (matching-on _ _ _ _ (c .before .before .before .matching .given .1)) at (c .before .before .before .before .before .before .before .pre)
+put-labelled-requires c κs = (rw (c .before .before .before .matching .given .1) at (c .before .before .before .before .before .before .before .pre .0), rw (matching-on _ _ _ _ (c .before .before .before .matching .given .1)) at (c .before .before .before .before .before .before .before .pre .1))
 
 enum-known-matching-2 : tie.Need-enum-known-matching-2
 enum-known-matching-2 c = search needs
 
-no-labels-requires : tie.Need-no-labels-requires
-no-labels-requires c κs = search needs
-
 returns : tie.Need-returns
-returns c = finish (begin _ _ _ (c .before .before .before .before .before .before .before .pre)) (matching-vanishes _ _ _ _ _ (c .before .before .before .matching2 .given .1) (c .before .no-labels .ensures) (c .if1 .taken))
+returns c = finish (begin _ _ _ (c .before .before .before .before .before .before .pre .1)) (matching-vanishes _ _ _ _ (c .before .before .matching2 .given .1) (c .if1 .taken))
 
 slice-aggregate-put-labelled-2 : tie.Need-slice-aggregate-put-labelled-2
 slice-aggregate-put-labelled-2 c = search needs
 
 put-labelled-requires-2 : tie.Need-put-labelled-requires-2
-put-labelled-requires-2 c κs = rw (matching-ignoring _ _ _ _ _ (c .before .before .before .before .before .matching2 .given .1) (c .before .before .before .no-labels .ensures) (c .before .before .if1 .left)) at (c .before .before .before .before .before .before .before .before .before .pre)
+put-labelled-requires-2 c κs = (rw (c .before .before .before .before .matching2 .given .1) at (c .before .before .before .before .before .before .before .before .pre .0), rw (matching-ignoring _ _ _ _ (c .before .before .before .before .matching2 .given .1) (c .before .before .before .before .before .before .before .before .pre .0) (c .before .before .if1 .left)) at (c .before .before .before .before .before .before .before .before .pre .1))
 
 returns-2 : tie.Need-returns-2
-returns-2 c = finish (begin _ _ _ (c .before .before .before .before .pre)) (matching-none _ _ (c .enum-told .given .1))
+returns-2 c = finish (begin _ _ _ (c .before .before .before .before .pre .1)) (matching-none _ _ (c .enum-told .given .1))
 
 same-length : tie.Need-same-length
 same-length c = search needs
@@ -45,7 +42,7 @@ same-length-2 : tie.Need-same-length-2
 same-length-2 c = search needs
 
 returns-4 : tie.Need-returns-4
-returns-4 c = rw (matching-ignoring _ _ _ _ _ (c .before .before .before .before .before .before .before .before .matching2 .given .1) (c .before .before .before .before .before .before .no-labels .ensures) (c .before .before .before .before .before .if1 .left)) (c .before .before .put-labelled2 .ensures)
+returns-4 c = rw (matching-ignoring _ _ _ _ (c .before .before .before .before .before .before .before .matching2 .given .1) (c .before .before .before .before .before .before .before .before .before .before .before .pre .0) (c .before .before .before .before .before .if1 .left)) (c .before .before .put-labelled2 .ensures)
 
 pub put-matching-spec : {M : Type 1} → statement M
 put-matching-spec =
@@ -56,7 +53,6 @@ put-matching-spec =
     slice-aggregate-put-labelled
     put-labelled-requires
     enum-known-matching-2
-    no-labels-requires
     returns
     slice-aggregate-put-labelled-2
     put-labelled-requires-2
