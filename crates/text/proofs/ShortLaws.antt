@@ -13,7 +13,7 @@ use Rattle.page.specs.Text.{writeText, writeAll, writeList}
 use Rattle.page.specs.Number.{writeNumber}
 use Rattle.page.specs.Allowed.{IsNumber}
 use Rattle.page.proofs.LengthLaws.{writeText-some}
-use Rattle.page.proofs.NumberLaws.{left, right}
+use Rattle.page.proofs.NumberLaws.{left-of, right-of}
 use Rattle.records.specs.Code.{words, word}
 use Rattle.records.specs.Literal.{Literal, plus, minus, nan, negate, writeLiteral, equalAsFloats}
 use Rattle.records.specs.Float.{IsExact}
@@ -37,8 +37,8 @@ use Rattle.text.specs.Chain.{orElse, overlaid, withAt, withOffset}
 
 words-short : (ws : List String) → T (all (λ w. leb (length (bytes w)) 12) ws) → (i : ℕ) → length (bytes (getD ws i "")) ≤ 12
 words-short [] h i = omega arith
-words-short (w ∷ ws) h zero = leb→le (length (bytes w)) 12 (left (leb (length (bytes w)) 12) _ h)
-words-short (w ∷ ws) h (suc i) = words-short ws (right (leb (length (bytes w)) 12) _ h) i
+words-short (w ∷ ws) h zero = leb→le (length (bytes w)) 12 (left-of (leb (length (bytes w)) 12) _ h)
+words-short (w ∷ ws) h (suc i) = words-short ws (right-of (leb (length (bytes w)) 12) _ h) i
 
 word-short : (c : ℕ) → length (word c) ≤ 12
 word-short c = words-short words tt (c - 1)

@@ -108,11 +108,11 @@ pub fn put_grouping(page: &[u8], grouping: LabelModifier, out: &mut [u8], at: us
 {
     match grouping {
         LabelModifier::None => at,
-        LabelModifier::Include(start, count) => {
-            if count == 0 {
+        LabelModifier::Include(start, labels) => {
+            if labels == 0 {
                 return at;
             }
-            let space = put_labelled(b" by", page, start, count, out, at);
+            let space = put_labelled(b" by", page, start, labels, out, at);
             put_byte(b' ', out, space)
         }
         LabelModifier::Exclude(start, count) => {

@@ -51,7 +51,7 @@ enum-known-own-4 : tie.Need-enum-known-own-4
 enum-known-own-4 c = search needs
 
 aggregator-len-requires : tie.Need-aggregator-len-requires
-aggregator-len-requires c κs = search needs
+aggregator-len-requires c κs = rw (c .before .own4 .given .1) at (c .before .before .before .before .pre)
 
 enum-known-own-5 : tie.Need-enum-known-own-5
 enum-known-own-5 c = search needs

@@ -46,7 +46,7 @@ enum-known-own-4 : tie.Need-enum-known-own-4
 enum-known-own-4 c = search needs
 
 put-aggregator-requires : tie.Need-put-aggregator-requires
-put-aggregator-requires c κs = rw (c .before .before .own4 .given .1) at (c .before .before .before .before .before .before .pre .1)
+put-aggregator-requires c κs = (rw (c .before .before .own4 .given .1) at (c .before .before .before .before .before .before .pre .0), rw (c .before .before .own4 .given .1) at (c .before .before .before .before .before .before .pre .1))
 
 enum-known-own-5 : tie.Need-enum-known-own-5
 enum-known-own-5 c = search needs

@@ -13,7 +13,7 @@ returns : tie.Need-returns
 returns c = wrote-nothing _ _ (no-operator (now (c .before .before .before .args .page)) (c .before .before .before .args .own) (c .match .keys2))
 
 put-operator-requires : tie.Need-put-operator-requires
-put-operator-requires c κs = (rw (c .before .before .own .given .1) at (c .before .before .before .before .before .before .pre .0), rw (c .before .before .own .given .1) at (c .before .before .before .before .before .before .pre .1))
+put-operator-requires c κs = let lies = rw (c .before .before .own .given .1) at (c .before .before .before .before .before .before .pre .0) in (lies .0, (lies .1, rw (c .before .before .own .given .1) at (c .before .before .before .before .before .before .pre .1)))
 
 same-length : tie.Need-same-length
 same-length c = c .before .before .put-operator .kept .1 .1 .1 .0

@@ -18,10 +18,10 @@ enum-told : tie.Need-enum-told
 enum-told c = search needs
 
 returns : tie.Need-returns
-returns c = present-cardinality (c .before .before .before .before .before .pre .0) (c .before .before .before .before .before .pre .1) _ (rw (c .before .cut .given .1) at (c .before .before .before .read-label-modifier .ensures))
+returns c = present-cardinality (c .before .before .before .before .before .pre .0) (c .before .before .before .before .before .pre .1) _ (rw (c .before .cut .given .1) at (c .before .before .before .read-label-modifier .ensures .0))
 
 returns-2 : tie.Need-returns-2
-returns-2 c = absurd (present-readable (c .before .before .before .before .pre .0) (c .before .before .before .before .pre .1) (rw (c .enum-told .given .1) at (c .before .before .read-label-modifier .ensures)))
+returns-2 c = absurd (present-readable (c .before .before .before .before .pre .0) (c .before .before .before .before .pre .1) (rw (c .enum-told .given .1) at (c .before .before .read-label-modifier .ensures .0)))
 
 pub cardinality-at-spec : {M : Type 1} → statement M
 cardinality-at-spec =

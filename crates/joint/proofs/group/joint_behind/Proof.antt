@@ -41,27 +41,27 @@ enum-told-4 c = search needs
 returns : tie.Need-returns
 returns c =
     let e = rw (c .before .before .before .before .before .before .before .next .given .1) at (c .before .before .before .before .before .before .before .before .before .read-flag .ensures) in
-    let f = rw (c .before .before .before .matching .given .1, c .enum-told .given .1) at (c .before .before .before .before .before .read-label-modifier .ensures) in
+    let f = rw (c .before .before .before .matching .given .1, c .enum-told .given .1) at (c .before .before .before .before .before .read-label-modifier .ensures .0) in
     let page = now (c .before .before .before .before .before .before .before .before .before .before .before .args .page) in
     nowhere (rw (← e, ← f) (no-on page (readChoice placedForms (drop (c .before .before .before .matching .given .0 .1 .0) page))))
 
 returns-2 : tie.Need-returns-2
 returns-2 c =
     let e = rw (c .before .before .before .before .before .before .before .before .before .next .given .1) at (c .before .before .before .before .before .before .before .before .before .before .before .read-flag .ensures) in
-    let f = rw (c .before .before .before .before .before .matching .given .1, c .before .before .matching2 .given .1) at (c .before .before .before .before .before .before .before .read-label-modifier .ensures) in
+    let f = rw (c .before .before .before .before .before .matching .given .1, c .before .before .matching2 .given .1) at (c .before .before .before .before .before .before .before .read-label-modifier .ensures .0) in
     part-as (rw (← e, ← f)) (c .joint-of .ensures)
 
 returns-3 : tie.Need-returns-3
 returns-3 c =
     let e = rw (c .before .before .before .before .before .before .before .next .given .1) at (c .before .before .before .before .before .before .before .before .before .read-flag .ensures) in
-    let f = rw (c .before .before .before .matching .given .1, c .enum-told2 .given .1) at (c .before .before .before .before .before .read-label-modifier .ensures) in
+    let f = rw (c .before .before .before .matching .given .1, c .enum-told2 .given .1) at (c .before .before .before .before .before .read-label-modifier .ensures .0) in
     let page = now (c .before .before .before .before .before .before .before .before .before .before .before .args .page) in
     nowhere (rw (← e, ← f) (no-on page (readChoice placedForms (drop (c .before .before .before .matching .given .0 .1 .0) page))))
 
 returns-4 : tie.Need-returns-4
 returns-4 c =
     let e = rw (c .before .before .before .before .next .given .1) at (c .before .before .before .before .before .before .read-flag .ensures) in
-    let f = rw (c .enum-told3 .given .1) at (c .before .before .read-label-modifier .ensures) in
+    let f = rw (c .enum-told3 .given .1) at (c .before .before .read-label-modifier .ensures .0) in
     nowhere (rw (← e, ← f))
 
 returns-5 : tie.Need-returns-5

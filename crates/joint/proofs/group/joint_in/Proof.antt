@@ -31,14 +31,14 @@ enum-told-3 c = search needs
 returns : tie.Need-returns
 returns c =
     let e = rw (c .before .before .before .before .before .count .given .1) at (c .before .before .before .before .before .before .before .read-count .ensures) in
-    let g = rw (c .before .enum-told .given .1) at (c .before .before .before .labels-from .ensures) in
+    let g = rw (c .before .enum-told .given .1) at (c .before .before .before .labels-from .ensures .0) in
     let page = now (c .before .before .before .before .before .before .before .before .before .args .page) in
     part-as (rw (← e) (list-got page (labelsOn page (c .before .before .before .before .before .before .before .before .before .args .on) (c .before .before .before .before .before .before .before .before .before .args .ons)) (c .before .before .before .before .before .count .given .0 .0) (drop (c .before .before .before .before .before .count .given .0 .1 .0) page) g)) (c .first-joint .ensures)
 
 returns-2 : tie.Need-returns-2
 returns-2 c =
     let e = rw (c .before .before .before .before .count .given .1) at (c .before .before .before .before .before .before .read-count .ensures) in
-    let g = rw (c .enum-told2 .given .1) at (c .before .before .labels-from .ensures) in
+    let g = rw (c .enum-told2 .given .1) at (c .before .before .labels-from .ensures .0) in
     let page = now (c .before .before .before .before .before .before .before .before .args .page) in
     nowhere (rw (← e) (list-refused page (labelsOn page (c .before .before .before .before .before .before .before .before .args .on) (c .before .before .before .before .before .before .before .before .args .ons)) (c .before .before .before .before .count .given .0 .0) (drop (c .before .before .before .before .count .given .0 .1 .0) page) g))
 
