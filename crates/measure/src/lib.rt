@@ -56,23 +56,24 @@ fn measure(
     let end = v.end;
     let count = v.count;
     let front = front_len(page, own, 101);
-    let gap = between_len(page, own, 101 - front);
+    let left = 101 - front;
+    let gap = between_len(page, own, left);
     let minus = view::is_minus(own);
-    let inner = measure_operands(
-        page,
-        starts,
-        firsts,
-        end,
-        count,
-        minus,
-        gap,
-        101 - front,
-        widths,
-    );
-    let rear = rear_len(page, own, 101 - front - inner);
+    let inner = measure_operands(page, starts, firsts, end, count, minus, gap, left, widths);
+    let rear = rear_len(page, own, left - inner);
     let width = front + inner + rear;
     widths[i] = width as u8;
     width
+}
+
+// What so many bytes leave of a cap: nothing where they use it up.
+fn room_behind(cap: usize, bytes: usize) -> usize
+    ensures { λ r. ⌜ r ≡ cap - bytes ⌝ }
+{
+    if cap <= bytes {
+        return 0;
+    }
+    cap - bytes
 }
 
 // Measures the newest expressions behind the first `end` records, `count` of them, and returns the length of their texts with so many
@@ -107,31 +108,12 @@ fn measure_operands(
     }
     let first = firsts[root] as usize;
     let left = cap - last;
+    let room = room_behind(left, gap);
+    let fewer = count - 1;
+    let rest = measure_operands(page, starts, firsts, first, fewer, false, gap, room, widths);
     if left <= gap {
-        measure_operands(
-            page,
-            starts,
-            firsts,
-            first,
-            count - 1,
-            false,
-            gap,
-            0,
-            widths,
-        );
         return cap;
     }
-    let rest = measure_operands(
-        page,
-        starts,
-        firsts,
-        first,
-        count - 1,
-        false,
-        gap,
-        left - gap,
-        widths,
-    );
     last + gap + rest
 }
 

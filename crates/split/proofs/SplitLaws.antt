@@ -1,13 +1,12 @@
 -- The tree that record i ends, on one line or as the pieces of its layout: what the recursion for split text goes by.
 use Prim.Native.Nat.{ℕ, suc, _+_, _-_, _≤_, _<_, min}
 use native.Mathlib.Omega.{arith}
-use mathlib.Core.Path.{_≡_, sym, ap, ap₂, _∙_}
+use mathlib.Core.Path.{_≡_, sym, ap, _∙_}
 use mathlib.Core.Bool.{Bool, true}
 use mathlib.Core.List.{List, [], _∷_, _++_, append-nil}
 use lib.ListN.{length, length-append}
 use Rattle.base.specs.Splice.{Run, start, join}
 use Rattle.records.specs.Stack.{operandsOf}
-use Rattle.ast.specs.Expr.{Expr}
 use Rattle.ast.specs.Tables.{Tables, stackAt, treeAt}
 use Rattle.text.specs.Display.{display}
 use Rattle.text.specs.Layout.{Layout, indentIf, frontAt, betweenAt, rearAt, innerMark, innerLevel, marked, joined}
@@ -25,9 +24,6 @@ fits-line n r e h = omega arith
 pub over-line : (n r : ℕ) → r ≡ min n 101 → 100 < r → 100 < n
 over-line n r e h = omega arith
 
-pub marked-same : {m m′ : Bool} {l l′ : ℕ} → m ≡ m′ → l ≡ l′ → (e : Expr) → marked m l e ≡ marked m′ l′ e
-marked-same p q e = ap₂ (λ (m : Bool) (l : ℕ). marked m l e) p q
-
 -- ## On one line
 
 module _ {page starts firsts : List ℕ} {i : ℕ} (t : Tables page starts firsts (suc i)) (mark : Bool) (level : ℕ) (h : length (display (treeAt page i)) ≤ 100) where
@@ -44,14 +40,14 @@ module _ {page starts firsts : List ℕ} {i : ℕ} (t : Tables page starts first
 
 module _ {page starts firsts : List ℕ} {i : ℕ} {own : Layout} {end count : ℕ} (t : Tables page starts firsts (suc i)) (s : Seen page i own end count)
     (mark : Bool) (level : ℕ) (h : 100 < length (display (treeAt page i))) where
-  pub len-split : (m : Bool) (l : ℕ) → m ≡ innerMark mark own → l ≡ innerLevel level own → (gap cap x y z : ℕ) → x ≡ min (length (frontAt mark level own)) cap
+  pub len-split : (gap cap x y z : ℕ) → x ≡ min (length (frontAt mark level own)) cap
       → gap ≡ min (length (betweenAt level own)) (cap - x)
-      → Measured (λ separator. joined separator (marked m l) (marked true l) (operandsOf count (stackAt page end))) gap (cap - x) y
+      → Measured (λ separator. joined separator (marked (innerMark mark own) (innerLevel level own)) (marked true (innerLevel level own)) (operandsOf count (stackAt page end))) gap (cap - x) y
       → z ≡ min (length (rearAt level own)) (cap - x - y)
       → x + y + z ≡ min (length (marked mark level (treeAt page i))) cap
-  len-split m l p q gap cap x y z a b c d =
+  len-split gap cap x y z a b c d =
       len-node (marked (innerMark mark own) (innerLevel level own)) (marked true (innerLevel level own)) _ (frontAt mark level own) (betweenAt level own) (rearAt level own)
-      (marked-pieces s t mark level h) gap cap x y z a b (rw (p, q) at c) d
+      (marked-pieces s t mark level h) gap cap x y z a b c d
 
   pub run-split : (o : List ℕ) (at : ℕ) → at + length (marked mark level (treeAt page i)) ≤ length o
       → Run o o at (marked mark level (treeAt page i)) (frontAt mark level own ∷ operandsAt own mark level count page end ∷ rearAt level own ∷ []) at

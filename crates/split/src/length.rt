@@ -1,6 +1,8 @@
 // The length of split text, up to a cap.
-use crate::inner_level;
-use crate::inner_mark;
+use crate::place::Place;
+use crate::place::inner_place;
+use crate::place::with_mark;
+use crate::place::with_unvalued;
 use indented::between_at_len;
 use indented::front_at_len;
 use indented::indent_len;
@@ -24,48 +26,35 @@ pub fn split_len(
     firsts: &[u8],
     widths: &[u8],
     i: usize,
-    unvalued: bool,
-    mark: bool,
-    level: usize,
+    place: Place,
     cap: usize,
 ) -> usize
     requires { ⌜ Tables (now page) (now starts) (now firsts) (suc i) ⌝ }
     requires { ⌜ Known (now page) (now widths) ⌝ }
-    requires { ⌜ Unvalued (now page) i unvalued ⌝ }
-    requires { ⌜ level + i ≤ 256 ⌝ }
-    ensures { λ r. ⌜ r ≡ min (length (marked mark level (treeAt (now (page .entry)) i))) cap ⌝ }
+    requires { ⌜ Unvalued (now page) i (place .unvalued) ⌝ }
+    requires { ⌜ place .level + i ≤ 256 ⌝ }
+    ensures { λ r. ⌜ r ≡ min (length (marked (place .mark) (place .level) (treeAt (now (page .entry)) i))) cap ⌝ }
 {
     if cap == 0 {
         return 0;
     }
-    let line = width(page, starts, firsts, widths, i, unvalued);
+    let level = place.level;
+    let line = width(page, starts, firsts, widths, i, place.unvalued);
     if line <= 100 {
-        let lead = indent_len(mark, level, cap);
+        let lead = indent_len(place.mark, level, cap);
         return util::capped_add(lead, line, cap);
     }
-    let v = view::view_at(page, starts, i, unvalued);
+    let v = view::view_at(page, starts, i, place.unvalued);
     let own = v.own;
     let end = v.end;
     let count = v.count;
-    let front = front_at_len(page, own, mark, level, cap);
-    let gap = between_at_len(page, own, level, cap - front);
+    let front = front_at_len(page, own, place.mark, level, cap);
+    let left = cap - front;
+    let gap = between_at_len(page, own, level, left);
     let minus = view::is_minus(own);
-    let first = inner_mark(page, own, mark);
-    let deeper = inner_level(page, own, level);
-    let inner = split_operands_len(
-        page,
-        starts,
-        firsts,
-        widths,
-        end,
-        count,
-        minus,
-        first,
-        deeper,
-        gap,
-        cap - front,
-    );
-    let rear = rear_at_len(page, own, level, cap - front - inner);
+    let operand = inner_place(page, own, with_unvalued(place, minus));
+    let inner = split_operands_len(page, starts, firsts, widths, end, count, operand, gap, left);
+    let rear = rear_at_len(page, own, level, left - inner);
     front + inner + rear
 }
 
@@ -78,64 +67,35 @@ fn split_operands_len(
     widths: &[u8],
     end: usize,
     count: usize,
-    unvalued: bool,
-    mark: bool,
-    level: usize,
+    place: Place,
     gap: usize,
     cap: usize,
 ) -> usize
     requires { ⌜ Tables (now page) (now starts) (now firsts) end ⌝ }
     requires { ⌜ Known (now page) (now widths) ⌝ }
     requires { ⌜ count ≤ length (stackAt (now page) end) ⌝ }
-    requires { ⌜ Unvalued (now page) (end - 1) unvalued ⌝ }
-    requires { ⌜ level + end ≤ 257 ⌝ }
-    ensures { λ r. ⌜ Measured (λ separator. joined separator (marked mark level) (marked true level) (operandsOf count (stackAt (now (page .entry)) end))) gap cap r ⌝ }
+    requires { ⌜ Unvalued (now page) (end - 1) (place .unvalued) ⌝ }
+    requires { ⌜ place .level + end ≤ 257 ⌝ }
+    ensures { λ r. ⌜ Measured (λ separator. joined separator (marked (place .mark) (place .level)) (marked true (place .level)) (operandsOf count (stackAt (now (page .entry)) end))) gap cap r ⌝ }
 {
     if count == 0 {
         return 0;
     }
     let root = end - 1;
     if count == 1 {
-        return split_len(
-            page,
-            starts,
-            firsts,
-            widths,
-            root,
-            unvalued,
-            mark,
-            level,
-            cap,
-        );
+        return split_len(page, starts, firsts, widths, root, place, cap);
     }
-    let last = split_len(
-        page,
-        starts,
-        firsts,
-        widths,
-        root,
-        unvalued,
-        true,
-        level,
-        cap,
-    );
+    let behind = with_mark(place, true);
+    let last = split_len(page, starts, firsts, widths, root, behind, cap);
     let left = cap - last;
     if left <= gap {
         return cap;
     }
-    let first = firsts[root] as usize;
-    let rest = split_operands_len(
-        page,
-        starts,
-        firsts,
-        widths,
-        first,
-        count - 1,
-        false,
-        mark,
-        level,
-        gap,
-        left - gap,
-    );
+    // the others end where the last one begins
+    let end = firsts[root] as usize;
+    let fewer = count - 1;
+    let room = left - gap;
+    let before = with_unvalued(place, false);
+    let rest = split_operands_len(page, starts, firsts, widths, end, fewer, before, gap, room);
     last + gap + rest
 }

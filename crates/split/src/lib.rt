@@ -1,6 +1,7 @@
 // Split text (parser/mod.rs, `Prettier`): a node longer than a line is written on several lines, its operands a level deeper. The mark
 // says whether the first line is indented: it is not behind the minus of a unary expression.
 pub mod length;
+pub mod place;
 pub mod whole;
 pub mod write;
 

@@ -22,6 +22,7 @@ use Rattle.measure.proofs.+measure+measure_operands.Lts-measure_operand
 use Rattle.canonical.proofs.own.between_len.Reads as between-len-reads
 use Rattle.canonical.proofs.own.front_len.Reads as front-len-reads
 use Rattle.canonical.proofs.own.rear_len.Reads as rear-len-reads
+use Rattle.measure.proofs.room_behind.Reads as room-behind-reads
 use Rattle.util.proofs.capped_add.Reads as capped-add-reads
 use Rattle.view.proofs.is_minus.Reads as is-minus-reads
 use Rattle.view.proofs.view_at.Reads as view-at-reads
@@ -60,7 +61,7 @@ abbrev measure-claims : ℕ → measure-lts.Claims
 measure-claims t = (view-at-reads.Asked, view-at-reads.Learnt, front-len-reads.Asked, front-len-reads.Learnt, between-len-reads.Asked, between-len-reads.Learnt, is-minus-reads.Asked, is-minus-reads.Learnt, measure-operands-below t, measure-operands.Post, rear-len-reads.Asked, rear-len-reads.Learnt)
 
 abbrev measure-operands-claims : ℕ → measure-operands-lts.Claims
-measure-operands-claims t = (measure-below t, measure.Post, capped-add-reads.Asked, capped-add-reads.Learnt, measure-operands-below t, measure-operands.Post)
+measure-operands-claims t = (measure-below t, measure.Post, capped-add-reads.Asked, capped-add-reads.Learnt, room-behind-reads.Asked, room-behind-reads.Learnt, measure-operands-below t, measure-operands.Post)
 
 measure-view-at-requires : (t : ℕ) → measure-lts.Need-view-at-requires (measure-claims t) (measure-at t) measure.Post
 measure-view-at-requires t c κs = (starts-of (c .before .before .before .before .pre .1 .0), c .before .before .before .before .pre .1 .1 .0)
@@ -68,8 +69,8 @@ measure-view-at-requires t c κs = (starts-of (c .before .before .before .before
 measure-front-len-requires : (t : ℕ) → measure-lts.Need-front-len-requires (measure-claims t) (measure-at t) measure.Post
 measure-front-len-requires t c κs = c .view-at .ensures .lies
 
-measure-sub-between-len : (t : ℕ) → measure-lts.Need-sub-between-len (measure-claims t) (measure-at t) measure.Post
-measure-sub-between-len t c = omega (arith, c .front-len .ensures)
+measure-sub-left : (t : ℕ) → measure-lts.Need-sub-left (measure-claims t) (measure-at t) measure.Post
+measure-sub-left t c = omega (arith, c .front-len .ensures)
 
 measure-between-len-requires : (t : ℕ) → measure-lts.Need-between-len-requires (measure-claims t) (measure-at t) measure.Post
 measure-between-len-requires t c κs = c .before .view-at .ensures .lies
@@ -77,19 +78,13 @@ measure-between-len-requires t c κs = c .before .view-at .ensures .lies
 measure-is-minus-requires : (t : ℕ) → measure-lts.Need-is-minus-requires (measure-claims t) (measure-at t) measure.Post
 measure-is-minus-requires t c κs = search needs
 
-measure-sub-measure-operands : (t : ℕ) → measure-lts.Need-sub-measure-operands (measure-claims t) (measure-at t) measure.Post
-measure-sub-measure-operands t c = omega (arith, c .before .before .front-len .ensures)
-
 measure-measure-operands-requires : (t : ℕ) → measure-lts.Need-measure-operands-requires (measure-claims t) (measure-at t) measure.Post
 measure-measure-operands-requires t c κs =
     let seen = c .before .before .before .before .view-at .ensures .seen in
     (omega (arith, seen .low, c .before .before .before .before .before .before .before .before .before .pre .0), (fewer (c .before .before .before .before .before .before .before .before .before .pre .1 .0) (omega (arith, seen .low)), (seen .enough, (rw (c .before .is-minus .ensures) (minus-unvalued (c .before .before .before .before .view-at .ensures)), (omega arith, c .before .before .before .before .before .before .before .before .before .pre .1 .1 .1)))))
 
 measure-sub-rear-len : (t : ℕ) → measure-lts.Need-sub-rear-len (measure-claims t) (measure-at t) measure.Post
-measure-sub-rear-len t c = omega (arith, c .before .before .before .before .before .before .front-len .ensures)
-
-measure-sub-rear-len-2 : (t : ℕ) → measure-lts.Need-sub-rear-len-2 (measure-claims t) (measure-at t) measure.Post
-measure-sub-rear-len-2 t c = omega (arith, c .before .before .before .before .before .before .front-len .ensures, c .before .before .measure-operands .ensures .0 .bound)
+measure-sub-rear-len t c = omega (arith, c .before .before .measure-operands .ensures .0 .bound)
 
 measure-rear-len-requires : (t : ℕ) → measure-lts.Need-rear-len-requires (measure-claims t) (measure-at t) measure.Post
 measure-rear-len-requires t c κs = c .before .before .before .before .before .before .before .view-at .ensures .lies
@@ -143,46 +138,38 @@ measure-operands-cast-first t c = omega (arith, c .shared-slice-known4 .given (c
 measure-operands-sub-left : (t : ℕ) → measure-operands-lts.Need-sub-left (measure-operands-claims t) (measure-operands-at t) measure-operands.Post
 measure-operands-sub-left t c = omega (arith, c .before .before .capped-add .ensures)
 
-measure-operands-sub-measure-operands : (t : ℕ) → measure-operands-lts.Need-sub-measure-operands (measure-operands-claims t) (measure-operands-at t) measure-operands.Post
-measure-operands-sub-measure-operands t c = omega (arith, c .before .before .before .before .before .before .before .before .if1 .left)
+measure-operands-room-behind-requires : (t : ℕ) → measure-operands-lts.Need-room-behind-requires (measure-operands-claims t) (measure-operands-at t) measure-operands.Post
+measure-operands-room-behind-requires t c κs = search needs
+
+measure-operands-sub-fewer : (t : ℕ) → measure-operands-lts.Need-sub-fewer (measure-operands-claims t) (measure-operands-at t) measure-operands.Post
+measure-operands-sub-fewer t c = omega (arith, c .before .before .before .before .before .before .before .before .if1 .left)
 
 measure-operands-measure-operands-requires : (t : ℕ) → measure-operands-lts.Need-measure-operands-requires (measure-operands-claims t) (measure-operands-at t) measure-operands.Post
 measure-operands-measure-operands-requires t c κs =
     let w = last-operand (c .before .before .before .before .before .before .before .before .before .before .before .before .before .before .pre .1 .0) _ (c .before .before .before .before .before .before .before .before .before .before .before .before .before .before .pre .1 .1 .0) (c .before .before .before .before .before .before .before .before .before .if1 .left) in
-    (omega (arith, w .low, c .before .before .before .before .before .before .before .before .before .before .before .before .before .before .pre .0), (fewer (c .before .before .before .before .before .before .before .before .before .before .before .before .before .before .pre .1 .0) (omega (arith, w .low)), (fewer-operands (c .before .before .before .before .before .before .before .before .before .before .before .before .before .before .pre .1 .0) _ (c .before .before .before .before .before .before .before .before .before .before .before .before .before .before .pre .1 .1 .0) (c .before .before .before .before .before .before .before .before .before .if1 .left), (unmarked _ _, (omega arith, c .before .before .before .before .before .before .before .measure .ensures .1)))))
+    (omega (arith, w .low, c .before .before .before .before .before .before .before .before .before .before .before .before .before .before .pre .0), (fewer (c .before .before .before .before .before .before .before .before .before .before .before .before .before .before .pre .1 .0) (omega (arith, w .low)), (fewer-operands (c .before .before .before .before .before .before .before .before .before .before .before .before .before .before .pre .1 .0) _ (c .before .before .before .before .before .before .before .before .before .before .before .before .before .before .pre .1 .1 .0) (c .before .before .before .before .before .before .before .before .before .if1 .left), (unmarked _ _, (omega (arith, c .before .room-behind .ensures, c .before .before .before .before .before .before .before .before .before .before .before .before .before .before .pre .1 .1 .1 .1 .0), c .before .before .before .before .before .before .before .measure .ensures .1)))))
 
 measure-operands-same-length-2 : (t : ℕ) → measure-operands-lts.Need-same-length-2 (measure-operands-claims t) (measure-operands-at t) measure-operands.Post
-measure-operands-same-length-2 t c = omega (arith, c .before .before .measure-operands .ensures .1 .size, c .before .before .before .before .before .before .before .before .before .before .before .before .before .before .before .before .before .pre .1 .1 .1 .1 .1 .size)
+measure-operands-same-length-2 t c = omega (arith, c .before .before .before .measure-operands .ensures .1 .size, c .before .before .before .before .before .before .before .before .before .before .before .before .before .before .before .before .before .before .pre .1 .1 .1 .1 .1 .size)
 
 measure-operands-returns-3 : (t : ℕ) → measure-operands-lts.Need-returns-3 (measure-operands-claims t) (measure-operands-at t) measure-operands.Post
-measure-operands-returns-3 t c = (len-full display display (c .before .before .before .before .before .before .before .before .before .before .before .before .before .before .before .before .before .pre .1 .0) _ (c .before .before .before .before .before .before .before .before .before .before .before .before .before .before .before .before .before .pre .1 .1 .0) (c .before .before .before .before .before .before .before .before .before .before .before .before .if1 .left) (c .before .before .before .before .before .before .if2 .left) _ _ _ (recapped _ _ _ _ (c .before .before .before .before .before .before .before .before .before .before .measure .ensures .0) (c .before .before .before .before .before .before .before .before .before .before .before .before .before .before .before .before .before .pre .1 .1 .1 .1 .0) (c .before .before .before .before .before .before .before .capped-add .ensures)) (c .before .before .before .before .if3 .taken), c .before .before .measure-operands .ensures .1)
-
-measure-operands-sub-measure-operands-2 : (t : ℕ) → measure-operands-lts.Need-sub-measure-operands-2 (measure-operands-claims t) (measure-operands-at t) measure-operands.Post
-measure-operands-sub-measure-operands-2 t c = omega (arith, c .before .before .before .before .before .before .before .before .if1 .left)
-
-measure-operands-sub-measure-operands-3 : (t : ℕ) → measure-operands-lts.Need-sub-measure-operands-3 (measure-operands-claims t) (measure-operands-at t) measure-operands.Post
-measure-operands-sub-measure-operands-3 t c = omega (arith, c .if3 .left)
-
-measure-operands-measure-operands-requires-2 : (t : ℕ) → measure-operands-lts.Need-measure-operands-requires-2 (measure-operands-claims t) (measure-operands-at t) measure-operands.Post
-measure-operands-measure-operands-requires-2 t c κs =
-    let w = last-operand (c .before .before .before .before .before .before .before .before .before .before .before .before .before .before .pre .1 .0) _ (c .before .before .before .before .before .before .before .before .before .before .before .before .before .before .pre .1 .1 .0) (c .before .before .before .before .before .before .before .before .before .if1 .left) in
-    (omega (arith, w .low, c .before .before .before .before .before .before .before .before .before .before .before .before .before .before .pre .0), (fewer (c .before .before .before .before .before .before .before .before .before .before .before .before .before .before .pre .1 .0) (omega (arith, w .low)), (fewer-operands (c .before .before .before .before .before .before .before .before .before .before .before .before .before .before .pre .1 .0) _ (c .before .before .before .before .before .before .before .before .before .before .before .before .before .before .pre .1 .1 .0) (c .before .before .before .before .before .before .before .before .before .if1 .left), (unmarked _ _, (omega (arith, c .before .before .before .before .before .before .before .before .before .before .before .before .before .before .pre .1 .1 .1 .1 .0), c .before .before .before .before .before .before .before .measure .ensures .1)))))
+measure-operands-returns-3 t c = (len-full display display (c .before .before .before .before .before .before .before .before .before .before .before .before .before .before .before .before .before .before .pre .1 .0) _ (c .before .before .before .before .before .before .before .before .before .before .before .before .before .before .before .before .before .before .pre .1 .1 .0) (c .before .before .before .before .before .before .before .before .before .before .before .before .before .if1 .left) (c .before .before .before .before .before .before .before .if2 .left) _ _ _ (recapped _ _ _ _ (c .before .before .before .before .before .before .before .before .before .before .before .measure .ensures .0) (c .before .before .before .before .before .before .before .before .before .before .before .before .before .before .before .before .before .before .pre .1 .1 .1 .1 .0) (c .before .before .before .before .before .before .before .before .capped-add .ensures)) (c .if3 .taken), c .before .before .before .measure-operands .ensures .1)
 
 measure-operands-add-result : (t : ℕ) → measure-operands-lts.Need-add-result (measure-operands-claims t) (measure-operands-at t) measure-operands.Post
-measure-operands-add-result t c = omega (arith, c .before .before .before .before .before .before .before .capped-add .ensures, c .before .before .before .before .if3 .left)
+measure-operands-add-result t c = omega (arith, c .before .before .before .before .before .before .before .before .capped-add .ensures, c .if3 .left)
 
 measure-operands-add-result-2 : (t : ℕ) → measure-operands-lts.Need-add-result-2 (measure-operands-claims t) (measure-operands-at t) measure-operands.Post
-measure-operands-add-result-2 t c = omega (arith, c .before .before .before .before .before .before .before .capped-add .ensures, c .before .before .before .before .if3 .left, c .before .before .measure-operands2 .ensures .0 .bound)
+measure-operands-add-result-2 t c = omega (arith, c .before .before .before .before .before .before .before .before .capped-add .ensures, c .if3 .left, c .before .before .before .before .before .room-behind .ensures, c .before .before .before .measure-operands .ensures .0 .bound)
 
 measure-operands-same-length-3 : (t : ℕ) → measure-operands-lts.Need-same-length-3 (measure-operands-claims t) (measure-operands-at t) measure-operands.Post
-measure-operands-same-length-3 t c = omega (arith, c .before .before .measure-operands2 .ensures .1 .size, c .before .before .before .before .before .before .before .before .before .before .before .before .before .before .before .before .before .pre .1 .1 .1 .1 .1 .size)
+measure-operands-same-length-3 t c = omega (arith, c .before .before .before .measure-operands .ensures .1 .size, c .before .before .before .before .before .before .before .before .before .before .before .before .before .before .before .before .before .before .pre .1 .1 .1 .1 .1 .size)
 
 measure-operands-returns-4 : (t : ℕ) → measure-operands-lts.Need-returns-4 (measure-operands-claims t) (measure-operands-at t) measure-operands.Post
-measure-operands-returns-4 t c = (len-more display display (c .before .before .before .before .before .before .before .before .before .before .before .before .before .before .before .before .before .pre .1 .0) _ (c .before .before .before .before .before .before .before .before .before .before .before .before .before .before .before .before .before .pre .1 .1 .0) (c .before .before .before .before .before .before .before .before .before .before .before .before .if1 .left) (c .before .before .before .before .before .before .if2 .left) _ _ _ (recapped _ _ _ _ (c .before .before .before .before .before .before .before .before .before .before .measure .ensures .0) (c .before .before .before .before .before .before .before .before .before .before .before .before .before .before .before .before .before .pre .1 .1 .1 .1 .0) (c .before .before .before .before .before .before .before .capped-add .ensures)) _ (c .before .before .before .before .if3 .left) (c .before .before .measure-operands2 .ensures .0), c .before .before .measure-operands2 .ensures .1)
+measure-operands-returns-4 t c = (len-more display display (c .before .before .before .before .before .before .before .before .before .before .before .before .before .before .before .before .before .before .pre .1 .0) _ (c .before .before .before .before .before .before .before .before .before .before .before .before .before .before .before .before .before .before .pre .1 .1 .0) (c .before .before .before .before .before .before .before .before .before .before .before .before .before .if1 .left) (c .before .before .before .before .before .before .before .if2 .left) _ _ _ (recapped _ _ _ _ (c .before .before .before .before .before .before .before .before .before .before .before .measure .ensures .0) (c .before .before .before .before .before .before .before .before .before .before .before .before .before .before .before .before .before .before .pre .1 .1 .1 .1 .0) (c .before .before .before .before .before .before .before .before .capped-add .ensures)) _ (c .if3 .left) (rw (c .before .before .before .before .before .room-behind .ensures) at (c .before .before .before .measure-operands .ensures .0)), c .before .before .before .measure-operands .ensures .1)
 
 pub +measure+measure-operands-spec : {M : Type 1} → statement M
 +measure+measure-operands-spec = close μ-measure μ-measure-operands
     (λ t. measure-lts.spec (measure-claims t) (measure-at t) measure.Post
-    (measure-view-at-requires t) (measure-front-len-requires t) (measure-sub-between-len t) (measure-between-len-requires t) (measure-is-minus-requires t) (measure-sub-measure-operands t) (measure-measure-operands-requires t) (measure-sub-rear-len t) (measure-sub-rear-len-2 t) (measure-rear-len-requires t) (measure-add-width t) (measure-add-width-2 t) (measure-cast-widths t) (measure-slice-write-widths t) (measure-same-length t) (measure-returns t))
+    (measure-view-at-requires t) (measure-front-len-requires t) (measure-sub-left t) (measure-between-len-requires t) (measure-is-minus-requires t) (measure-measure-operands-requires t) (measure-sub-rear-len t) (measure-rear-len-requires t) (measure-add-width t) (measure-add-width-2 t) (measure-cast-widths t) (measure-slice-write-widths t) (measure-same-length t) (measure-returns t))
     (λ t. measure-operands-lts.spec (measure-operands-claims t) (measure-operands-at t) measure-operands.Post
-    (measure-operands-returns t) (measure-operands-sub-root t) (measure-operands-measure-requires t) (measure-operands-capped-add-requires t) (measure-operands-same-length t) (measure-operands-returns-2 t) (measure-operands-shared-slice-read-first t) (measure-operands-cast-first t) (measure-operands-sub-left t) (measure-operands-sub-measure-operands t) (measure-operands-measure-operands-requires t) (measure-operands-same-length-2 t) (measure-operands-returns-3 t) (measure-operands-sub-measure-operands-2 t) (measure-operands-sub-measure-operands-3 t) (measure-operands-measure-operands-requires-2 t) (measure-operands-add-result t) (measure-operands-add-result-2 t) (measure-operands-same-length-3 t) (measure-operands-returns-4 t))
+    (measure-operands-returns t) (measure-operands-sub-root t) (measure-operands-measure-requires t) (measure-operands-capped-add-requires t) (measure-operands-same-length t) (measure-operands-returns-2 t) (measure-operands-shared-slice-read-first t) (measure-operands-cast-first t) (measure-operands-sub-left t) (measure-operands-room-behind-requires t) (measure-operands-sub-fewer t) (measure-operands-measure-operands-requires t) (measure-operands-same-length-2 t) (measure-operands-returns-3 t) (measure-operands-add-result t) (measure-operands-add-result-2 t) (measure-operands-same-length-3 t) (measure-operands-returns-4 t))
