@@ -14,9 +14,10 @@
  * Refusal 5 (output too short) is tested last: only a page that check accepts is refused with it, with the number of its records
  * as index, and a longer buffer then lets the call pass. All calls otherwise agree on a page's kind, or refusal and record.
  *
- * How long a buffer must be: SANDZGULI_COPY_BYTES hold every copy (proved). Texts have no proved bound. By a bound worked out by
- * hand 65,536 bytes hold every canonical text; split texts above that are rare (the longest that was built has 156,571 bytes).
- * Where a text may be longer than the buffer, lend more after refusal 5, as examples/c/print_query.c does.
+ * How long a buffer must be: SANDZGULI_COPY_BYTES hold every copy, and 65,536 bytes every canonical text (both proved). Canonical text
+ * is quickest where `out` has at least 4 bytes for each byte of the page and 128 for each record: then it is not measured first.
+ * Split texts have no proved bound; ones above 65,536 bytes are rare (the longest that was built has 156,571 bytes). Where a text
+ * may be longer than the buffer, lend more after refusal 5, as examples/c/print_query.c does.
  *
  * Calls keep nothing between them, allocate nothing and use no global state: any thread may call at any time, with a page that
  * no one writes to meanwhile. Both texts recurse over the records of a page, at most 256 deep: the most stack that was measured

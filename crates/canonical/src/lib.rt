@@ -1,7 +1,9 @@
 // Canonical text (ast.rs, `Display`): each node's text is put together from its operands' texts, by functions over record
 // positions that fall. What a node writes of its own is written by functions that do not recurse.
+pub mod fits;
 pub mod own;
 
+pub use fits::text_fits;
 use own::between_len;
 use own::front_len;
 use own::put_between;

@@ -2,17 +2,15 @@
 -- is its kind; a number's second byte is its form, and the rest of it stays. Assumes nothing.
 use Prim.Native.Nat.{ℕ, suc, _+_, _-_, _≤_, _<_, zero-le}
 use mathlib.Core.Path.{_≡_, refl, sym, ap, _∙_, subst}
-use mathlib.Core.Bool.{Bool, true, false, _&&_}
+use mathlib.Core.Bool.{Bool, true, false}
 use mathlib.Core.List.{List, [], _∷_, _++_}
 use native.Mathlib.Nat.{add-zero}
 use native.Mathlib.Omega.{arith}
-use mir.Syntax.{w8}
-use mir.Val.{Fits}
 use lib.ListN.{length, take, drop, getD, length-drop, length-append}
 use lib.Seq.{getD-drop, take-at, length-take-le}
-use lib.Dec.{T, eqb, lt→ltb}
-use Rattle.page.specs.Bytes.{pick, all}
-use Rattle.page.proofs.NumberLaws.{Written, isByte}
+use lib.Dec.{eqb}
+use Rattle.page.specs.Bytes.{pick}
+use Rattle.page.proofs.NumberLaws.{Written}
 use Rattle.records.specs.Record.{number, string, selector, range, subquery, at, offset, unary, paren, Record, leaf, wrapper, binary, aggregate, call, writeRecord}
 use Rattle.records.proofs.RecordLaws.{record-law}
 use Rattle.copy.specs.Piece.{unaries, copied, pieceRead, pieceOf, absorbedRead, absorbedOf, absorbed}
@@ -35,15 +33,6 @@ part-ends page front from to h l e = omega (arith, length-drop from page, length
 
 pub part-length : (page : List ℕ) (from to : ℕ) → to ≤ length page → length (take (to - from) (drop from page)) ≡ to - from
 part-length page from to h = length-take-le (to - from) (drop from page) (omega (arith, length-drop from page))
-
--- the elements of a slice of bytes
-pub known-bytes : (page : List ℕ) → ((i : ℕ) → Fits w8 (getD page i 0)) → T (all isByte page)
-known-bytes [] h = tt
-known-bytes (b ∷ bs) h = both-true (isByte b) (all isByte bs) (lt→ltb b 256 (omega (arith, h 0))) (known-bytes bs (λ i. h (suc i)))
-  where
-    both-true : (x y : Bool) → T x → T y → T (x && y)
-    both-true true y p q = q
-    both-true false y p q = p
 
 -- ## Kinds
 

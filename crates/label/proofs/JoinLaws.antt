@@ -54,7 +54,7 @@ joined-none page (x ∷ l) h = absurd (omega arith)
 
 -- ## The length, which no order changes
 
-more-length : (t : Text) (ts : List Text) → length (moreByCommas (t ∷ ts)) ≡ 1 + length t + length (moreByCommas ts)
+pub more-length : (t : Text) (ts : List Text) → length (moreByCommas (t ∷ ts)) ≡ 1 + length t + length (moreByCommas ts)
 unfolding moreByCommas
 more-length t ts = omega (arith, length-append t (moreByCommas ts))
 
@@ -76,7 +76,7 @@ unfolding joinedByCommas moreByCommas
 joined-length [] = refl
 joined-length (t ∷ ts) = omega arith
 
-displayMatchers-length : (ms : List Matcher) → length (displayMatchers ms) ≡ length (moreByCommas (map displayMatcher ms)) - 1
+pub displayMatchers-length : (ms : List Matcher) → length (displayMatchers ms) ≡ length (moreByCommas (map displayMatcher ms)) - 1
 unfolding displayMatchers
 displayMatchers-length ms = joined-length (sort (map displayMatcher ms)) ∙ ap (λ (n : ℕ). n - 1) (sort-length (map displayMatcher ms))
 

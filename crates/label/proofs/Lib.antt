@@ -6,3 +6,4 @@ pub mod KeyLaws
 pub mod SortLaws
 pub mod CollectLaws
 pub mod JoinLaws
+pub mod LengthLaws

@@ -1,19 +1,31 @@
--- What a call that measures its text asks: an accepted page has a record, and the length, measured up to one byte more than the room,
--- says whether the text fits. Assumes nothing.
+-- What a call that writes a text asks: an accepted page has a record, and the length, measured up to one byte more than the room, says
+-- whether the text fits. And 65,536 bytes hold every canonical text. Assumes nothing.
 use Prim.Native.Nat.{ℕ, zero, suc, _+_, _-_, _≤_, _<_, min}
-use mathlib.Core.Path.{_≡_, subst}
+use mathlib.Core.Path.{_≡_, refl, ap, subst, _∙_}
 use mathlib.Core.Bool.{true, false}
 use mathlib.Core.List.{List, [], _∷_}
 use native.Mathlib.Omega.{arith}
 use borrow.Author.Tests.{le-leb, lt-leb}
 use lib.ListN.{length}
-use lib.Dec.{leb}
+use lib.Seq.{take-all}
+use lib.Dec.{T, leb}
+use Rattle.page.specs.Bytes.{all}
 use Rattle.page.specs.Limits.{recordLimit}
+use Rattle.page.proofs.NumberLaws.{isByte}
+use Rattle.records.specs.Kind.{Kind}
+use Rattle.records.specs.Outcome.{answer, refusal}
 use Rattle.records.specs.Record.{Record, Ending, end, unreadable, readPage}
-use Rattle.ast.specs.Expr.{Expr}
-use Rattle.ast.specs.Walk.{Walked, stack, stopped, accepted, atEnd, finished, walk}
+use Rattle.ast.specs.Expr.{Expr, valueType}
+use Rattle.ast.specs.Walk.{Walked, stack, stopped, Checked, accepted, refusedAt, atEnd, finished, walk}
 use Rattle.ast.specs.CheckPage.{apply, checkPage}
-use Rattle.ast.specs.Tables.{Tables}
+use Rattle.ast.specs.Table.{isOfCheck}
+use Rattle.ast.specs.Tables.{entries, newest, stackAt, treeAt, Tables}
+use Rattle.ast.proofs.WalkLaws.{CheckedIn, checkPage-in, page-limit}
+use Rattle.text.specs.Display.{display}
+use Rattle.text.proofs.RoomLaws.{display-room}
+use Rattle.copy.proofs.CopyLaws.{accepted-walks}
+use Rattle.copy.proofs.StartsLaws.{readPage-reads}
+use Rattle.sandzguli.specs.Calls.{tooShort, writing, canonicalText}
 
 -- ## An accepted page has a record
 
@@ -54,3 +66,39 @@ room-short text room size e h = lt-leb text room (omega arith)
 -- the same as a writer at the start of the buffer asks it
 pub room-fits : (text room size : ℕ) → size ≡ min text (room + 1) → size ≤ room → 0 + text ≤ room
 room-fits text room size e h = omega arith
+
+-- ## Room for every canonical text
+
+-- behind 256 records, or all that there are, stands the accepted tree alone
+last-tree : (page : List ℕ) {e : Expr} {n : ℕ} → checkPage page ≡ accepted e n → treeAt page 255 ≡ e
+unfolding checkPage treeAt stackAt
+last-tree page {e} {n} h =
+    ap (λ (w : Walked Expr). newest (entries w))
+    (ap (walk apply 0 []) (take-all recordLimit (readPage page .records) (page-limit page)) ∙ accepted-walks (readPage page) e n h .1)
+
+pub canonical-room : (page : List ℕ) {e : Expr} {n : ℕ} → T (all isByte page) → checkPage page ≡ accepted e n → length (display e) ≤ 65536
+unfolding checkPage
+canonical-room page {e} {n} bytes h =
+    omega (
+      arith,
+      display-room page 255 bytes,
+      ap (λ (x : Expr). length (display x)) (last-tree page h),
+      readPage-reads page (accepted-walks (readPage page) e n h .0) .0,
+    )
+
+-- a buffer of 65,536 bytes is never too short for it
+pub canonicalText-fits : (page buffer : List ℕ) → T (all isByte page) → 65536 ≤ length buffer → (i : ℕ) → canonicalText page buffer .outcome ≡ refusal tooShort i → ⊥
+canonicalText-fits page buffer bytes room i = by (checkPage page) refl (checkPage-in page)
+  where
+    never : (k : ℕ) → T (isOfCheck k) → k ≡ tooShort → ⊥
+    never k t e = subst (λ (x : ℕ). T (isOfCheck x)) e t
+
+    number : (k j : ℕ) → refusal k j ≡ refusal tooShort i → k ≡ tooShort
+    number k j q = cc
+
+    answered : (k : Kind) (n : ℕ) → answer k n ≡ refusal tooShort i → ⊥
+    answered k n q = let z : _≡_ {A = ℕ} 0 1 = cc in omega arith
+
+    by : (c : Checked Expr) → checkPage page ≡ c → CheckedIn (length (readPage page .records)) c → writing display c buffer .outcome ≡ refusal tooShort i → ⊥
+    by (refusedAt k j) h g q = never k (g .0) (number k j q)
+    by (accepted e n) h g q = answered (valueType e) (length (display e)) (rw (le-leb (length (display e)) (length buffer) (omega (arith, canonical-room page bytes h))) at q)

@@ -28,7 +28,7 @@ pub fn copy(page: &[u8], out: &mut [u8]) -> Outcome
     }
 }
 
-// Canonical text of an accepted page. Measured up to one byte more than there is room for.
+// Canonical text of an accepted page.
 pub fn canonical(page: &[u8], out: &mut [u8]) -> Outcome
     ensures { λ r. ⌜ Does (canonicalText (now (page .entry)) (now (out .entry))) (outcomeMeant r) (now (out .exit)) ⌝ }
 {
@@ -37,9 +37,7 @@ pub fn canonical(page: &[u8], out: &mut [u8]) -> Outcome
     let walked = walk(page, &mut starts, &mut firsts);
     match walked {
         Walked::Accepted(kind, n) => {
-            let room = out.len();
-            let size = canonical::text_len(page, &starts, &firsts, n - 1, false, room + 1);
-            if size <= room {
+            if canonical::text_fits(page, &starts, &firsts, n - 1, out.len()) {
                 let written = canonical::write_text(page, &starts, &firsts, n - 1, false, out, 0);
                 return Outcome::Accepted(kind, written);
             }
@@ -49,7 +47,7 @@ pub fn canonical(page: &[u8], out: &mut [u8]) -> Outcome
     }
 }
 
-// Split text of an accepted page, measured likewise.
+// Split text of an accepted page. Measured up to one byte more than there is room for.
 pub fn split(page: &[u8], out: &mut [u8]) -> Outcome
     ensures { λ r. ⌜ Does (splitText (now (page .entry)) (now (out .entry))) (outcomeMeant r) (now (out .exit)) ⌝ }
 {

@@ -12,3 +12,6 @@ pub mod NodeLaws
 pub mod CappedLaws
 pub mod LengthLaws
 pub mod WriteLaws
+pub mod ShortLaws
+pub mod GrowthLaws
+pub mod RoomLaws

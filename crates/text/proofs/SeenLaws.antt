@@ -161,7 +161,7 @@ module _ {page starts firsts : List ℕ} {i : ℕ} (t : Tables page starts first
   pub seen-call : (f : Function) (count : ℕ) → Reads page starts j (call f count) → Seen page i (enclosed (f .name)) j count
   unfolding settled
   seen-call f count is =
-      many-seen count _ (Call f (argsOf (operandsOf count (stackAt page j)))) (tree-of page j (call-ok f count _ _ (enough below is) (applies below is))) refl
+      many-seen count _ (Call f (argsOf (operandsOf count (stackAt page j)))) (tree-of page j (call-ok f count _ _ (applies below is))) refl
       refl (back (operandsOf count (stackAt page j))) (enough below is) never
     where
       never : enclosed (f .name) ≡ negation → ⊥
@@ -174,7 +174,7 @@ module _ {page starts firsts : List ℕ} {i : ℕ} (t : Tables page starts first
   pub seen-aggregate : (c : ℕ) (m : Option LabelModifier) (count : ℕ) → Reads page starts j (aggregate c m count) → Seen page i (enclosed (displayAggregator c m)) j count
   unfolding settled
   seen-aggregate c m count is =
-      let p = aggregate-ok c m count (stackAt page j) _ (enough below is) (applies below is) in
+      let p = aggregate-ok c m count (stackAt page j) _ (applies below is) in
       let made = tree-of page j (record { node = p .node; makes = refl; passes = p .passes; stack = p .stack }) in
       let w = shape (hasParameter c) (operandsOf count (stackAt page j)) (p .node) (p .makes) in
       many-seen count _ (checkedExpr (p .node)) made (w .0) (w .1) (w .2) (enough below is) never

@@ -169,10 +169,10 @@ apply-sound (binary c m) (r ∷ l ∷ s) after a n h k = let p = binary-ok c m l
     left : (node : Expr) → ok (Binary c m l r) ≡ ok node → Sound (checkedExpr node)
     left node q = let same : node ≡ Binary c m l r = cc in rw same (h .1 .0)
 apply-sound (aggregate c m count) s after a n h k =
-    let p = aggregate-ok c m count s after n k in
+    let p = aggregate-ok c m count s after k in
     pushed-sound p (aggregate-sound c m (hasParameter c) (operandsOf count s) (p .node) (word-begins c (a .0)) (p .makes)) (below-sound count s h)
 apply-sound (call f count) s after a n h k =
-    let p = call-ok f count s after n k in
+    let p = call-ok f count s after k in
     pushed-sound p (named (p .node) (p .makes)) (below-sound count s h)
   where
     named : (node : Expr) {es : Args} → ok (Call f es) ≡ ok node → Sound (checkedExpr node)

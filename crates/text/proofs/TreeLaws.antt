@@ -1,6 +1,6 @@
 -- What an accepted record puts on the stack: the tree that its constructor made, with a set operator's modifier completed, on what
 -- is left below its operands.
-use Prim.Native.Nat.{ℕ, suc, _-_, _≤_, _<_}
+use Prim.Native.Nat.{ℕ}
 use native.Mathlib.Omega.{arith}
 use mathlib.Core.Path.{_≡_, refl, sym, ap, _∙_}
 use mathlib.Core.Bool.{Bool, true, false}
@@ -8,7 +8,6 @@ use mathlib.Core.List.{List, [], _∷_}
 use mathlib.Core.Option.{Option, none, some}
 use lib.ListN.{length, drop, getD}
 use lib.Dec.{leb}
-use borrow.Author.Tests.{le-leb}
 use Rattle.page.specs.Bytes.{pick}
 use Rattle.records.specs.Stack.{operandsOf}
 use Rattle.records.specs.Modifier.{LabelModifier, BinModifier}
@@ -90,16 +89,19 @@ pub binary-ok : (c : ℕ) (m : Option BinModifier) (l r : Expr) (below after : L
 unfolding apply
 binary-ok c m l r below after h = push-ok (ok (Binary c m l r)) below after h
 
-pushCall-ok : (n : ℕ) (make : List Expr → Result Expr) (s after : List Expr) → n ≤ length s → pushCall n make s ≡ ok after
-    → Pushed (make (operandsOf n s)) (drop n s) after
-pushCall-ok n make s after enough h = push-ok (make (operandsOf n s)) (drop n s) after (rw (le-leb n (length s) enough) at h)
+pushCall-ok : (n : ℕ) (make : List Expr → Result Expr) (s after : List Expr) → pushCall n make s ≡ ok after → Pushed (make (operandsOf n s)) (drop n s) after
+pushCall-ok n make s after h = by (leb n (length s)) h
+  where
+    by : (b : Bool) → pick b (push (make (operandsOf n s)) (drop n s)) (refused 2) ≡ ok after → Pushed (make (operandsOf n s)) (drop n s) after
+    by true k = push-ok (make (operandsOf n s)) (drop n s) after k
+    by false k = absurd (let z : _≡_ {A = ℕ} 0 1 = cc in omega arith)
 
-pub aggregate-ok : (c : ℕ) (m : Option LabelModifier) (n : ℕ) (s after : List Expr) → n ≤ length s → apply (aggregate c m n) s ≡ ok after
+pub aggregate-ok : (c : ℕ) (m : Option LabelModifier) (n : ℕ) (s after : List Expr) → apply (aggregate c m n) s ≡ ok after
     → Pushed (newAggregate c m (operandsOf n s)) (drop n s) after
 unfolding apply
-aggregate-ok c m n s after enough h = pushCall-ok n (newAggregate c m) s after enough h
+aggregate-ok c m n s after h = pushCall-ok n (newAggregate c m) s after h
 
-pub call-ok : (f : Function) (n : ℕ) (s after : List Expr) → n ≤ length s → apply (call f n) s ≡ ok after
+pub call-ok : (f : Function) (n : ℕ) (s after : List Expr) → apply (call f n) s ≡ ok after
     → Pushed (ok (Call f (argsOf (operandsOf n s)))) (drop n s) after
 unfolding apply
-call-ok f n s after enough h = pushCall-ok n (λ es. ok (Call f (argsOf es))) s after enough h
+call-ok f n s after h = pushCall-ok n (λ es. ok (Call f (argsOf es))) s after h

@@ -4,3 +4,4 @@ pub mod DurationLaws
 pub mod PartLaws
 pub mod NumeralLaws
 pub mod TimeLaws
+pub mod LengthLaws

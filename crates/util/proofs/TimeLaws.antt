@@ -21,7 +21,7 @@ pub displayTime-pieces : (ms : ℕ) → displayTime ms ≡ join ((64 ∷ 32 ∷ 
 unfolding displayTime threeDigits join
 displayTime-pieces ms = ap (λ (l : List ℕ). 64 ∷ 32 ∷ l) (append-assoc (decimal (ms / 1000)) (46 ∷ []) (threeDigits (ms % 1000)))
 
-length-displayTime : (ms : ℕ) → length (displayTime ms) ≡ length (decimal (ms / 1000)) + 6
+pub length-displayTime : (ms : ℕ) → length (displayTime ms) ≡ length (decimal (ms / 1000)) + 6
 unfolding join threeDigits
 length-displayTime ms =
     ap length (displayTime-pieces ms) ∙ omega (arith, length-append (decimal (ms / 1000)) (46 ∷ threeDigits (ms % 1000)))

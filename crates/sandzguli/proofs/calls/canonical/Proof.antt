@@ -1,14 +1,16 @@
 -- `sandzguli::calls::canonical` meets its contract: what the walk leaves is enough for the text, and each of the three ends has its law. Assumes nothing.
 use Prim.Native.Nat.{suc, _-_, _<_}
-use lib.ListN.{length}
+use mathlib.Core.Path.{sym, _∙_}
+use native.Mathlib.Nat.{zero-add}
 use denote.Ref.{now}
+use borrow.Author.Tests.{leb-true}
 use borrow.Author.Needs.{needs}
 use Rattle.text.specs.Display.{display}
 use Rattle.view.proofs.ViewLaws.{unmarked}
 use Rattle.checking.specs.Answers.{Accepts}
-use Rattle.ast.specs.Tables.{Tables, treeAt}
+use Rattle.ast.specs.Tables.{Tables}
 use Rattle.records.specs.Answers.{kindOf}
-use Rattle.sandzguli.proofs.RoomLaws.{accepted-some, tables-last, room-enough, room-short, room-fits}
+use Rattle.sandzguli.proofs.RoomLaws.{accepted-some, tables-last}
 use Rattle.sandzguli.proofs.DoesLaws.{does-refused, does-short, does-write}
 use Rattle.sandzguli.proofs.calls.canonical.Statement.{statement}
 use Rattle.sandzguli.proofs.calls.canonical.Tie as tie
@@ -37,20 +39,17 @@ walk-requires c κs = search needs
 enum-known-walked : tie.Need-enum-known-walked
 enum-known-walked c = search needs
 
-slice-aggregate-text-len : tie.Need-slice-aggregate-text-len
-slice-aggregate-text-len c = search needs
+slice-aggregate-text-fits : tie.Need-slice-aggregate-text-fits
+slice-aggregate-text-fits c = search needs
 
-slice-aggregate-text-len-2 : tie.Need-slice-aggregate-text-len-2
-slice-aggregate-text-len-2 c = search needs
+slice-aggregate-text-fits-2 : tie.Need-slice-aggregate-text-fits-2
+slice-aggregate-text-fits-2 c = search needs
 
-sub-text-len : tie.Need-sub-text-len
-sub-text-len c = some (c .before .before .before)
+sub-text-fits : tie.Need-sub-text-fits
+sub-text-fits c = some (c .before .before .before)
 
-add-text-len : tie.Need-add-text-len
-add-text-len c = search needs
-
-text-len-requires : tie.Need-text-len-requires
-text-len-requires c κs = (last (c .before .before .before), unmarked (now (c .before .before .before .before .before .before .before .before .before .before .before .before .args .page)) (c .before .before .before .walked .given .0 .1 .0 - 1))
+text-fits-requires : tie.Need-text-fits-requires
+text-fits-requires c κs = last (c .before .before .before)
 
 slice-aggregate-write-text : tie.Need-slice-aggregate-write-text
 slice-aggregate-write-text c = search needs
@@ -62,19 +61,19 @@ sub-write-text : tie.Need-sub-write-text
 sub-write-text c = some (c .before .before .before .before .before .before .before)
 
 write-text-requires : tie.Need-write-text-requires
-write-text-requires c κs = (last (c .before .before .before .before .before .before .before .before), (unmarked (now (c .before .before .before .before .before .before .before .before .before .before .before .before .before .before .before .before .before .args .page)) (c .before .before .before .before .before .before .before .before .walked .given .0 .1 .0 - 1), room-fits (length (display (treeAt (now (c .before .before .before .before .before .before .before .before .before .before .before .before .before .before .before .before .before .args .page)) (c .before .before .before .before .before .before .before .before .walked .given .0 .1 .0 - 1)))) (length (now (c .before .before .before .before .before .before .before .before .before .before .before .before .before .before .before .before .before .args .out))) (c .before .before .before .before .text-len .result) (c .before .before .before .before .text-len .ensures) (c .before .before .before .if1 .taken)))
+write-text-requires c κs = (last (c .before .before .before .before .before .before .before .before), (unmarked _ _, rw zero-add (leb-true _ _ (sym (c .before .before .before .before .text-fits .ensures) ∙ c .before .before .before .if1 .taken))))
 
 same-length : tie.Need-same-length
 same-length c = search needs
 
 returns : tie.Need-returns
-returns c = does-write display (known (c .before .before .before .before .before .before .before .before .before .before .before) .tree) (known (c .before .before .before .before .before .before .before .before .before .before .before) .kind) (room-enough (length (display (treeAt (now (c .before .before .before .before .before .before .before .before .before .before .before .before .before .before .before .before .before .before .before .before .args .page)) (c .before .before .before .before .before .before .before .before .before .before .before .walked .given .0 .1 .0 - 1)))) (length (now (c .before .before .before .before .before .before .before .before .before .before .before .before .before .before .before .before .before .before .before .before .args .out))) (c .before .before .before .before .before .before .before .text-len .result) (c .before .before .before .before .before .before .before .text-len .ensures) (c .before .before .before .before .before .before .if1 .taken)) (c .before .before .write-text .ensures)
+returns c = does-write display (known (c .before .before .before .before .before .before .before .before .before .before .before) .tree) (known (c .before .before .before .before .before .before .before .before .before .before .before) .kind) (sym (c .before .before .before .before .before .before .before .text-fits .ensures) ∙ c .before .before .before .before .before .before .if1 .taken) (c .before .before .write-text .ensures)
 
 enum-known-walked-2 : tie.Need-enum-known-walked-2
 enum-known-walked-2 c = search needs
 
 returns-2 : tie.Need-returns-2
-returns-2 c = does-short display (known (c .before .before .before .before .before) .tree) (room-short (length (display (treeAt (now (c .before .before .before .before .before .before .before .before .before .before .before .before .before .before .args .page)) (c .before .before .before .before .before .walked .given .0 .1 .0 - 1)))) (length (now (c .before .before .before .before .before .before .before .before .before .before .before .before .before .before .args .out))) (c .before .text-len .result) (c .before .text-len .ensures) (c .if1 .left))
+returns-2 c = does-short display (known (c .before .before .before .before .before) .tree) (sym (c .before .text-fits .ensures) ∙ c .if1 .left)
 
 returns-3 : tie.Need-returns-3
 returns-3 c = does-refused display (rw (c .before .walked2 .given .1) at (c .before .before .before .before .before .walk .ensures))
@@ -87,11 +86,10 @@ canonical-spec =
     slice-aggregate-walk-2
     walk-requires
     enum-known-walked
-    slice-aggregate-text-len
-    slice-aggregate-text-len-2
-    sub-text-len
-    add-text-len
-    text-len-requires
+    slice-aggregate-text-fits
+    slice-aggregate-text-fits-2
+    sub-text-fits
+    text-fits-requires
     slice-aggregate-write-text
     slice-aggregate-write-text-2
     sub-write-text

@@ -7,7 +7,7 @@ use borrow.Author.Needs.{needs}
 use Rattle.records.specs.Answers.{kindOf}
 use Rattle.checking.specs.Answers.{Accepts}
 use Rattle.copy.proofs.StartsLaws.{accepted-starts}
-use Rattle.copy.proofs.SpanLaws.{known-bytes}
+use Rattle.page.proofs.NumberLaws.{known-bytes}
 use Rattle.copy.specs.Starts.{Starts}
 use Rattle.copy.specs.Copy.{copyPage}
 use Rattle.sandzguli.proofs.DoesLaws.{does-refused, does-short, does-write}
