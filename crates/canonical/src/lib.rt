@@ -19,7 +19,7 @@ ghost use Rattle.ast.specs.Tables.{Tables, stackAt, treeAt};
 ghost use Rattle.text.specs.Display.{display};
 ghost use Rattle.text.specs.Layout.{front, between, rear, joined};
 ghost use Rattle.text.specs.Measured.{Measured};
-ghost use Rattle.view.specs.View.{layoutOn, OwnLies, Unvalued};
+ghost use Rattle.view.specs.View.{NodeAt, layoutAt, Unvalued};
 
 // The length of the text of the tree that record i ends, or `cap` where it is more.
 pub fn text_len(
@@ -37,23 +37,22 @@ pub fn text_len(
     if cap == 0 {
         return 0;
     }
-    let v = view::view_at(page, starts, i, unvalued);
-    let own = v.own;
-    let end = v.end;
-    let count = v.count;
-    let front = front_len(page, own, cap);
-    let gap = between_len(page, own, cap - front);
+    let node = view::view_at(page, starts, i, unvalued);
+    let end = node.base;
+    let count = node.count;
+    let front = front_len(page, starts, node, cap);
+    let gap = between_len(page, starts, node, cap - front);
     let inner = operands_len(
         page,
         starts,
         firsts,
         end,
         count,
-        view::is_minus(own),
+        view::is_minus(node),
         gap,
         cap - front,
     );
-    let rear = rear_len(page, own, cap - front - inner);
+    let rear = rear_len(page, starts, node, cap - front - inner);
     front + inner + rear
 }
 
@@ -115,14 +114,13 @@ pub fn write_text(
     requires { ⌜ at + length (display (treeAt (now page) i)) ≤ length (now out) ⌝ }
     ensures { λ r. ⌜ Wrote (now (out .entry)) (now (out .exit)) at (display (treeAt (now (page .entry)) i)) r ⌝ }
 {
-    let v = view::view_at(page, starts, i, unvalued);
-    let own = v.own;
-    let end = v.end;
-    let count = v.count;
-    let minus = view::is_minus(own);
-    let inner = put_front(page, own, out, at);
-    let behind = write_operands(page, starts, firsts, own, end, count, minus, out, inner);
-    put_rear(page, own, out, behind)
+    let node = view::view_at(page, starts, i, unvalued);
+    let end = node.base;
+    let count = node.count;
+    let minus = view::is_minus(node);
+    let inner = put_front(page, starts, node, out, at);
+    let behind = write_operands(page, starts, firsts, node, end, count, minus, out, inner);
+    put_rear(page, starts, node, out, behind)
 }
 
 // Writes the texts of the newest expressions behind the first `end` records, `count` of them, with what the node writes between each
@@ -131,7 +129,7 @@ fn write_operands(
     page: &[u8],
     starts: &[u16],
     firsts: &[u8],
-    own: view::Own,
+    node: view::Node,
     end: usize,
     count: usize,
     unvalued: bool,
@@ -139,11 +137,11 @@ fn write_operands(
     at: usize,
 ) -> usize
     requires { ⌜ Tables (now page) (now starts) (now firsts) end ⌝ }
-    requires { ⌜ OwnLies (now page) own ⌝ }
+    requires { ⌜ NodeAt (now page) (now starts) node ⌝ }
     requires { ⌜ count ≤ length (stackAt (now page) end) ⌝ }
     requires { ⌜ Unvalued (now page) (end - 1) unvalued ⌝ }
-    requires { ⌜ at + length (joined (between (layoutOn (now page) own)) display display (operandsOf count (stackAt (now page) end))) ≤ length (now out) ⌝ }
-    ensures { λ r. ⌜ Wrote (now (out .entry)) (now (out .exit)) at (joined (between (layoutOn (now (page .entry)) own)) display display (operandsOf count (stackAt (now (page .entry)) end))) r ⌝ }
+    requires { ⌜ at + length (joined (between (layoutAt (now page) node)) display display (operandsOf count (stackAt (now page) end))) ≤ length (now out) ⌝ }
+    ensures { λ r. ⌜ Wrote (now (out .entry)) (now (out .exit)) at (joined (between (layoutAt (now (page .entry)) node)) display display (operandsOf count (stackAt (now (page .entry)) end))) r ⌝ }
 {
     if count == 0 {
         return at;
@@ -153,7 +151,7 @@ fn write_operands(
         return write_text(page, starts, firsts, root, unvalued, out, at);
     }
     let first = firsts[root] as usize;
-    let gap = write_operands(page, starts, firsts, own, first, count - 1, false, out, at);
-    let next = put_between(page, own, out, gap);
+    let gap = write_operands(page, starts, firsts, node, first, count - 1, false, out, at);
+    let next = put_between(page, starts, node, out, gap);
     write_text(page, starts, firsts, root, unvalued, out, next)
 }

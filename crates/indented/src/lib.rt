@@ -7,7 +7,7 @@ use pieces::put_operator;
 use pieces::put_suffix;
 use pieces::suffix_len;
 use view::Form;
-use view::Own;
+use view::Node;
 ghost use mathlib.Core.Path.{_≡_};
 ghost use mathlib.Core.List.{_++_};
 ghost use Prim.Native.Nat.{_+_, _≤_, min};
@@ -15,7 +15,7 @@ ghost use lib.ListN.{length};
 ghost use Rattle.base.specs.Splice.{Wrote};
 ghost use Rattle.text.specs.Pretty.{indent};
 ghost use Rattle.text.specs.Layout.{head, indentIf, frontAt, betweenAt, rearAt};
-ghost use Rattle.view.specs.View.{layoutOn, OwnLies};
+ghost use Rattle.view.specs.View.{NodeAt, layoutAt};
 
 pub fn indent_len(mark: bool, level: usize, cap: usize) -> usize
     requires { ⌜ level ≤ 256 ⌝ }
@@ -50,64 +50,64 @@ pub fn put_indent(mark: bool, level: usize, out: &mut [u8], at: usize) -> usize
 }
 
 // The indentation and the head.
-fn led_len(page: &[u8], own: Own, mark: bool, level: usize, cap: usize) -> usize
-    requires { ⌜ OwnLies (now page) own ⌝ }
+fn led_len(page: &[u8], starts: &[u16], node: Node, mark: bool, level: usize, cap: usize) -> usize
+    requires { ⌜ NodeAt (now page) (now starts) node ⌝ }
     requires { ⌜ level ≤ 256 ⌝ }
-    ensures { λ r. ⌜ r ≡ min (length (indentIf mark level ++ head (layoutOn (now (page .entry)) own))) cap ⌝ }
+    ensures { λ r. ⌜ r ≡ min (length (indentIf mark level ++ head (layoutAt (now (page .entry)) node))) cap ⌝ }
 {
     let lead = indent_len(mark, level, cap);
-    lead + head_len(page, own, cap - lead)
+    lead + head_len(page, starts, node, cap - lead)
 }
 
-fn put_led(page: &[u8], own: Own, mark: bool, level: usize, out: &mut [u8], at: usize) -> usize
-    requires { ⌜ OwnLies (now page) own ⌝ }
-    requires { ⌜ at + length (indentIf mark level ++ head (layoutOn (now page) own)) ≤ length (now out) ⌝ }
-    ensures { λ r. ⌜ Wrote (now (out .entry)) (now (out .exit)) at (indentIf mark level ++ head (layoutOn (now (page .entry)) own)) r ⌝ }
+fn put_led(page: &[u8], starts: &[u16], node: Node, mark: bool, level: usize, out: &mut [u8], at: usize) -> usize
+    requires { ⌜ NodeAt (now page) (now starts) node ⌝ }
+    requires { ⌜ at + length (indentIf mark level ++ head (layoutAt (now page) node)) ≤ length (now out) ⌝ }
+    ensures { λ r. ⌜ Wrote (now (out .entry)) (now (out .exit)) at (indentIf mark level ++ head (layoutAt (now (page .entry)) node)) r ⌝ }
 {
     let next = put_indent(mark, level, out, at);
-    put_head(page, own, out, next)
+    put_head(page, starts, node, out, next)
 }
 
-pub fn front_at_len(page: &[u8], own: Own, mark: bool, level: usize, cap: usize) -> usize
-    requires { ⌜ OwnLies (now page) own ⌝ }
+pub fn front_at_len(page: &[u8], starts: &[u16], node: Node, mark: bool, level: usize, cap: usize) -> usize
+    requires { ⌜ NodeAt (now page) (now starts) node ⌝ }
     requires { ⌜ level ≤ 256 ⌝ }
-    ensures { λ r. ⌜ r ≡ min (length (frontAt mark level (layoutOn (now (page .entry)) own))) cap ⌝ }
+    ensures { λ r. ⌜ r ≡ min (length (frontAt mark level (layoutAt (now (page .entry)) node))) cap ⌝ }
 {
-    match view::form_of(own) {
-        Form::Whole => led_len(page, own, mark, level, cap),
-        Form::Minus => led_len(page, own, mark, level, cap),
+    match view::form_of(node) {
+        Form::Whole => led_len(page, starts, node, mark, level, cap),
+        Form::Minus => led_len(page, starts, node, mark, level, cap),
         Form::Suffixed => 0,
-        Form::Enclosed => util::capped_add(led_len(page, own, mark, level, cap), 2, cap),
+        Form::Enclosed => util::capped_add(led_len(page, starts, node, mark, level, cap), 2, cap),
         Form::Infixed => 0,
     }
 }
 
-pub fn between_at_len(page: &[u8], own: Own, level: usize, cap: usize) -> usize
-    requires { ⌜ OwnLies (now page) own ⌝ }
+pub fn between_at_len(page: &[u8], starts: &[u16], node: Node, level: usize, cap: usize) -> usize
+    requires { ⌜ NodeAt (now page) (now starts) node ⌝ }
     requires { ⌜ level ≤ 256 ⌝ }
-    ensures { λ r. ⌜ r ≡ min (length (betweenAt level (layoutOn (now (page .entry)) own))) cap ⌝ }
+    ensures { λ r. ⌜ r ≡ min (length (betweenAt level (layoutAt (now (page .entry)) node))) cap ⌝ }
 {
-    match view::form_of(own) {
+    match view::form_of(node) {
         Form::Whole => 0,
         Form::Minus => 0,
         Form::Suffixed => 0,
         Form::Enclosed => util::capped_add(0, 2, cap),
         Form::Infixed => {
             let lead = indent_len(true, level, cap);
-            util::capped_add(lead + operator_len(page, own, cap - lead), 2, cap)
+            util::capped_add(lead + operator_len(page, starts, node, cap - lead), 2, cap)
         }
     }
 }
 
-pub fn rear_at_len(page: &[u8], own: Own, level: usize, cap: usize) -> usize
-    requires { ⌜ OwnLies (now page) own ⌝ }
+pub fn rear_at_len(page: &[u8], starts: &[u16], node: Node, level: usize, cap: usize) -> usize
+    requires { ⌜ NodeAt (now page) (now starts) node ⌝ }
     requires { ⌜ level ≤ 256 ⌝ }
-    ensures { λ r. ⌜ r ≡ min (length (rearAt level (layoutOn (now (page .entry)) own))) cap ⌝ }
+    ensures { λ r. ⌜ r ≡ min (length (rearAt level (layoutAt (now (page .entry)) node))) cap ⌝ }
 {
-    match view::form_of(own) {
+    match view::form_of(node) {
         Form::Whole => 0,
         Form::Minus => 0,
-        Form::Suffixed => suffix_len(page, own, cap),
+        Form::Suffixed => suffix_len(page, starts, node, cap),
         Form::Enclosed => util::capped_add(indent_len(true, level, cap), 2, cap),
         Form::Infixed => 0,
     }
@@ -115,34 +115,35 @@ pub fn rear_at_len(page: &[u8], own: Own, level: usize, cap: usize) -> usize
 
 pub fn put_front_at(
     page: &[u8],
-    own: Own,
+    starts: &[u16],
+    node: Node,
     mark: bool,
     level: usize,
     out: &mut [u8],
     at: usize,
 ) -> usize
-    requires { ⌜ OwnLies (now page) own ⌝ }
-    requires { ⌜ at + length (frontAt mark level (layoutOn (now page) own)) ≤ length (now out) ⌝ }
-    ensures { λ r. ⌜ Wrote (now (out .entry)) (now (out .exit)) at (frontAt mark level (layoutOn (now (page .entry)) own)) r ⌝ }
+    requires { ⌜ NodeAt (now page) (now starts) node ⌝ }
+    requires { ⌜ at + length (frontAt mark level (layoutAt (now page) node)) ≤ length (now out) ⌝ }
+    ensures { λ r. ⌜ Wrote (now (out .entry)) (now (out .exit)) at (frontAt mark level (layoutAt (now (page .entry)) node)) r ⌝ }
 {
-    match view::form_of(own) {
-        Form::Whole => put_led(page, own, mark, level, out, at),
-        Form::Minus => put_led(page, own, mark, level, out, at),
+    match view::form_of(node) {
+        Form::Whole => put_led(page, starts, node, mark, level, out, at),
+        Form::Minus => put_led(page, starts, node, mark, level, out, at),
         Form::Suffixed => at,
         Form::Enclosed => {
-            let next = put_led(page, own, mark, level, out, at);
+            let next = put_led(page, starts, node, mark, level, out, at);
             page::put_bytes(b"(\n", out, next)
         }
         Form::Infixed => at,
     }
 }
 
-pub fn put_between_at(page: &[u8], own: Own, level: usize, out: &mut [u8], at: usize) -> usize
-    requires { ⌜ OwnLies (now page) own ⌝ }
-    requires { ⌜ at + length (betweenAt level (layoutOn (now page) own)) ≤ length (now out) ⌝ }
-    ensures { λ r. ⌜ Wrote (now (out .entry)) (now (out .exit)) at (betweenAt level (layoutOn (now (page .entry)) own)) r ⌝ }
+pub fn put_between_at(page: &[u8], starts: &[u16], node: Node, level: usize, out: &mut [u8], at: usize) -> usize
+    requires { ⌜ NodeAt (now page) (now starts) node ⌝ }
+    requires { ⌜ at + length (betweenAt level (layoutAt (now page) node)) ≤ length (now out) ⌝ }
+    ensures { λ r. ⌜ Wrote (now (out .entry)) (now (out .exit)) at (betweenAt level (layoutAt (now (page .entry)) node)) r ⌝ }
 {
-    match view::form_of(own) {
+    match view::form_of(node) {
         Form::Whole => at,
         Form::Minus => at,
         Form::Suffixed => at,
@@ -150,21 +151,21 @@ pub fn put_between_at(page: &[u8], own: Own, level: usize, out: &mut [u8], at: u
         Form::Infixed => {
             let lead = page::put_byte(b'\n', out, at);
             let word = put_spaces(level, out, lead);
-            let behind = put_operator(page, own, out, word);
+            let behind = put_operator(page, starts, node, out, word);
             page::put_byte(b'\n', out, behind)
         }
     }
 }
 
-pub fn put_rear_at(page: &[u8], own: Own, level: usize, out: &mut [u8], at: usize) -> usize
-    requires { ⌜ OwnLies (now page) own ⌝ }
-    requires { ⌜ at + length (rearAt level (layoutOn (now page) own)) ≤ length (now out) ⌝ }
-    ensures { λ r. ⌜ Wrote (now (out .entry)) (now (out .exit)) at (rearAt level (layoutOn (now (page .entry)) own)) r ⌝ }
+pub fn put_rear_at(page: &[u8], starts: &[u16], node: Node, level: usize, out: &mut [u8], at: usize) -> usize
+    requires { ⌜ NodeAt (now page) (now starts) node ⌝ }
+    requires { ⌜ at + length (rearAt level (layoutAt (now page) node)) ≤ length (now out) ⌝ }
+    ensures { λ r. ⌜ Wrote (now (out .entry)) (now (out .exit)) at (rearAt level (layoutAt (now (page .entry)) node)) r ⌝ }
 {
-    match view::form_of(own) {
+    match view::form_of(node) {
         Form::Whole => at,
         Form::Minus => at,
-        Form::Suffixed => put_suffix(page, own, out, at),
+        Form::Suffixed => put_suffix(page, starts, node, out, at),
         Form::Enclosed => {
             let lead = page::put_byte(b'\n', out, at);
             let last = put_spaces(level, out, lead);

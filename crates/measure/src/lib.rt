@@ -51,16 +51,15 @@ fn measure(
     ensures { λ r. ⌜ r ≡ min (length (display (treeAt (now (page .entry)) i))) 101 ⌝ }
     ensures { λ r. ⌜ Known (now (page .entry)) (now (widths .exit)) ⌝ }
 {
-    let v = view::view_at(page, starts, i, unvalued);
-    let own = v.own;
-    let end = v.end;
-    let count = v.count;
-    let front = front_len(page, own, 101);
+    let node = view::view_at(page, starts, i, unvalued);
+    let end = node.base;
+    let count = node.count;
+    let front = front_len(page, starts, node, 101);
     let left = 101 - front;
-    let gap = between_len(page, own, left);
-    let minus = view::is_minus(own);
+    let gap = between_len(page, starts, node, left);
+    let minus = view::is_minus(node);
     let inner = measure_operands(page, starts, firsts, end, count, minus, gap, left, widths);
-    let rear = rear_len(page, own, left - inner);
+    let rear = rear_len(page, starts, node, left - inner);
     let width = front + inner + rear;
     widths[i] = width as u8;
     width

@@ -1,19 +1,11 @@
 -- Lengths and runs of texts that stand one behind the other.
 use Prim.Native.Nat.{ℕ, _+_, _≤_, min}
 use native.Mathlib.Omega.{arith}
-use mathlib.Core.Path.{_≡_, refl}
+use mathlib.Core.Path.{_≡_}
 use mathlib.Core.List.{List, [], _∷_, _++_, append-assoc, append-nil}
 use lib.ListN.{length, length-append}
 use Rattle.base.specs.Splice.{Run, start, join}
 use Rattle.page.specs.Bytes.{bytes}
-use Rattle.text.specs.Layout.{operator, suffix}
-use Rattle.view.specs.View.{layoutOn}
-use Rattle.view.specs.declared.Own.{Own}
-use Rattle.view.specs.declared.Own.the-variants as own
-use Rattle.view.proofs.Own.{the-type}
-use denote.Enum.Declared.{tagOf}
-use types.Run.{OneOf, miss}
-use Prim.{tt}
 
 pub sum-three : (a b c : List ℕ) (cap x y z r : ℕ) → x ≡ min (length a) cap → y ≡ length b → z ≡ length c → r ≡ min (x + (y + z)) cap → r ≡ min (length (a ++ (b ++ c))) cap
 sum-three a b c cap x y z r p q s e = omega (arith, length-append a (b ++ c), length-append b c)
@@ -38,29 +30,3 @@ six a b c d e f = simp (append-assoc, append-nil)
 pub run-suffix : (d s t : List ℕ) (o : List ℕ) (at : ℕ) → at + length (bytes "[" ++ d ++ bytes ":" ++ s ++ bytes "]" ++ t) ≤ length o
     → Run o o at (bytes "[" ++ d ++ bytes ":" ++ s ++ bytes "]" ++ t) (bytes "[" ∷ d ∷ bytes ":" ∷ s ∷ bytes "]" ∷ t ∷ []) at
 run-suffix d s t o at h = start h (six (bytes "[") d (bytes ":") s (bytes "]") t)
-
--- ## Nodes that have no operator and no suffix
-
--- only a binary node has an operator
-pub no-operator : (page : List ℕ) (o : Own) → OneOf (0 ∷ 1 ∷ 2 ∷ 3 ∷ 4 ∷ 5 ∷ 7 ∷ 8 ∷ []) (tagOf the-type o) → operator (layoutOn page o) ≡ []
-no-operator page (own.Number l) k = refl
-no-operator page (own.String s) k = refl
-no-operator page (own.Selector s p) k = refl
-no-operator page (own.Subquery n s p) k = refl
-no-operator page own.Unary k = refl
-no-operator page own.Paren k = refl
-no-operator page (own.Binary c m) k = absurd (miss (0 ∷ 1 ∷ 2 ∷ 3 ∷ 4 ∷ 5 ∷ 7 ∷ 8 ∷ []) 6 tt k)
-no-operator page (own.Aggregate c m) k = refl
-no-operator page (own.Call f) k = refl
-
--- only a subquery has a suffix
-pub no-suffix : (page : List ℕ) (o : Own) → OneOf (0 ∷ 1 ∷ 2 ∷ 4 ∷ 5 ∷ 6 ∷ 7 ∷ 8 ∷ []) (tagOf the-type o) → suffix (layoutOn page o) ≡ []
-no-suffix page (own.Number l) k = refl
-no-suffix page (own.String s) k = refl
-no-suffix page (own.Selector s p) k = refl
-no-suffix page (own.Subquery n s p) k = absurd (miss (0 ∷ 1 ∷ 2 ∷ 4 ∷ 5 ∷ 6 ∷ 7 ∷ 8 ∷ []) 3 tt k)
-no-suffix page own.Unary k = refl
-no-suffix page own.Paren k = refl
-no-suffix page (own.Binary c m) k = refl
-no-suffix page (own.Aggregate c m) k = refl
-no-suffix page (own.Call f) k = refl

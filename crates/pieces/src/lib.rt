@@ -1,15 +1,26 @@
 // What a node has of its own, as text: a leaf's text or what stands before a bracket, an operator, a suffix.
 // Each has a length up to a cap and a writer.
+pub mod fields;
+pub mod parts;
 pub mod times;
 
+use fields::aggregator_of;
+use fields::function_of;
+use fields::literal_of;
+use fields::operator_of;
+use fields::selector_of;
+use fields::spacing_of;
+use fields::string_of;
+use parts::Parts;
+use parts::parts_of;
 use times::put_range;
 use times::put_subquery;
 use times::put_times;
 use times::range_len;
 use times::subquery_len;
 use times::times_len;
-use view::Own;
-use view::Parts;
+use view::Foot;
+use view::Node;
 ghost use mathlib.Core.Path.{_≡_};
 ghost use mathlib.Core.List.{_++_};
 ghost use Prim.Native.Nat.{_+_, _≤_, min};
@@ -20,7 +31,8 @@ ghost use Rattle.reader.specs.Answers.{selectorOn};
 ghost use Rattle.text.specs.Display.{displaySelector, displayTimes};
 ghost use Rattle.text.specs.Layout.{displayRange, head, operator, suffix};
 ghost use Rattle.text.specs.Answers.{timesOf};
-ghost use Rattle.view.specs.View.{SelectorLies, layoutOn, OwnLies};
+ghost use Rattle.view.specs.View.{NodeAt, layoutAt};
+ghost use Rattle.pieces.specs.Parts.{SelectorLies};
 
 // A selector with its range, @ and offset.
 fn selector_len(page: &[u8], selector: reader::Selector, parts: Parts, cap: usize) -> usize
@@ -52,90 +64,125 @@ fn put_selector(
 }
 
 // A leaf's whole text, a minus, or what stands before the bracket.
-pub fn head_len(page: &[u8], own: Own, cap: usize) -> usize
-    requires { ⌜ OwnLies (now page) own ⌝ }
-    ensures { λ r. ⌜ r ≡ min (length (head (layoutOn (now (page .entry)) own))) cap ⌝ }
+pub fn head_len(page: &[u8], starts: &[u16], node: Node, cap: usize) -> usize
+    requires { ⌜ NodeAt (now page) (now starts) node ⌝ }
+    ensures { λ r. ⌜ r ≡ min (length (head (layoutAt (now (page .entry)) node))) cap ⌝ }
 {
-    match own {
-        Own::Number(l) => util::capped_add(util::numeral_len(l), 0, cap),
-        Own::String(s) => util::quoted_len(page::text_at(page, s), cap),
-        Own::Selector(s, p) => selector_len(page, s, p, cap),
-        Own::Subquery(_, _, _) => 0,
-        Own::Unary => util::capped_add(1, 0, cap),
-        Own::Paren => 0,
-        Own::Binary(_, _) => 0,
-        Own::Aggregate(c, m) => heads::aggregator_len(page, c, m, cap),
-        Own::Call(f) => {
-            let name = f.name;
-            let text = page::text_at(page, name);
-            util::capped_add(text.len(), 0, cap)
+    let foot = node.foot;
+    match foot {
+        Foot::Number => util::capped_add(util::numeral_len(literal_of(page, starts, node)), 0, cap),
+        Foot::String => {
+            let text = page::text_at(page, string_of(page, starts, node));
+            util::quoted_len(text, cap)
+        }
+        Foot::Selector => {
+            let selector = selector_of(page, starts, node);
+            selector_len(page, selector, parts_of(page, starts, node), cap)
+        }
+        Foot::Subquery => 0,
+        Foot::Unary => util::capped_add(1, 0, cap),
+        Foot::Paren => 0,
+        Foot::Binary => 0,
+        Foot::Aggregate => {
+            let own = aggregator_of(page, starts, node);
+            let grouping = own.grouping;
+            heads::aggregator_len(page, own.code, grouping, cap)
+        }
+        Foot::Call => {
+            let name = page::text_at(page, function_of(page, starts, node));
+            util::capped_add(name.len(), 0, cap)
         }
     }
 }
 
-pub fn put_head(page: &[u8], own: Own, out: &mut [u8], at: usize) -> usize
-    requires { ⌜ OwnLies (now page) own ⌝ }
-    requires { ⌜ at + length (head (layoutOn (now page) own)) ≤ length (now out) ⌝ }
-    ensures { λ r. ⌜ Wrote (now (out .entry)) (now (out .exit)) at (head (layoutOn (now (page .entry)) own)) r ⌝ }
+pub fn put_head(page: &[u8], starts: &[u16], node: Node, out: &mut [u8], at: usize) -> usize
+    requires { ⌜ NodeAt (now page) (now starts) node ⌝ }
+    requires { ⌜ at + length (head (layoutAt (now page) node)) ≤ length (now out) ⌝ }
+    ensures { λ r. ⌜ Wrote (now (out .entry)) (now (out .exit)) at (head (layoutAt (now (page .entry)) node)) r ⌝ }
 {
-    match own {
-        Own::Number(l) => util::put_literal(l, out, at),
-        Own::String(s) => util::put_quoted(page::text_at(page, s), out, at),
-        Own::Selector(s, p) => put_selector(page, s, p, out, at),
-        Own::Subquery(_, _, _) => at,
-        Own::Unary => page::put_byte(b'-', out, at),
-        Own::Paren => at,
-        Own::Binary(_, _) => at,
-        Own::Aggregate(c, m) => heads::put_aggregator(page, c, m, out, at),
-        Own::Call(f) => {
-            let name = f.name;
-            page::put_bytes(page::text_at(page, name), out, at)
+    let foot = node.foot;
+    match foot {
+        Foot::Number => util::put_literal(literal_of(page, starts, node), out, at),
+        Foot::String => {
+            let text = page::text_at(page, string_of(page, starts, node));
+            util::put_quoted(text, out, at)
+        }
+        Foot::Selector => {
+            let selector = selector_of(page, starts, node);
+            put_selector(page, selector, parts_of(page, starts, node), out, at)
+        }
+        Foot::Subquery => at,
+        Foot::Unary => page::put_byte(b'-', out, at),
+        Foot::Paren => at,
+        Foot::Binary => at,
+        Foot::Aggregate => {
+            let own = aggregator_of(page, starts, node);
+            let grouping = own.grouping;
+            heads::put_aggregator(page, own.code, grouping, out, at)
+        }
+        Foot::Call => {
+            let name = page::text_at(page, function_of(page, starts, node));
+            page::put_bytes(name, out, at)
         }
     }
 }
 
 // A binary operator with its modifier.
-pub fn operator_len(page: &[u8], own: Own, cap: usize) -> usize
-    requires { ⌜ OwnLies (now page) own ⌝ }
-    ensures { λ r. ⌜ r ≡ min (length (operator (layoutOn (now (page .entry)) own))) cap ⌝ }
+pub fn operator_len(page: &[u8], starts: &[u16], node: Node, cap: usize) -> usize
+    requires { ⌜ NodeAt (now page) (now starts) node ⌝ }
+    ensures { λ r. ⌜ r ≡ min (length (operator (layoutAt (now (page .entry)) node))) cap ⌝ }
 {
-    let Own::Binary(code, modifier) = own else {
+    let foot = node.foot;
+    let Foot::Binary = foot else {
         return 0;
     };
-    heads::operator_len(page, code, modifier, cap)
+    let own = operator_of(page, starts, node);
+    let modifier = own.modifier;
+    heads::operator_len(page, own.code, modifier, cap)
 }
 
-pub fn put_operator(page: &[u8], own: Own, out: &mut [u8], at: usize) -> usize
-    requires { ⌜ OwnLies (now page) own ⌝ }
-    requires { ⌜ at + length (operator (layoutOn (now page) own)) ≤ length (now out) ⌝ }
-    ensures { λ r. ⌜ Wrote (now (out .entry)) (now (out .exit)) at (operator (layoutOn (now (page .entry)) own)) r ⌝ }
+pub fn put_operator(page: &[u8], starts: &[u16], node: Node, out: &mut [u8], at: usize) -> usize
+    requires { ⌜ NodeAt (now page) (now starts) node ⌝ }
+    requires { ⌜ at + length (operator (layoutAt (now page) node)) ≤ length (now out) ⌝ }
+    ensures { λ r. ⌜ Wrote (now (out .entry)) (now (out .exit)) at (operator (layoutAt (now (page .entry)) node)) r ⌝ }
 {
-    let Own::Binary(code, modifier) = own else {
+    let foot = node.foot;
+    let Foot::Binary = foot else {
         return at;
     };
-    heads::put_operator(page, code, modifier, out, at)
+    let own = operator_of(page, starts, node);
+    let modifier = own.modifier;
+    heads::put_operator(page, own.code, modifier, out, at)
 }
 
 // What stands behind a subquery's operand.
-pub fn suffix_len(page: &[u8], own: Own, cap: usize) -> usize
-    requires { ⌜ OwnLies (now page) own ⌝ }
-    ensures { λ r. ⌜ r ≡ min (length (suffix (layoutOn (now (page .entry)) own))) cap ⌝ }
+pub fn suffix_len(page: &[u8], starts: &[u16], node: Node, cap: usize) -> usize
+    requires { ⌜ NodeAt (now page) (now starts) node ⌝ }
+    ensures { λ r. ⌜ r ≡ min (length (suffix (layoutAt (now (page .entry)) node))) cap ⌝ }
 {
-    let Own::Subquery(range, step, parts) = own else {
+    let foot = node.foot;
+    let Foot::Subquery = foot else {
         return 0;
     };
+    let own = spacing_of(page, starts, node);
+    let step = own.step;
+    let parts = parts_of(page, starts, node);
     let times = parts.times;
-    util::capped_add(subquery_len(range, step, times), 0, cap)
+    util::capped_add(subquery_len(own.range, step, times), 0, cap)
 }
 
-pub fn put_suffix(page: &[u8], own: Own, out: &mut [u8], at: usize) -> usize
-    requires { ⌜ OwnLies (now page) own ⌝ }
-    requires { ⌜ at + length (suffix (layoutOn (now page) own)) ≤ length (now out) ⌝ }
-    ensures { λ r. ⌜ Wrote (now (out .entry)) (now (out .exit)) at (suffix (layoutOn (now (page .entry)) own)) r ⌝ }
+pub fn put_suffix(page: &[u8], starts: &[u16], node: Node, out: &mut [u8], at: usize) -> usize
+    requires { ⌜ NodeAt (now page) (now starts) node ⌝ }
+    requires { ⌜ at + length (suffix (layoutAt (now page) node)) ≤ length (now out) ⌝ }
+    ensures { λ r. ⌜ Wrote (now (out .entry)) (now (out .exit)) at (suffix (layoutAt (now (page .entry)) node)) r ⌝ }
 {
-    let Own::Subquery(range, step, parts) = own else {
+    let foot = node.foot;
+    let Foot::Subquery = foot else {
         return at;
     };
+    let own = spacing_of(page, starts, node);
+    let step = own.step;
+    let parts = parts_of(page, starts, node);
     let times = parts.times;
-    put_subquery(range, step, times, out, at)
+    put_subquery(own.range, step, times, out, at)
 }

@@ -1,5 +1,6 @@
 // The forms of nodes' texts, and which of them is a minus.
-use crate::Own;
+use crate::Foot;
+use crate::Node;
 ghost use mathlib.Core.Path.{_≡_};
 ghost use Rattle.view.specs.View.{isMinus, formOf};
 
@@ -13,35 +14,37 @@ pub enum Form {
     Infixed,
 }
 
-pub fn form_of(own: Own) -> Form
-    ensures { λ r. ⌜ r ≡ formOf own ⌝ }
+pub fn form_of(node: Node) -> Form
+    ensures { λ r. ⌜ r ≡ formOf (node .foot) ⌝ }
 {
-    match own {
-        Own::Number(_) => Form::Whole,
-        Own::String(_) => Form::Whole,
-        Own::Selector(_, _) => Form::Whole,
-        Own::Subquery(_, _, _) => Form::Suffixed,
-        Own::Unary => Form::Minus,
-        Own::Paren => Form::Enclosed,
-        Own::Binary(_, _) => Form::Infixed,
-        Own::Aggregate(_, _) => Form::Enclosed,
-        Own::Call(_) => Form::Enclosed,
+    let foot = node.foot;
+    match foot {
+        Foot::Number => Form::Whole,
+        Foot::String => Form::Whole,
+        Foot::Selector => Form::Whole,
+        Foot::Subquery => Form::Suffixed,
+        Foot::Unary => Form::Minus,
+        Foot::Paren => Form::Enclosed,
+        Foot::Binary => Form::Infixed,
+        Foot::Aggregate => Form::Enclosed,
+        Foot::Call => Form::Enclosed,
     }
 }
 
 // Whether the node is a minus before its operand.
-pub fn is_minus(own: Own) -> bool
-    ensures { λ r. ⌜ r ≡ isMinus own ⌝ }
+pub fn is_minus(node: Node) -> bool
+    ensures { λ r. ⌜ r ≡ isMinus (node .foot) ⌝ }
 {
-    match own {
-        Own::Number(_) => false,
-        Own::String(_) => false,
-        Own::Selector(_, _) => false,
-        Own::Subquery(_, _, _) => false,
-        Own::Unary => true,
-        Own::Paren => false,
-        Own::Binary(_, _) => false,
-        Own::Aggregate(_, _) => false,
-        Own::Call(_) => false,
+    let foot = node.foot;
+    match foot {
+        Foot::Number => false,
+        Foot::String => false,
+        Foot::Selector => false,
+        Foot::Subquery => false,
+        Foot::Unary => true,
+        Foot::Paren => false,
+        Foot::Binary => false,
+        Foot::Aggregate => false,
+        Foot::Call => false,
     }
 }

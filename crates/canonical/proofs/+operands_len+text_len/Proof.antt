@@ -110,13 +110,13 @@ text-len-view-at-requires : (t : ℕ) → text-len-lts.Need-view-at-requires (te
 text-len-view-at-requires t c κs = (starts-of (c .before .before .before .before .pre .1 .0), c .before .before .before .before .pre .1 .1)
 
 text-len-front-len-requires : (t : ℕ) → text-len-lts.Need-front-len-requires (text-len-claims t) (text-len-at t) text-len.Post
-text-len-front-len-requires t c κs = c .view-at .ensures .lies
+text-len-front-len-requires t c κs = c .view-at .ensures .stands
 
 text-len-sub-between-len : (t : ℕ) → text-len-lts.Need-sub-between-len (text-len-claims t) (text-len-at t) text-len.Post
 text-len-sub-between-len t c = omega (arith, c .front-len .ensures)
 
 text-len-between-len-requires : (t : ℕ) → text-len-lts.Need-between-len-requires (text-len-claims t) (text-len-at t) text-len.Post
-text-len-between-len-requires t c κs = c .before .view-at .ensures .lies
+text-len-between-len-requires t c κs = c .before .view-at .ensures .stands
 
 text-len-is-minus-requires : (t : ℕ) → text-len-lts.Need-is-minus-requires (text-len-claims t) (text-len-at t) text-len.Post
 text-len-is-minus-requires t c κs = search needs
@@ -136,7 +136,7 @@ text-len-sub-rear-len-2 : (t : ℕ) → text-len-lts.Need-sub-rear-len-2 (text-l
 text-len-sub-rear-len-2 t c = omega (arith, c .before .before .before .front-len .ensures, c .operands-len .ensures .bound)
 
 text-len-rear-len-requires : (t : ℕ) → text-len-lts.Need-rear-len-requires (text-len-claims t) (text-len-at t) text-len.Post
-text-len-rear-len-requires t c κs = c .before .before .before .before .view-at .ensures .lies
+text-len-rear-len-requires t c κs = c .before .before .before .before .view-at .ensures .stands
 
 text-len-add-result : (t : ℕ) → text-len-lts.Need-add-result (text-len-claims t) (text-len-at t) text-len.Post
 text-len-add-result t c = omega (arith, c .before .before .before .before .front-len .ensures, c .before .operands-len .ensures .bound)

@@ -8,7 +8,7 @@ use Rattle.text.specs.Display.{display}
 use Rattle.view.proofs.NodeLaws.{minus-unvalued}
 use Rattle.text.proofs.OperandLaws.{fewer}
 use Rattle.base.specs.Splice.{fits, next, end}
-use Rattle.view.specs.View.{layoutOn}
+use Rattle.view.specs.View.{layoutAt}
 use Rattle.text.specs.Layout.{between}
 use lib.ListN.{length}
 use Prim.Native.Nat.{_+_, _-_}
@@ -77,7 +77,7 @@ write-operands-sub-root t c = last-operand (c .before .before .before .before .b
 write-operands-write-text-requires : (t : ℕ) → write-operands-lts.Need-write-text-requires (write-operands-claims t) (write-operands-at t) write-operands.Post
 write-operands-write-text-requires t c κs =
     let w = last-operand (c .before .before .before .before .before .before .before .pre .1 .0) _ (c .before .before .before .before .before .before .before .pre .1 .1 .1 .0) (c .before .before .if1 .left) in
-    (omega (arith, w .some, c .before .before .before .before .before .before .before .pre .0), (fewer (c .before .before .before .before .before .before .before .pre .1 .0) (omega (arith, w .some)), (c .before .before .before .before .before .before .before .pre .1 .1 .1 .1 .0, omega (arith, ap length (text-one display display (c .before .before .before .before .before .before .before .pre .1 .0) _ (c .before .before .before .before .before .before .before .pre .1 .1 .1 .0) (between (layoutOn (c .before .before .before .before .before .before .before .args .page .now) (c .before .before .before .before .before .before .before .args .own))) (c .before .if2 .taken)), c .before .before .before .before .before .before .before .pre .1 .1 .1 .1 .1))))
+    (omega (arith, w .some, c .before .before .before .before .before .before .before .pre .0), (fewer (c .before .before .before .before .before .before .before .pre .1 .0) (omega (arith, w .some)), (c .before .before .before .before .before .before .before .pre .1 .1 .1 .1 .0, omega (arith, ap length (text-one display display (c .before .before .before .before .before .before .before .pre .1 .0) _ (c .before .before .before .before .before .before .before .pre .1 .1 .1 .0) (between (layoutAt (c .before .before .before .before .before .before .before .args .page .now) (c .before .before .before .before .before .before .before .args .node))) (c .before .if2 .taken)), c .before .before .before .before .before .before .before .pre .1 .1 .1 .1 .1))))
 
 write-operands-same-length : (t : ℕ) → write-operands-lts.Need-same-length (write-operands-claims t) (write-operands-at t) write-operands.Post
 write-operands-same-length t c = c .before .before .write-text .kept .1 .1 .1 .1 .1 .0
@@ -97,26 +97,26 @@ write-operands-sub-write-operands t c = omega (arith, c .before .before .if1 .le
 write-operands-write-operands-requires : (t : ℕ) → write-operands-lts.Need-write-operands-requires (write-operands-claims t) (write-operands-at t) write-operands.Post
 write-operands-write-operands-requires t c κs =
     let w = last-operand (c .before .before .before .before .before .before .before .before .pre .1 .0) _ (c .before .before .before .before .before .before .before .before .pre .1 .1 .1 .0) (c .before .before .before .if1 .left) in
-    let run = run-more display display (c .before .before .before .before .before .before .before .before .pre .1 .0) _ (c .before .before .before .before .before .before .before .before .pre .1 .1 .1 .0) (between (layoutOn (c .before .before .before .before .before .before .before .before .args .page .now) (c .before .before .before .before .before .before .before .before .args .own))) (c .before .before .before .if1 .left) (c .before .before .if2 .left) (c .before .before .before .before .before .before .before .before .args .out .now) (c .before .before .before .before .before .before .before .before .args .at) (c .before .before .before .before .before .before .before .before .pre .1 .1 .1 .1 .1) in
+    let run = run-more display display (c .before .before .before .before .before .before .before .before .pre .1 .0) _ (c .before .before .before .before .before .before .before .before .pre .1 .1 .1 .0) (between (layoutAt (c .before .before .before .before .before .before .before .before .args .page .now) (c .before .before .before .before .before .before .before .before .args .node))) (c .before .before .before .if1 .left) (c .before .before .if2 .left) (c .before .before .before .before .before .before .before .before .args .out .now) (c .before .before .before .before .before .before .before .before .args .at) (c .before .before .before .before .before .before .before .before .pre .1 .1 .1 .1 .1) in
     (omega (arith, w .low, c .before .before .before .before .before .before .before .before .pre .0), (fewer (c .before .before .before .before .before .before .before .before .pre .1 .0) (omega (arith, w .low)), (c .before .before .before .before .before .before .before .before .pre .1 .1 .0, (fewer-operands (c .before .before .before .before .before .before .before .before .pre .1 .0) _ (c .before .before .before .before .before .before .before .before .pre .1 .1 .1 .0) (c .before .before .before .if1 .left), (unmarked _ _, fits run)))))
 
 write-operands-put-between-requires : (t : ℕ) → write-operands-lts.Need-put-between-requires (write-operands-claims t) (write-operands-at t) write-operands.Post
 write-operands-put-between-requires t c κs =
-    let run = run-more display display (c .before .before .before .before .before .before .before .before .before .before .before .before .pre .1 .0) _ (c .before .before .before .before .before .before .before .before .before .before .before .before .pre .1 .1 .1 .0) (between (layoutOn (c .before .before .before .before .before .before .before .before .before .before .before .before .args .page .now) (c .before .before .before .before .before .before .before .before .before .before .before .before .args .own))) (c .before .before .before .before .before .before .before .if1 .left) (c .before .before .before .before .before .before .if2 .left) (c .before .before .before .before .before .before .before .before .before .before .before .before .args .out .now) (c .before .before .before .before .before .before .before .before .before .before .before .before .args .at) (c .before .before .before .before .before .before .before .before .before .before .before .before .pre .1 .1 .1 .1 .1) in
+    let run = run-more display display (c .before .before .before .before .before .before .before .before .before .before .before .before .pre .1 .0) _ (c .before .before .before .before .before .before .before .before .before .before .before .before .pre .1 .1 .1 .0) (between (layoutAt (c .before .before .before .before .before .before .before .before .before .before .before .before .args .page .now) (c .before .before .before .before .before .before .before .before .before .before .before .before .args .node))) (c .before .before .before .before .before .before .before .if1 .left) (c .before .before .before .before .before .before .if2 .left) (c .before .before .before .before .before .before .before .before .before .before .before .before .args .out .now) (c .before .before .before .before .before .before .before .before .before .before .before .before .args .at) (c .before .before .before .before .before .before .before .before .before .before .before .before .pre .1 .1 .1 .1 .1) in
     (c .before .before .before .before .before .before .before .before .before .before .before .before .pre .1 .1 .0, fits (next run (c .before .before .before .write-operands .ensures)))
 
 write-operands-write-text-requires-2 : (t : ℕ) → write-operands-lts.Need-write-text-requires-2 (write-operands-claims t) (write-operands-at t) write-operands.Post
 write-operands-write-text-requires-2 t c κs =
     let w = last-operand (c .before .before .before .before .before .before .before .before .before .before .before .before .before .before .before .before .pre .1 .0) _ (c .before .before .before .before .before .before .before .before .before .before .before .before .before .before .before .before .pre .1 .1 .1 .0) (c .before .before .before .before .before .before .before .before .before .before .before .if1 .left) in
-    let run = run-more display display (c .before .before .before .before .before .before .before .before .before .before .before .before .before .before .before .before .pre .1 .0) _ (c .before .before .before .before .before .before .before .before .before .before .before .before .before .before .before .before .pre .1 .1 .1 .0) (between (layoutOn (c .before .before .before .before .before .before .before .before .before .before .before .before .before .before .before .before .args .page .now) (c .before .before .before .before .before .before .before .before .before .before .before .before .before .before .before .before .args .own))) (c .before .before .before .before .before .before .before .before .before .before .before .if1 .left) (c .before .before .before .before .before .before .before .before .before .before .if2 .left) (c .before .before .before .before .before .before .before .before .before .before .before .before .before .before .before .before .args .out .now) (c .before .before .before .before .before .before .before .before .before .before .before .before .before .before .before .before .args .at) (c .before .before .before .before .before .before .before .before .before .before .before .before .before .before .before .before .pre .1 .1 .1 .1 .1) in
+    let run = run-more display display (c .before .before .before .before .before .before .before .before .before .before .before .before .before .before .before .before .pre .1 .0) _ (c .before .before .before .before .before .before .before .before .before .before .before .before .before .before .before .before .pre .1 .1 .1 .0) (between (layoutAt (c .before .before .before .before .before .before .before .before .before .before .before .before .before .before .before .before .args .page .now) (c .before .before .before .before .before .before .before .before .before .before .before .before .before .before .before .before .args .node))) (c .before .before .before .before .before .before .before .before .before .before .before .if1 .left) (c .before .before .before .before .before .before .before .before .before .before .if2 .left) (c .before .before .before .before .before .before .before .before .before .before .before .before .before .before .before .before .args .out .now) (c .before .before .before .before .before .before .before .before .before .before .before .before .before .before .before .before .args .at) (c .before .before .before .before .before .before .before .before .before .before .before .before .before .before .before .before .pre .1 .1 .1 .1 .1) in
     (omega (arith, w .some, c .before .before .before .before .before .before .before .before .before .before .before .before .before .before .before .before .pre .0), (fewer (c .before .before .before .before .before .before .before .before .before .before .before .before .before .before .before .before .pre .1 .0) (omega (arith, w .some)), (c .before .before .before .before .before .before .before .before .before .before .before .before .before .before .before .before .pre .1 .1 .1 .1 .0, fits (next (next run (c .before .before .before .before .before .before .before .write-operands .ensures)) (c .before .before .before .put-between .ensures)))))
 
 write-operands-same-length-2 : (t : ℕ) → write-operands-lts.Need-same-length-2 (write-operands-claims t) (write-operands-at t) write-operands.Post
-write-operands-same-length-2 t c = c .before .before .write-text2 .kept .1 .1 .1 .1 .1 .0 ∙ c .before .before .before .before .before .before .put-between .kept .1 .1 .0 ∙ c .before .before .before .before .before .before .before .before .before .before .write-operands .kept .1 .1 .1 .1 .1 .1 .1 .0
+write-operands-same-length-2 t c = c .before .before .write-text2 .kept .1 .1 .1 .1 .1 .0 ∙ c .before .before .before .before .before .before .put-between .kept .1 .1 .1 .0 ∙ c .before .before .before .before .before .before .before .before .before .before .write-operands .kept .1 .1 .1 .1 .1 .1 .1 .0
 
 write-operands-returns-3 : (t : ℕ) → write-operands-lts.Need-returns-3 (write-operands-claims t) (write-operands-at t) write-operands.Post
 write-operands-returns-3 t c =
-    let run = run-more display display (c .before .before .before .before .before .before .before .before .before .before .before .before .before .before .before .before .before .before .before .pre .1 .0) _ (c .before .before .before .before .before .before .before .before .before .before .before .before .before .before .before .before .before .before .before .pre .1 .1 .1 .0) (between (layoutOn (c .before .before .before .before .before .before .before .before .before .before .before .before .before .before .before .before .before .before .before .args .page .now) (c .before .before .before .before .before .before .before .before .before .before .before .before .before .before .before .before .before .before .before .args .own))) (c .before .before .before .before .before .before .before .before .before .before .before .before .before .before .if1 .left) (c .before .before .before .before .before .before .before .before .before .before .before .before .before .if2 .left) (c .before .before .before .before .before .before .before .before .before .before .before .before .before .before .before .before .before .before .before .args .out .now) (c .before .before .before .before .before .before .before .before .before .before .before .before .before .before .before .before .before .before .before .args .at) (c .before .before .before .before .before .before .before .before .before .before .before .before .before .before .before .before .before .before .before .pre .1 .1 .1 .1 .1) in
+    let run = run-more display display (c .before .before .before .before .before .before .before .before .before .before .before .before .before .before .before .before .before .before .before .pre .1 .0) _ (c .before .before .before .before .before .before .before .before .before .before .before .before .before .before .before .before .before .before .before .pre .1 .1 .1 .0) (between (layoutAt (c .before .before .before .before .before .before .before .before .before .before .before .before .before .before .before .before .before .before .before .args .page .now) (c .before .before .before .before .before .before .before .before .before .before .before .before .before .before .before .before .before .before .before .args .node))) (c .before .before .before .before .before .before .before .before .before .before .before .before .before .before .if1 .left) (c .before .before .before .before .before .before .before .before .before .before .before .before .before .if2 .left) (c .before .before .before .before .before .before .before .before .before .before .before .before .before .before .before .before .before .before .before .args .out .now) (c .before .before .before .before .before .before .before .before .before .before .before .before .before .before .before .before .before .before .before .args .at) (c .before .before .before .before .before .before .before .before .before .before .before .before .before .before .before .before .before .before .before .pre .1 .1 .1 .1 .1) in
     end (next (next (next run (c .before .before .before .before .before .before .before .before .before .before .write-operands .ensures)) (c .before .before .before .before .before .before .put-between .ensures)) (c .before .before .write-text2 .ensures))
 
 write-text-view-at-requires : (t : ℕ) → write-text-lts.Need-view-at-requires (write-text-claims t) (write-text-at t) write-text.Post
@@ -126,19 +126,19 @@ write-text-is-minus-requires : (t : ℕ) → write-text-lts.Need-is-minus-requir
 write-text-is-minus-requires t c κs = search needs
 
 write-text-put-front-requires : (t : ℕ) → write-text-lts.Need-put-front-requires (write-text-claims t) (write-text-at t) write-text.Post
-write-text-put-front-requires t c κs = (c .before .before .view-at .ensures .lies, fits (run-node (c .before .before .view-at .ensures .seen) (c .before .before .before .before .before .before .before .args .out .now) (c .before .before .before .before .before .before .before .args .at) (c .before .before .before .before .before .before .before .pre .1 .1 .1)))
+write-text-put-front-requires t c κs = (c .before .before .view-at .ensures .stands, fits (run-node (c .before .before .view-at .ensures .seen) (c .before .before .before .before .before .before .before .args .out .now) (c .before .before .before .before .before .before .before .args .at) (c .before .before .before .before .before .before .before .pre .1 .1 .1)))
 
 write-text-write-operands-requires : (t : ℕ) → write-text-lts.Need-write-operands-requires (write-text-claims t) (write-text-at t) write-text.Post
 write-text-write-operands-requires t c κs =
     let seen = c .before .before .before .before .before .before .view-at .ensures .seen in
     let run = next (run-node seen (c .before .before .before .before .before .before .before .before .before .before .before .args .out .now) (c .before .before .before .before .before .before .before .before .before .before .before .args .at) (c .before .before .before .before .before .before .before .before .before .before .before .pre .1 .1 .1)) (c .before .before .before .put-front .ensures) in
-    (omega (arith, seen .low, c .before .before .before .before .before .before .before .before .before .before .before .pre .0), (fewer (c .before .before .before .before .before .before .before .before .before .before .before .pre .1 .0) (omega (arith, seen .low)), (c .before .before .before .before .before .before .view-at .ensures .lies, (seen .enough, (rw (c .before .before .before .before .before .is-minus .ensures) (minus-unvalued (c .before .before .before .before .before .before .view-at .ensures)), fits run)))))
+    (omega (arith, seen .low, c .before .before .before .before .before .before .before .before .before .before .before .pre .0), (fewer (c .before .before .before .before .before .before .before .before .before .before .before .pre .1 .0) (omega (arith, seen .low)), (c .before .before .before .before .before .before .view-at .ensures .stands, (seen .enough, (rw (c .before .before .before .before .before .is-minus .ensures) (minus-unvalued (c .before .before .before .before .before .before .view-at .ensures)), fits run)))))
 
 write-text-put-rear-requires : (t : ℕ) → write-text-lts.Need-put-rear-requires (write-text-claims t) (write-text-at t) write-text.Post
-write-text-put-rear-requires t c κs = (c .before .before .before .before .before .before .before .before .before .before .view-at .ensures .lies, fits (next (next (run-node (c .before .before .before .before .before .before .before .before .before .before .view-at .ensures .seen) (c .before .before .before .before .before .before .before .before .before .before .before .before .before .before .before .args .out .now) (c .before .before .before .before .before .before .before .before .before .before .before .before .before .before .before .args .at) (c .before .before .before .before .before .before .before .before .before .before .before .before .before .before .before .pre .1 .1 .1)) (c .before .before .before .before .before .before .before .put-front .ensures)) (c .before .before .before .write-operands .ensures)))
+write-text-put-rear-requires t c κs = (c .before .before .before .before .before .before .before .before .before .before .view-at .ensures .stands, fits (next (next (run-node (c .before .before .before .before .before .before .before .before .before .before .view-at .ensures .seen) (c .before .before .before .before .before .before .before .before .before .before .before .before .before .before .before .args .out .now) (c .before .before .before .before .before .before .before .before .before .before .before .before .before .before .before .args .at) (c .before .before .before .before .before .before .before .before .before .before .before .before .before .before .before .pre .1 .1 .1)) (c .before .before .before .before .before .before .before .put-front .ensures)) (c .before .before .before .write-operands .ensures)))
 
 write-text-same-length : (t : ℕ) → write-text-lts.Need-same-length (write-text-claims t) (write-text-at t) write-text.Post
-write-text-same-length t c = c .before .before .put-rear .kept .1 .1 .0 ∙ c .before .before .before .before .before .before .write-operands .kept .1 .1 .1 .1 .1 .1 .1 .0 ∙ c .before .before .before .before .before .before .before .before .before .before .put-front .kept .1 .1 .0
+write-text-same-length t c = c .before .before .put-rear .kept .1 .1 .1 .0 ∙ c .before .before .before .before .before .before .write-operands .kept .1 .1 .1 .1 .1 .1 .1 .0 ∙ c .before .before .before .before .before .before .before .before .before .before .put-front .kept .1 .1 .1 .0
 
 write-text-returns : (t : ℕ) → write-text-lts.Need-returns (write-text-claims t) (write-text-at t) write-text.Post
 write-text-returns t c = end (next (next (next (run-node (c .before .before .before .before .before .before .before .before .before .before .before .before .before .view-at .ensures .seen) (c .before .before .before .before .before .before .before .before .before .before .before .before .before .before .before .before .before .before .args .out .now) (c .before .before .before .before .before .before .before .before .before .before .before .before .before .before .before .before .before .before .args .at) (c .before .before .before .before .before .before .before .before .before .before .before .before .before .before .before .before .before .before .pre .1 .1 .1)) (c .before .before .before .before .before .before .before .before .before .before .put-front .ensures)) (c .before .before .before .before .before .before .write-operands .ensures)) (c .before .before .put-rear .ensures))

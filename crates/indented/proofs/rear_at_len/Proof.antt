@@ -1,6 +1,6 @@
 -- `indented::rear_at_len` meets its contract: by the form. Assumes nothing.
 use Rattle.indented.proofs.IndentLaws.{closed-len}
-use Rattle.view.proofs.ViewLaws.{layout-formed}
+use Rattle.view.proofs.NodeLaws.{layout-formed}
 use Rattle.text.proofs.CappedLaws.{len-as}
 use Rattle.text.specs.Layout.{Layout, rearAt}
 use lib.ListN.{length}
@@ -23,13 +23,13 @@ enum-told-3 : tie.Need-enum-told-3
 enum-told-3 c = search needs
 
 suffix-len-requires : tie.Need-suffix-len-requires
-suffix-len-requires c κs = c .before .before .before .before .pre .0
+suffix-len-requires c κs = c .before .before .before .before .before .pre .0
 
 enum-told-4 : tie.Need-enum-told-4
 enum-told-4 c = search needs
 
 indent-len-requires : tie.Need-indent-len-requires
-indent-len-requires c κs = c .before .before .before .before .pre .1
+indent-len-requires c κs = c .before .before .before .before .before .pre .1
 
 capped-add-requires : tie.Need-capped-add-requires
 capped-add-requires c κs = search needs
@@ -38,19 +38,19 @@ enum-told-5 : tie.Need-enum-told-5
 enum-told-5 c = search needs
 
 returns : tie.Need-returns
-returns c = let e = layout-formed (c .before .before .before .before .args .page .now) (c .before .before .before .before .args .own) (sym (c .enum-told .given .1) ∙ c .before .before .form-of .ensures) in omega (arith, ap (λ (l : Layout). length (rearAt (c .before .before .before .before .args .level) l)) e)
+returns c = let e = layout-formed (c .before .before .before .before .before .pre .0) (sym (c .enum-told .given .1) ∙ c .before .before .form-of .ensures) in omega (arith, ap (λ (l : Layout). length (rearAt (c .before .before .before .before .before .args .level) l)) e)
 
 returns-2 : tie.Need-returns-2
-returns-2 c = let e = layout-formed (c .before .before .before .before .args .page .now) (c .before .before .before .before .args .own) (sym (c .enum-told2 .given .1) ∙ c .before .before .form-of .ensures) in omega (arith, ap (λ (l : Layout). length (rearAt (c .before .before .before .before .args .level) l)) e)
+returns-2 c = let e = layout-formed (c .before .before .before .before .before .pre .0) (sym (c .enum-told2 .given .1) ∙ c .before .before .form-of .ensures) in omega (arith, ap (λ (l : Layout). length (rearAt (c .before .before .before .before .before .args .level) l)) e)
 
 returns-3 : tie.Need-returns-3
-returns-3 c = let e = layout-formed (c .before .before .before .before .before .args .page .now) (c .before .before .before .before .before .args .own) (sym (c .before .enum-told3 .given .1) ∙ c .before .before .before .form-of .ensures) in len-as _ _ _ (ap (rearAt (c .before .before .before .before .before .args .level)) e) (c .suffix-len .ensures)
+returns-3 c = let e = layout-formed (c .before .before .before .before .before .before .pre .0) (sym (c .before .enum-told3 .given .1) ∙ c .before .before .before .form-of .ensures) in len-as _ _ _ (ap (rearAt (c .before .before .before .before .before .before .args .level)) e) (c .suffix-len .ensures)
 
 returns-4 : tie.Need-returns-4
-returns-4 c = let e = layout-formed (c .before .before .before .before .before .before .args .page .now) (c .before .before .before .before .before .before .args .own) (sym (c .before .before .enum-told4 .given .1) ∙ c .before .before .before .before .form-of .ensures) in len-as _ _ _ (ap (rearAt (c .before .before .before .before .before .before .args .level)) e) (closed-len (c .before .before .before .before .before .before .args .level) _ _ _ (c .before .indent-len .ensures) (c .capped-add .ensures))
+returns-4 c = let e = layout-formed (c .before .before .before .before .before .before .before .pre .0) (sym (c .before .before .enum-told4 .given .1) ∙ c .before .before .before .before .form-of .ensures) in len-as _ _ _ (ap (rearAt (c .before .before .before .before .before .before .before .args .level)) e) (closed-len (c .before .before .before .before .before .before .before .args .level) _ _ _ (c .before .indent-len .ensures) (c .capped-add .ensures))
 
 returns-5 : tie.Need-returns-5
-returns-5 c = let e = layout-formed (c .before .before .before .before .args .page .now) (c .before .before .before .before .args .own) (sym (c .enum-told5 .given .1) ∙ c .before .before .form-of .ensures) in omega (arith, ap (λ (l : Layout). length (rearAt (c .before .before .before .before .args .level) l)) e)
+returns-5 c = let e = layout-formed (c .before .before .before .before .before .pre .0) (sym (c .enum-told5 .given .1) ∙ c .before .before .form-of .ensures) in omega (arith, ap (λ (l : Layout). length (rearAt (c .before .before .before .before .before .args .level) l)) e)
 
 pub rear-at-len-spec : {M : Type 1} → statement M
 rear-at-len-spec =

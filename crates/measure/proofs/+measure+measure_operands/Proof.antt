@@ -67,13 +67,13 @@ measure-view-at-requires : (t : ℕ) → measure-lts.Need-view-at-requires (meas
 measure-view-at-requires t c κs = (starts-of (c .before .before .before .before .pre .1 .0), c .before .before .before .before .pre .1 .1 .0)
 
 measure-front-len-requires : (t : ℕ) → measure-lts.Need-front-len-requires (measure-claims t) (measure-at t) measure.Post
-measure-front-len-requires t c κs = c .view-at .ensures .lies
+measure-front-len-requires t c κs = c .view-at .ensures .stands
 
 measure-sub-left : (t : ℕ) → measure-lts.Need-sub-left (measure-claims t) (measure-at t) measure.Post
 measure-sub-left t c = omega (arith, c .front-len .ensures)
 
 measure-between-len-requires : (t : ℕ) → measure-lts.Need-between-len-requires (measure-claims t) (measure-at t) measure.Post
-measure-between-len-requires t c κs = c .before .view-at .ensures .lies
+measure-between-len-requires t c κs = c .before .view-at .ensures .stands
 
 measure-is-minus-requires : (t : ℕ) → measure-lts.Need-is-minus-requires (measure-claims t) (measure-at t) measure.Post
 measure-is-minus-requires t c κs = search needs
@@ -87,7 +87,7 @@ measure-sub-rear-len : (t : ℕ) → measure-lts.Need-sub-rear-len (measure-clai
 measure-sub-rear-len t c = omega (arith, c .before .before .measure-operands .ensures .0 .bound)
 
 measure-rear-len-requires : (t : ℕ) → measure-lts.Need-rear-len-requires (measure-claims t) (measure-at t) measure.Post
-measure-rear-len-requires t c κs = c .before .before .before .before .before .before .before .view-at .ensures .lies
+measure-rear-len-requires t c κs = c .before .before .before .before .before .before .before .view-at .ensures .stands
 
 measure-add-width : (t : ℕ) → measure-lts.Need-add-width (measure-claims t) (measure-at t) measure.Post
 measure-add-width t c = omega (arith, c .before .before .before .before .before .before .before .front-len .ensures, c .before .before .before .measure-operands .ensures .0 .bound)

@@ -1,49 +1,47 @@
-use Rattle.view.proofs.NodeLaws.{unvalued-below, view-unary, view-literal}
-use Rattle.view.proofs.ViewLaws.{starts-fewer}
-use native.Mathlib.Omega.{arith}
-use mathlib.Core.Path.{sym}
 -- `view::unary_view` meets its contract: the value of the tree says whether the minus is a number's sign. Assumes nothing.
+use mathlib.Core.Path.{sym}
+use Rattle.view.proofs.NodeLaws.{chained-here, view-unary, view-valued, unvalued-below}
 use borrow.Author.Needs.{needs}
 use Rattle.view.proofs.unary_view.Statement.{statement}
 use Rattle.view.proofs.unary_view.Tie as tie
 
-node-requires : tie.Need-node-requires
-node-requires c κs = search needs
+node-of-requires : tie.Need-node-of-requires
+node-of-requires c κs = search needs
 
 returns : tie.Need-returns
-returns c = rw (c .node .ensures) (view-unary (c .before .before .before .before .pre .0) (c .before .before .before .before .pre .1 .0) (c .before .before .before .before .pre .1 .1 .0) (unvalued-below (c .before .before .before .before .pre .0) (c .before .before .before .before .pre .1 .0) (rw (c .before .if1 .taken) at (c .before .before .before .before .pre .1 .1 .1))))
+returns c = let p = c .before .before .before .before .pre in rw (c .node-of .ensures) (view-unary (p .0) (p .1 .0 .chain) (p .1 .1 .0) (unvalued-below (p .0) (p .1 .0 .chain) (rw (c .before .if1 .taken) at (p .1 .1 .1))))
 
 signed-literal-requires : tie.Need-signed-literal-requires
-signed-literal-requires c κs = starts-fewer (c .before .before .before .pre .0) (omega (arith, c .before .before .before .pre .1 .0 .low))
-
-enum-known-l : tie.Need-enum-known-l
-enum-known-l c = search needs
-
-node-requires-2 : tie.Need-node-requires-2
-node-requires-2 c κs = search needs
+signed-literal-requires c κs = chained-here (c .before .before .before .pre .0) (c .before .before .before .pre .1 .0 .chain)
 
 enum-told : tie.Need-enum-told
 enum-told c = search needs
 
-node-requires-3 : tie.Need-node-requires-3
-node-requires-3 c κs = search needs
+node-of-requires-2 : tie.Need-node-of-requires-2
+node-of-requires-2 c κs = search needs
+
+enum-told-2 : tie.Need-enum-told-2
+enum-told-2 c = search needs
+
+node-of-requires-3 : tie.Need-node-of-requires-3
+node-of-requires-3 c κs = search needs
 
 returns-2 : tie.Need-returns-2
-returns-2 c = rw (c .node2 .ensures) (view-literal (c .before .before .before .before .before .before .before .before .pre .0) (c .before .before .before .before .before .before .before .before .pre .1 .0) (rw (c .before .before .l .given .1) at (c .before .before .before .before .signed-literal .ensures)))
+returns-2 c = let p = c .before .before .before .before .before .before .before .pre in rw (c .node-of2 .ensures) (view-valued (p .0) (p .1 .0 .chain) (record { value = _; is = sym (rw (c .before .enum-told .given .1) at (c .before .before .before .signed-literal .ensures)) }))
 
 returns-3 : tie.Need-returns-3
-returns-3 c = rw (c .node3 .ensures) (view-unary (c .before .before .before .before .before .before .before .pre .0) (c .before .before .before .before .before .before .before .pre .1 .0) (c .before .before .before .before .before .before .before .pre .1 .1 .0) (sym (rw (c .before .enum-told .given .1) at (c .before .before .before .signed-literal .ensures))))
+returns-3 c = let p = c .before .before .before .before .before .before .before .pre in rw (c .node-of3 .ensures) (view-unary (p .0) (p .1 .0 .chain) (p .1 .1 .0) (sym (rw (c .before .enum-told2 .given .1) at (c .before .before .before .signed-literal .ensures))))
 
 pub unary-view-spec : {M : Type 1} → statement M
 unary-view-spec =
     tie.close
     (tie.spec
-    node-requires
+    node-of-requires
     returns
     signed-literal-requires
-    enum-known-l
-    node-requires-2
     enum-told
-    node-requires-3
+    node-of-requires-2
+    enum-told-2
+    node-of-requires-3
     returns-2
     returns-3)

@@ -1,14 +1,98 @@
-use Rattle.view.proofs.NodeLaws.{below-start}
-use mathlib.Core.Path.{refl}
--- `view::view_at` meets its contract: it starts at record i itself, where nothing is set. Assumes nothing.
+-- `view::view_at` meets its contract: the foot's kind says what the node is. Assumes nothing.
+use Rattle.view.proofs.NodeLaws.{chained-here, view-number, view-string, view-selector, view-subquery, view-paren, view-binary, view-aggregate, view-call, foot-call}
+use borrow.Author.Needs.{needs}
 use Rattle.view.proofs.view_at.Statement.{statement}
 use Rattle.view.proofs.view_at.Tie as tie
 
-view-from-requires : tie.Need-view-from-requires
-view-from-requires c κs = (c .before .before .pre .0, (below-start _ _ _ refl refl, c .before .before .pre .1))
+foot-of-requires : tie.Need-foot-of-requires
+foot-of-requires c κs = search needs
+
+kind-at-requires : tie.Need-kind-at-requires
+kind-at-requires c κs = chained-here (c .before .before .before .pre .0) (c .foot-of .ensures .chain)
+
+node-of-requires : tie.Need-node-of-requires
+node-of-requires c κs = search needs
+
+node-of-requires-2 : tie.Need-node-of-requires-2
+node-of-requires-2 c κs = search needs
+
+node-of-requires-3 : tie.Need-node-of-requires-3
+node-of-requires-3 c κs = search needs
+
+node-of-requires-4 : tie.Need-node-of-requires-4
+node-of-requires-4 c κs = search needs
+
+unary-view-requires : tie.Need-unary-view-requires
+unary-view-requires c κs = (c .before .before .before .before .before .pre .0, (c .before .before .foot-of .ensures, (rw (c .match .keys5) at (c .before .kind-at .ensures), c .before .before .before .before .before .pre .1)))
+
+node-of-requires-5 : tie.Need-node-of-requires-5
+node-of-requires-5 c κs = search needs
+
+node-of-requires-6 : tie.Need-node-of-requires-6
+node-of-requires-6 c κs = search needs
+
+operands-at-requires : tie.Need-operands-at-requires
+operands-at-requires c κs = chained-here (c .before .before .before .before .before .pre .0) (c .before .before .foot-of .ensures .chain)
+
+node-of-requires-7 : tie.Need-node-of-requires-7
+node-of-requires-7 c κs = search needs
+
+operands-at-requires-2 : tie.Need-operands-at-requires-2
+operands-at-requires-2 c κs = chained-here (c .before .before .before .before .before .pre .0) (c .before .before .foot-of .ensures .chain)
+
+node-of-requires-8 : tie.Need-node-of-requires-8
+node-of-requires-8 c κs = search needs
 
 returns : tie.Need-returns
-returns c = c .view-from .ensures
+returns c = rw (c .node-of .ensures) (view-number (c .before .before .before .before .before .before .pre .0) (c .before .before .before .foot-of .ensures .chain) (rw (c .before .match .keys1) at (c .before .before .kind-at .ensures)))
+
+returns-2 : tie.Need-returns-2
+returns-2 c = rw (c .node-of2 .ensures) (view-string (c .before .before .before .before .before .before .pre .0) (c .before .before .before .foot-of .ensures .chain) (rw (c .before .match .keys2) at (c .before .before .kind-at .ensures)))
+
+returns-3 : tie.Need-returns-3
+returns-3 c = rw (c .node-of3 .ensures) (view-selector (c .before .before .before .before .before .before .pre .0) (c .before .before .before .foot-of .ensures .chain) (rw (c .before .match .keys3) at (c .before .before .kind-at .ensures)))
+
+returns-4 : tie.Need-returns-4
+returns-4 c = rw (c .node-of4 .ensures) (view-subquery (c .before .before .before .before .before .before .pre .0) (c .before .before .before .foot-of .ensures .chain) (rw (c .before .match .keys4) at (c .before .before .kind-at .ensures)))
+
+returns-5 : tie.Need-returns-5
+returns-5 c = search needs
+
+returns-6 : tie.Need-returns-6
+returns-6 c = rw (c .node-of5 .ensures) (view-paren (c .before .before .before .before .before .before .pre .0) (c .before .before .before .foot-of .ensures .chain) (rw (c .before .match .keys6) at (c .before .before .kind-at .ensures)))
+
+returns-7 : tie.Need-returns-7
+returns-7 c = rw (c .node-of6 .ensures) (view-binary (c .before .before .before .before .before .before .pre .0) (c .before .before .before .foot-of .ensures .chain) (rw (c .before .match .keys7) at (c .before .before .kind-at .ensures)))
+
+returns-8 : tie.Need-returns-8
+returns-8 c = rw (c .node-of7 .ensures) (view-aggregate (c .before .before .before .before .before .before .before .pre .0) (c .before .before .before .before .foot-of .ensures .chain) (rw (c .before .before .match .keys8) at (c .before .before .before .kind-at .ensures)) (c .before .operands-at .ensures))
+
+returns-9 : tie.Need-returns-9
+returns-9 c = rw (c .node-of8 .ensures) (view-call (c .before .before .before .before .before .before .before .pre .0) (c .before .before .before .before .foot-of .ensures .chain) (foot-call (c .before .before .before .before .foot-of .ensures) (c .before .before .before .kind-at .ensures) (c .before .before .match .rest .0 .0 .0 .0 .0 .0 .0 .1) (c .before .before .match .rest .0 .0 .0 .0 .0 .0 .1) (c .before .before .match .rest .0 .0 .0 .0 .0 .1) (c .before .before .match .rest .0 .0 .0 .0 .1) (c .before .before .match .rest .0 .0 .0 .1) (c .before .before .match .rest .0 .0 .1) (c .before .before .match .rest .0 .1) (c .before .before .match .rest .1)) (c .before .operands-at2 .ensures))
 
 pub view-at-spec : {M : Type 1} → statement M
-view-at-spec = tie.close (tie.spec view-from-requires returns)
+view-at-spec =
+    tie.close
+    (tie.spec
+    foot-of-requires
+    kind-at-requires
+    node-of-requires
+    node-of-requires-2
+    node-of-requires-3
+    node-of-requires-4
+    unary-view-requires
+    node-of-requires-5
+    node-of-requires-6
+    operands-at-requires
+    node-of-requires-7
+    operands-at-requires-2
+    node-of-requires-8
+    returns
+    returns-2
+    returns-3
+    returns-4
+    returns-5
+    returns-6
+    returns-7
+    returns-8
+    returns-9)

@@ -1,5 +1,5 @@
 -- `canonical::own::rear_len` meets its contract: the suffix, or a bracket. Assumes nothing.
-use Rattle.view.proofs.ViewLaws.{layout-formed}
+use Rattle.view.proofs.NodeLaws.{layout-formed}
 use Rattle.text.proofs.CappedLaws.{len-as}
 use Rattle.text.specs.Layout.{Layout, rear}
 use lib.ListN.{length}
@@ -22,7 +22,7 @@ enum-told-3 : tie.Need-enum-told-3
 enum-told-3 c = search needs
 
 suffix-len-requires : tie.Need-suffix-len-requires
-suffix-len-requires c κs = c .before .before .before .before .pre
+suffix-len-requires c κs = c .before .before .before .before .before .pre
 
 enum-told-4 : tie.Need-enum-told-4
 enum-told-4 c = search needs
@@ -34,19 +34,19 @@ enum-told-5 : tie.Need-enum-told-5
 enum-told-5 c = search needs
 
 returns : tie.Need-returns
-returns c = let e = layout-formed (c .before .before .before .before .args .page .now) (c .before .before .before .before .args .own) (sym (c .enum-told .given .1) ∙ c .before .before .form-of .ensures) in omega (arith, ap (λ (l : Layout). length (rear l)) e)
+returns c = let e = layout-formed (c .before .before .before .before .before .pre) (sym (c .enum-told .given .1) ∙ c .before .before .form-of .ensures) in omega (arith, ap (λ (l : Layout). length (rear l)) e)
 
 returns-2 : tie.Need-returns-2
-returns-2 c = let e = layout-formed (c .before .before .before .before .args .page .now) (c .before .before .before .before .args .own) (sym (c .enum-told2 .given .1) ∙ c .before .before .form-of .ensures) in omega (arith, ap (λ (l : Layout). length (rear l)) e)
+returns-2 c = let e = layout-formed (c .before .before .before .before .before .pre) (sym (c .enum-told2 .given .1) ∙ c .before .before .form-of .ensures) in omega (arith, ap (λ (l : Layout). length (rear l)) e)
 
 returns-3 : tie.Need-returns-3
-returns-3 c = let e = layout-formed (c .before .before .before .before .before .args .page .now) (c .before .before .before .before .before .args .own) (sym (c .before .enum-told3 .given .1) ∙ c .before .before .before .form-of .ensures) in len-as _ _ _ (ap rear e) (c .suffix-len .ensures)
+returns-3 c = let e = layout-formed (c .before .before .before .before .before .before .pre) (sym (c .before .enum-told3 .given .1) ∙ c .before .before .before .form-of .ensures) in len-as _ _ _ (ap rear e) (c .suffix-len .ensures)
 
 returns-4 : tie.Need-returns-4
-returns-4 c = let e = layout-formed (c .before .before .before .before .before .args .page .now) (c .before .before .before .before .before .args .own) (sym (c .before .enum-told4 .given .1) ∙ c .before .before .before .form-of .ensures) in omega (arith, c .capped-add .ensures, ap (λ (l : Layout). length (rear l)) e)
+returns-4 c = let e = layout-formed (c .before .before .before .before .before .before .pre) (sym (c .before .enum-told4 .given .1) ∙ c .before .before .before .form-of .ensures) in omega (arith, c .capped-add .ensures, ap (λ (l : Layout). length (rear l)) e)
 
 returns-5 : tie.Need-returns-5
-returns-5 c = let e = layout-formed (c .before .before .before .before .args .page .now) (c .before .before .before .before .args .own) (sym (c .enum-told5 .given .1) ∙ c .before .before .form-of .ensures) in omega (arith, ap (λ (l : Layout). length (rear l)) e)
+returns-5 c = let e = layout-formed (c .before .before .before .before .before .pre) (sym (c .enum-told5 .given .1) ∙ c .before .before .form-of .ensures) in omega (arith, ap (λ (l : Layout). length (rear l)) e)
 
 pub rear-len-spec : {M : Type 1} → statement M
 rear-len-spec =

@@ -1,6 +1,6 @@
 use borrow.Author.Needs.{needs}
-use Rattle.view.proofs.negated.Statement.{statement}
-use Rattle.view.proofs.negated.Tie as tie
+use Rattle.view.proofs.literal.negated.Statement.{statement}
+use Rattle.view.proofs.literal.negated.Tie as tie
 
 enum-known-l : tie.Need-enum-known-l
 enum-known-l c = search needs

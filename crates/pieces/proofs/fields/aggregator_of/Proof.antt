@@ -1,0 +1,50 @@
+-- `pieces::fields::aggregator_of` meets its contract, field by field. Assumes nothing.
+use Rattle.pieces.proofs.FieldLaws.{aggregator-layout, aggregator-there, grouping-there}
+use borrow.Author.Needs.{needs}
+use Rattle.pieces.proofs.fields.aggregator_of.Statement.{statement}
+use Rattle.pieces.proofs.fields.aggregator_of.Tie as tie
+
+fields-start-requires : tie.Need-fields-start-requires
+fields-start-requires c κs = search needs
+
+read-code-requires : tie.Need-read-code-requires
+read-code-requires c κs = search needs
+
+enum-known-code : tie.Need-enum-known-code
+enum-known-code c = search needs
+
+read-label-modifier-requires : tie.Need-read-label-modifier-requires
+read-label-modifier-requires c κs = search needs
+
+enum-known-grouping : tie.Need-enum-known-grouping
+enum-known-grouping c = search needs
+
+enum-told : tie.Need-enum-told
+enum-told c = search needs
+
+enum-told-2 : tie.Need-enum-told-2
+enum-told-2 c = search needs
+
+returns : tie.Need-returns
+returns c = aggregator-layout (c .before .before .before .before .before .before .before .before .before .before .before .pre .0) (c .before .before .before .before .before .before .before .before .before .before .before .pre .1) (rw (c .before .before .before .before .before .code .given .1, c .before .before .before .before .before .before .before .before .fields-start .ensures) at (c .before .before .before .before .before .before .before .read-code .ensures)) (rw (c .before .grouping .given .1) at (c .before .before .before .read-label-modifier .ensures))
+
+returns-2 : tie.Need-returns-2
+returns-2 c = absurd (grouping-there (c .before .before .before .before .before .before .before .before .before .before .pre .0) (c .before .before .before .before .before .before .before .before .before .before .pre .1) (rw (c .before .before .before .before .code .given .1, c .before .before .before .before .before .before .before .fields-start .ensures) at (c .before .before .before .before .before .before .read-code .ensures)) (rw (c .enum-told .given .1) at (c .before .before .read-label-modifier .ensures)))
+
+returns-3 : tie.Need-returns-3
+returns-3 c = absurd (aggregator-there (c .before .before .before .before .before .before .pre .0) (c .before .before .before .before .before .before .pre .1) (rw (c .enum-told2 .given .1, c .before .before .before .fields-start .ensures) at (c .before .before .read-code .ensures)))
+
+pub aggregator-of-spec : {M : Type 1} → statement M
+aggregator-of-spec =
+    tie.close
+    (tie.spec
+    fields-start-requires
+    read-code-requires
+    enum-known-code
+    read-label-modifier-requires
+    enum-known-grouping
+    enum-told
+    enum-told-2
+    returns
+    returns-2
+    returns-3)

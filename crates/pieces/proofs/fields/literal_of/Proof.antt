@@ -1,0 +1,24 @@
+-- `pieces::fields::literal_of` meets its contract: the value of the tree at the foot. Assumes nothing.
+use Rattle.pieces.proofs.FieldLaws.{base-known, literal-layout, literal-there}
+use borrow.Author.Needs.{needs}
+use Rattle.pieces.proofs.fields.literal_of.Statement.{statement}
+use Rattle.pieces.proofs.fields.literal_of.Tie as tie
+
+signed-literal-requires : tie.Need-signed-literal-requires
+signed-literal-requires c κs = base-known (c .before .before .pre .0)
+
+enum-known-l : tie.Need-enum-known-l
+enum-known-l c = search needs
+
+enum-told : tie.Need-enum-told
+enum-told c = search needs
+
+returns : tie.Need-returns
+returns c = literal-layout (c .before .before .before .before .before .before .pre .0) (rw (c .before .l .given .1) at (c .before .before .before .signed-literal .ensures))
+
+returns-2 : tie.Need-returns-2
+returns-2 c = absurd (literal-there (c .before .before .before .before .before .pre .0) (c .before .before .before .before .before .pre .1) (rw (c .enum-told .given .1) at (c .before .before .signed-literal .ensures)))
+
+pub literal-of-spec : {M : Type 1} → statement M
+literal-of-spec =
+    tie.close (tie.spec signed-literal-requires enum-known-l enum-told returns returns-2)

@@ -1,0 +1,68 @@
+-- `pieces::fields::selector_of` meets its contract: the name, then the count of the matchers; they stand behind it. Assumes nothing.
+use Rattle.text.proofs.EntryLaws.{page-short}
+use Rattle.text.proofs.SoundLaws.{allowed}
+use Rattle.pieces.proofs.FieldLaws.{selector-reads, name-there, matchers-there}
+use borrow.Author.Needs.{needs}
+use Rattle.pieces.proofs.fields.selector_of.Statement.{statement}
+use Rattle.pieces.proofs.fields.selector_of.Tie as tie
+
+fields-start-requires : tie.Need-fields-start-requires
+fields-start-requires c κs = search needs
+
+read-text-requires : tie.Need-read-text-requires
+read-text-requires c κs = search needs
+
+enum-known-name : tie.Need-enum-known-name
+enum-known-name c = search needs
+
+read-count-requires : tie.Need-read-count-requires
+read-count-requires c κs = search needs
+
+enum-known-count : tie.Need-enum-known-count
+enum-known-count c = search needs
+
+selector-requires : tie.Need-selector-requires
+selector-requires c κs = search needs
+
+enum-told : tie.Need-enum-told
+enum-told c = search needs
+
+selector-requires-2 : tie.Need-selector-requires-2
+selector-requires-2 c κs = search needs
+
+enum-told-2 : tie.Need-enum-told-2
+enum-told-2 c = search needs
+
+no-text-requires : tie.Need-no-text-requires
+no-text-requires c κs = search needs
+
+selector-requires-3 : tie.Need-selector-requires-3
+selector-requires-3 c κs = search needs
+
+returns : tie.Need-returns
+returns c = let r = selector-reads (c .before .before .before .before .before .before .before .before .before .before .before .before .pre .0) (c .before .before .before .before .before .before .before .before .before .before .before .before .pre .1) (rw (c .before .before .before .before .before .before .name .given .1, c .before .before .before .before .before .before .before .before .before .fields-start .ensures) at (c .before .before .before .before .before .before .before .before .read-text .ensures .0)) (rw (c .before .before .count .given .1) at (c .before .before .before .before .read-count .ensures)) in rw (c .selector .ensures) (r, record { name = rw (c .before .before .before .before .before .before .name .given .1) at (c .before .before .before .before .before .before .before .before .read-text .ensures .1); few = allowed _ (r .reads) .1 .0; short = page-short (c .before .before .before .before .before .before .before .before .before .before .before .before .pre .0 .known .tables) })
+
+returns-2 : tie.Need-returns-2
+returns-2 c = absurd (matchers-there (c .before .before .before .before .before .before .before .before .before .before .before .pre .0) (c .before .before .before .before .before .before .before .before .before .before .before .pre .1) (rw (c .before .before .before .before .before .name .given .1, c .before .before .before .before .before .before .before .before .fields-start .ensures) at (c .before .before .before .before .before .before .before .read-text .ensures .0)) (rw (c .before .enum-told .given .1) at (c .before .before .before .read-count .ensures)))
+
+returns-3 : tie.Need-returns-3
+returns-3 c = absurd (name-there (c .before .before .before .before .before .before .before .before .pre .0) (c .before .before .before .before .before .before .before .before .pre .1) (rw (c .before .before .enum-told2 .given .1, c .before .before .before .before .before .fields-start .ensures) at (c .before .before .before .before .read-text .ensures .0)))
+
+pub selector-of-spec : {M : Type 1} → statement M
+selector-of-spec =
+    tie.close
+    (tie.spec
+    fields-start-requires
+    read-text-requires
+    enum-known-name
+    read-count-requires
+    enum-known-count
+    selector-requires
+    enum-told
+    selector-requires-2
+    enum-told-2
+    no-text-requires
+    selector-requires-3
+    returns
+    returns-2
+    returns-3)

@@ -1,0 +1,38 @@
+-- `pieces::fields::string_of` meets its contract: the text stands behind the kind. Assumes nothing.
+use Rattle.pieces.proofs.FieldLaws.{string-layout, string-there}
+use borrow.Author.Needs.{needs}
+use Rattle.pieces.proofs.fields.string_of.Statement.{statement}
+use Rattle.pieces.proofs.fields.string_of.Tie as tie
+
+fields-start-requires : tie.Need-fields-start-requires
+fields-start-requires c κs = search needs
+
+read-text-requires : tie.Need-read-text-requires
+read-text-requires c κs = search needs
+
+enum-known-text : tie.Need-enum-known-text
+enum-known-text c = search needs
+
+enum-told : tie.Need-enum-told
+enum-told c = search needs
+
+no-text-requires : tie.Need-no-text-requires
+no-text-requires c κs = search needs
+
+returns : tie.Need-returns
+returns c = (string-layout (c .before .before .before .before .before .before .before .pre .0) (c .before .before .before .before .before .before .before .pre .1) (rw (c .before .text .given .1, c .before .before .before .before .fields-start .ensures) at (c .before .before .before .read-text .ensures .0)), rw (c .before .text .given .1) at (c .before .before .before .read-text .ensures .1))
+
+returns-2 : tie.Need-returns-2
+returns-2 c = absurd (string-there (c .before .before .before .before .before .before .before .pre .0) (c .before .before .before .before .before .before .before .pre .1) (rw (c .before .enum-told .given .1, c .before .before .before .before .fields-start .ensures) at (c .before .before .before .read-text .ensures .0)))
+
+pub string-of-spec : {M : Type 1} → statement M
+string-of-spec =
+    tie.close
+    (tie.spec
+    fields-start-requires
+    read-text-requires
+    enum-known-text
+    enum-told
+    no-text-requires
+    returns
+    returns-2)

@@ -1,0 +1,183 @@
+// What a node's text shows of the record at its foot, read where the record stands.
+use records::Step;
+use view::Foot;
+use view::Node;
+ghost use mathlib.Core.Path.{_≡_};
+ghost use mathlib.Core.Bool.{false};
+ghost use Rattle.page.specs.Answers.{spanOn, Lies};
+ghost use Rattle.records.specs.Answers.{literalOf, stepOf, modifierOn, labelModifierOn};
+ghost use Rattle.records.specs.Record.{leaf, selector, wrapper, subquery};
+ghost use Rattle.float.specs.Exact.{ModifierExact};
+ghost use Rattle.reader.specs.Answers.{selectorOn};
+ghost use Rattle.util.specs.Numeral.{displayLiteral};
+ghost use Rattle.util.specs.Escape.{quote};
+ghost use Rattle.text.specs.Display.{displayOperator, displayAggregator};
+ghost use Rattle.text.specs.Layout.{whole, enclosed, infixed};
+ghost use Rattle.text.specs.Seen.{Reads};
+ghost use Rattle.view.specs.View.{NodeAt, layoutAt};
+ghost use Rattle.pieces.specs.Parts.{SelectorLies};
+
+// The number, with its sign.
+pub fn literal_of(page: &[u8], starts: &[u16], node: Node) -> records::Literal
+    requires { ⌜ NodeAt (now page) (now starts) node ⌝ }
+    requires { ⌜ node .foot ≡ Foot.Number ⌝ }
+    ensures { λ r. ⌜ layoutAt (now (page .entry)) node ≡ whole (displayLiteral (literalOf r)) ⌝ }
+{
+    let base = node.base;
+    match view::signed_literal(page, starts, base) {
+        view::Signed::Number(l) => l,
+        view::Signed::Other => records::Literal::Nan,
+    }
+}
+
+// A text that has no bytes.
+fn no_text() -> page::Span {
+    page::Span { start: 0, end: 0 }
+}
+
+pub fn string_of(page: &[u8], starts: &[u16], node: Node) -> page::Span
+    requires { ⌜ NodeAt (now page) (now starts) node ⌝ }
+    requires { ⌜ node .foot ≡ Foot.String ⌝ }
+    ensures { λ r. ⌜ layoutAt (now (page .entry)) node ≡ whole (quote (spanOn (now (page .entry)) r)) ⌝ }
+    ensures { λ r. ⌜ Lies (now (page .entry)) r ⌝ }
+{
+    let start = view::fields_start(starts, node.base);
+    match page::read_text(page, start, page::TextClass::Any) {
+        page::Text::Got(text) => text,
+        page::Text::Bad(_) => no_text(),
+    }
+}
+
+// The name of a call's function.
+pub fn function_of(page: &[u8], starts: &[u16], node: Node) -> page::Span
+    requires { ⌜ NodeAt (now page) (now starts) node ⌝ }
+    requires { ⌜ node .foot ≡ Foot.Call ⌝ }
+    ensures { λ r. ⌜ layoutAt (now (page .entry)) node ≡ enclosed (spanOn (now (page .entry)) r) ⌝ }
+    ensures { λ r. ⌜ Lies (now (page .entry)) r ⌝ }
+{
+    let start = view::fields_start(starts, node.base);
+    match page::read_text(page, start, page::TextClass::FunctionName) {
+        page::Text::Got(name) => name,
+        page::Text::Bad(_) => no_text(),
+    }
+}
+
+// A selector of this name, whose matchers start here. The marks of the check are of no use for texts.
+fn selector(name: page::Span, matchers: usize, count: usize) -> reader::Selector
+    ensures { λ r. ⌜ r ≡ record { name = name; matchers = matchers; count = count; named = false; empty = false } ⌝ }
+{
+    reader::Selector {
+        name: name,
+        matchers: matchers,
+        count: count,
+        named: false,
+        empty: false,
+    }
+}
+
+pub fn selector_of(page: &[u8], starts: &[u16], node: Node) -> reader::Selector
+    requires { ⌜ NodeAt (now page) (now starts) node ⌝ }
+    requires { ⌜ node .foot ≡ Foot.Selector ⌝ }
+    ensures { λ r. ⌜ Reads (now (page .entry)) (now (starts .entry)) (node .base) (leaf (selector (selectorOn (now (page .entry)) r))) ⌝ }
+    ensures { λ r. ⌜ SelectorLies (now (page .entry)) r ⌝ }
+{
+    let start = view::fields_start(starts, node.base);
+    match page::read_text(page, start, page::TextClass::MetricName) {
+        page::Text::Got(name) => match page::read_count(page, name.end) {
+            page::Count::Got(count, matchers) => selector(name, matchers, count),
+            page::Count::Bad(_) => selector(name, 0, 0),
+        },
+        page::Text::Bad(_) => selector(no_text(), 0, 0),
+    }
+}
+
+// Range and step of a subquery.
+pub struct Spacing {
+    pub range: u64,
+    pub step: Step,
+}
+
+pub fn spacing_of(page: &[u8], starts: &[u16], node: Node) -> Spacing
+    requires { ⌜ NodeAt (now page) (now starts) node ⌝ }
+    requires { ⌜ node .foot ≡ Foot.Subquery ⌝ }
+    ensures { λ r. ⌜ Reads (now (page .entry)) (now (starts .entry)) (node .base) (wrapper (subquery (r .range) (stepOf (r .step)))) ⌝ }
+{
+    let start = view::fields_start(starts, node.base);
+    match page::read_number(page, start) {
+        page::Number::Got(range, next) => match records::read_step(page, next) {
+            records::StepField::Got(step, _) => Spacing {
+                range: range,
+                step: step,
+            },
+            records::StepField::Bad => Spacing {
+                range: 0,
+                step: Step::None,
+            },
+        },
+        page::Number::Bad => Spacing {
+            range: 0,
+            step: Step::None,
+        },
+    }
+}
+
+// The code of a binary expression and its modifier.
+pub struct Operator {
+    pub code: u64,
+    pub modifier: records::Modifier,
+}
+
+pub fn operator_of(page: &[u8], starts: &[u16], node: Node) -> Operator
+    requires { ⌜ NodeAt (now page) (now starts) node ⌝ }
+    requires { ⌜ node .foot ≡ Foot.Binary ⌝ }
+    ensures { λ r. ⌜ layoutAt (now (page .entry)) node ≡ infixed (displayOperator (r .code) (modifierOn (now (page .entry)) (r .modifier))) ⌝ }
+    ensures { λ r. ⌜ ModifierExact (modifierOn (now (page .entry)) (r .modifier)) ⌝ }
+{
+    let start = view::fields_start(starts, node.base);
+    match reader::read_code(page, start) {
+        page::Number::Got(code, next) => match records::read_modifier(page, next) {
+            records::ModifierField::Got(modifier, _) => Operator {
+                code: code,
+                modifier: modifier,
+            },
+            records::ModifierField::Bad(_) => Operator {
+                code: 0,
+                modifier: records::Modifier::None,
+            },
+        },
+        page::Number::Bad => Operator {
+            code: 0,
+            modifier: records::Modifier::None,
+        },
+    }
+}
+
+// The code of an aggregate and its grouping.
+pub struct Aggregator {
+    pub code: u64,
+    pub grouping: records::LabelModifier,
+}
+
+pub fn aggregator_of(page: &[u8], starts: &[u16], node: Node) -> Aggregator
+    requires { ⌜ NodeAt (now page) (now starts) node ⌝ }
+    requires { ⌜ node .foot ≡ Foot.Aggregate ⌝ }
+    ensures { λ r. ⌜ layoutAt (now (page .entry)) node ≡ enclosed (displayAggregator (r .code) (labelModifierOn (now (page .entry)) (r .grouping))) ⌝ }
+{
+    let start = view::fields_start(starts, node.base);
+    match reader::read_code(page, start) {
+        page::Number::Got(code, next) => match records::read_label_modifier(page, next) {
+            records::LabelModifierField::Got(grouping, _) => Aggregator {
+                code: code,
+                grouping: grouping,
+            },
+            records::LabelModifierField::Bad(_) => Aggregator {
+                code: 0,
+                grouping: records::LabelModifier::None,
+            },
+        },
+        page::Number::Bad => Aggregator {
+            code: 0,
+            grouping: records::LabelModifier::None,
+        },
+    }
+}
