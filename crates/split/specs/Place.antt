@@ -3,8 +3,8 @@ use Prim.Native.Nat.{ℕ}
 use mathlib.Core.Bool.{Bool}
 use mathlib.Core.List.{List}
 use Rattle.text.specs.Layout.{innerMark, innerLevel}
-use Rattle.view.specs.View.{layoutOn}
-use Rattle.view.specs.declared.Own.{Own}
+use Rattle.view.specs.View.{layoutAt}
+use Rattle.view.specs.declared.Node.{Node}
 use Rattle.split.specs.declared.place.Place.{Place}
 
 abbrev pub withUnvalued : Bool → Place → Place
@@ -14,9 +14,9 @@ abbrev pub withMark : Bool → Place → Place
 withMark mark place = record { unvalued = place .unvalued; mark = mark; level = place .level }
 
 -- mark and level by the node's; `unvalued` is said of the operand already
-abbrev pub innerPlace : List ℕ → Own → Place → Place
-innerPlace page own place = record {
+abbrev pub innerPlace : List ℕ → Node → Place → Place
+innerPlace page node place = record {
   unvalued = place .unvalued;
-  mark = innerMark (place .mark) (layoutOn page own);
-  level = innerLevel (place .level) (layoutOn page own);
+  mark = innerMark (place .mark) (layoutAt page node);
+  level = innerLevel (place .level) (layoutAt page node);
 }

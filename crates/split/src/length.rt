@@ -44,17 +44,16 @@ pub fn split_len(
         let lead = indent_len(place.mark, level, cap);
         return util::capped_add(lead, line, cap);
     }
-    let v = view::view_at(page, starts, i, place.unvalued);
-    let own = v.own;
-    let end = v.end;
-    let count = v.count;
-    let front = front_at_len(page, own, place.mark, level, cap);
+    let node = view::view_at(page, starts, i, place.unvalued);
+    let end = node.base;
+    let count = node.count;
+    let front = front_at_len(page, starts, node, place.mark, level, cap);
     let left = cap - front;
-    let gap = between_at_len(page, own, level, left);
-    let minus = view::is_minus(own);
-    let operand = inner_place(page, own, with_unvalued(place, minus));
+    let gap = between_at_len(page, starts, node, level, left);
+    let minus = view::is_minus(node);
+    let operand = inner_place(page, starts, node, with_unvalued(place, minus));
     let inner = split_operands_len(page, starts, firsts, widths, end, count, operand, gap, left);
-    let rear = rear_at_len(page, own, level, left - inner);
+    let rear = rear_at_len(page, starts, node, level, left - inner);
     front + inner + rear
 }
 

@@ -7,42 +7,38 @@ pub mod write;
 
 pub use whole::prettify_len;
 pub use whole::put_prettify;
+use view::Form;
+use view::Node;
 ghost use mathlib.Core.Path.{_≡_};
 ghost use Prim.Native.Nat.{suc, _≤_};
 ghost use Rattle.text.specs.Layout.{innerMark, innerLevel};
-ghost use Rattle.view.specs.View.{layoutOn};
+ghost use Rattle.view.specs.View.{NodeAt, layoutAt};
 
 // The mark of the first operand.
-fn inner_mark(page: &[u8], own: view::Own, mark: bool) -> bool
-    ensures { λ r. ⌜ r ≡ innerMark mark (layoutOn (now (page .entry)) own) ⌝ }
+fn inner_mark(page: &[u8], starts: &[u16], node: Node, mark: bool) -> bool
+    requires { ⌜ NodeAt (now page) (now starts) node ⌝ }
+    ensures { λ r. ⌜ r ≡ innerMark mark (layoutAt (now (page .entry)) node) ⌝ }
 {
-    match own {
-        view::Own::Number(_) => true,
-        view::Own::String(_) => true,
-        view::Own::Selector(_, _) => true,
-        view::Own::Subquery(_, _, _) => mark,
-        view::Own::Unary => false,
-        view::Own::Paren => true,
-        view::Own::Binary(_, _) => mark,
-        view::Own::Aggregate(_, _) => true,
-        view::Own::Call(_) => true,
+    match view::form_of(node) {
+        Form::Whole => true,
+        Form::Minus => false,
+        Form::Suffixed => mark,
+        Form::Enclosed => true,
+        Form::Infixed => mark,
     }
 }
 
 // The level of the operands.
-fn inner_level(page: &[u8], own: view::Own, level: usize) -> usize
+fn inner_level(page: &[u8], starts: &[u16], node: Node, level: usize) -> usize
+    requires { ⌜ NodeAt (now page) (now starts) node ⌝ }
     requires { ⌜ level ≤ 256 ⌝ }
-    ensures { λ r. ⌜ (r ≡ innerLevel level (layoutOn (now (page .entry)) own)) × (r ≤ suc level) ⌝ }
+    ensures { λ r. ⌜ (r ≡ innerLevel level (layoutAt (now (page .entry)) node)) × (r ≤ suc level) ⌝ }
 {
-    match own {
-        view::Own::Number(_) => level,
-        view::Own::String(_) => level,
-        view::Own::Selector(_, _) => level,
-        view::Own::Subquery(_, _, _) => level,
-        view::Own::Unary => level,
-        view::Own::Paren => level + 1,
-        view::Own::Binary(_, _) => level + 1,
-        view::Own::Aggregate(_, _) => level + 1,
-        view::Own::Call(_) => level + 1,
+    match view::form_of(node) {
+        Form::Whole => level,
+        Form::Minus => level,
+        Form::Suffixed => level,
+        Form::Enclosed => level + 1,
+        Form::Infixed => level + 1,
     }
 }

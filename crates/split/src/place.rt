@@ -3,6 +3,7 @@ use crate::inner_level;
 use crate::inner_mark;
 ghost use mathlib.Core.Path.{_≡_};
 ghost use Prim.Native.Nat.{suc, _≤_};
+ghost use Rattle.view.specs.View.{NodeAt};
 ghost use Rattle.split.specs.Place.{withUnvalued, withMark, innerPlace};
 
 // How a tree stands in split text: whether it is known to be no bare number, whether its first line is indented, and its level.
@@ -33,12 +34,13 @@ pub fn with_mark(place: Place, mark: bool) -> Place
 }
 
 // The place of the first operand, by the node's mark and level; `unvalued` is said of the operand already.
-pub fn inner_place(page: &[u8], own: view::Own, place: Place) -> Place
+pub fn inner_place(page: &[u8], starts: &[u16], node: view::Node, place: Place) -> Place
+    requires { ⌜ NodeAt (now page) (now starts) node ⌝ }
     requires { ⌜ place .level ≤ 256 ⌝ }
-    ensures { λ r. ⌜ (r ≡ innerPlace (now (page .entry)) own place) × (r .level ≤ suc (place .level)) ⌝ }
+    ensures { λ r. ⌜ (r ≡ innerPlace (now (page .entry)) node place) × (r .level ≤ suc (place .level)) ⌝ }
 {
-    let mark = inner_mark(page, own, place.mark);
-    let level = inner_level(page, own, place.level);
+    let mark = inner_mark(page, starts, node, place.mark);
+    let level = inner_level(page, starts, node, place.level);
     Place {
         unvalued: place.unvalued,
         mark: mark,

@@ -15,7 +15,7 @@ ghost use Rattle.base.specs.Splice.{Wrote};
 ghost use Rattle.ast.specs.Tables.{Tables, stackAt, treeAt};
 ghost use Rattle.text.specs.Layout.{marked};
 ghost use Rattle.measure.specs.Known.{Known};
-ghost use Rattle.view.specs.View.{OwnLies, Unvalued};
+ghost use Rattle.view.specs.View.{NodeAt, Unvalued};
 ghost use Rattle.split.specs.Operands.{Operands};
 
 // Writes the split text of the tree that record i ends, and returns the place behind it.
@@ -41,15 +41,14 @@ pub fn write_split(
         let text = put_indent(place.mark, place.level, out, at);
         return write_text(page, starts, firsts, i, place.unvalued, out, text);
     }
-    let v = view::view_at(page, starts, i, place.unvalued);
-    let own = v.own;
-    let end = v.end;
-    let count = v.count;
-    let minus = view::is_minus(own);
-    let node = with_unvalued(place, minus);
-    let at = put_front_at(page, own, place.mark, place.level, out, at);
-    let behind = write_split_operands(page, starts, firsts, widths, own, end, count, node, out, at);
-    put_rear_at(page, own, place.level, out, behind)
+    let node = view::view_at(page, starts, i, place.unvalued);
+    let end = node.base;
+    let count = node.count;
+    let minus = view::is_minus(node);
+    let inner = with_unvalued(place, minus);
+    let at = put_front_at(page, starts, node, place.mark, place.level, out, at);
+    let behind = write_split_operands(page, starts, firsts, widths, node, end, count, inner, out, at);
+    put_rear_at(page, starts, node, place.level, out, behind)
 }
 
 // Writes the split texts of the newest expressions behind the first `end` records, `count` of them, with what the node writes between
@@ -59,7 +58,7 @@ fn write_split_operands(
     starts: &[u16],
     firsts: &[u8],
     widths: &[u8],
-    own: view::Own,
+    node: view::Node,
     end: usize,
     count: usize,
     place: Place,
@@ -68,18 +67,18 @@ fn write_split_operands(
 ) -> usize
     requires { ⌜ Tables (now page) (now starts) (now firsts) end ⌝ }
     requires { ⌜ Known (now page) (now widths) ⌝ }
-    requires { ⌜ OwnLies (now page) own ⌝ }
+    requires { ⌜ NodeAt (now page) (now starts) node ⌝ }
     requires { ⌜ count ≤ length (stackAt (now page) end) ⌝ }
     requires { ⌜ Unvalued (now page) (end - 1) (place .unvalued) ⌝ }
     requires { ⌜ place .level + end ≤ 256 ⌝ }
-    requires { ⌜ at + length (Operands (now page) own (place .mark) (place .level) count end) ≤ length (now out) ⌝ }
-    ensures { λ r. ⌜ Wrote (now (out .entry)) (now (out .exit)) at (Operands (now (page .entry)) own (place .mark) (place .level) count end) r ⌝ }
+    requires { ⌜ at + length (Operands (now page) node (place .mark) (place .level) count end) ≤ length (now out) ⌝ }
+    ensures { λ r. ⌜ Wrote (now (out .entry)) (now (out .exit)) at (Operands (now (page .entry)) node (place .mark) (place .level) count end) r ⌝ }
 {
     if count == 0 {
         return at;
     }
     let root = end - 1;
-    let inner = inner_place(page, own, place);
+    let inner = inner_place(page, starts, node, place);
     if count == 1 {
         return write_split(page, starts, firsts, widths, root, inner, out, at);
     }
@@ -87,8 +86,8 @@ fn write_split_operands(
     let end = firsts[root] as usize;
     let fewer = count - 1;
     let rest = with_unvalued(place, false);
-    let gap = write_split_operands(page, starts, firsts, widths, own, end, fewer, rest, out, at);
-    let next = put_between_at(page, own, place.level, out, gap);
+    let gap = write_split_operands(page, starts, firsts, widths, node, end, fewer, rest, out, at);
+    let next = put_between_at(page, starts, node, place.level, out, gap);
     let last = with_mark(inner, true);
     write_split(page, starts, firsts, widths, root, last, out, next)
 }

@@ -67,7 +67,7 @@ aggregator-of-requires : tie.Need-aggregator-of-requires
 aggregator-of-requires c κs = search needs
 
 aggregator-len-requires : tie.Need-aggregator-len-requires
-aggregator-len-requires c κs = rw (c .before .own4 .given .1) at (c .before .before .before .before .pre)
+aggregator-len-requires c κs = search needs
 
 enum-told-9 : tie.Need-enum-told-9
 enum-told-9 c = search needs

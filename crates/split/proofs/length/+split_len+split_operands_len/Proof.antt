@@ -87,13 +87,13 @@ split-len-view-at-requires : (t : ℕ) → split-len-lts.Need-view-at-requires (
 split-len-view-at-requires t c κs = (starts-of (c .before .before .before .before .before .before .before .pre .1 .0), c .before .before .before .before .before .before .before .pre .1 .1 .1 .0)
 
 split-len-front-at-len-requires : (t : ℕ) → split-len-lts.Need-front-at-len-requires (split-len-claims t) (split-len-at t) split-len.Post
-split-len-front-at-len-requires t c κs = (c .view-at .ensures .lies, omega (arith, c .before .before .before .before .before .before .before .before .pre .1 .1 .1 .1))
+split-len-front-at-len-requires t c κs = (c .view-at .ensures .stands, omega (arith, c .before .before .before .before .before .before .before .before .pre .1 .1 .1 .1))
 
 split-len-sub-left : (t : ℕ) → split-len-lts.Need-sub-left (split-len-claims t) (split-len-at t) split-len.Post
 split-len-sub-left t c = omega (arith, c .front-at-len .ensures)
 
 split-len-between-at-len-requires : (t : ℕ) → split-len-lts.Need-between-at-len-requires (split-len-claims t) (split-len-at t) split-len.Post
-split-len-between-at-len-requires t c κs = (c .before .view-at .ensures .lies, omega (arith, c .before .before .before .before .before .before .before .before .before .pre .1 .1 .1 .1))
+split-len-between-at-len-requires t c κs = (c .before .view-at .ensures .stands, omega (arith, c .before .before .before .before .before .before .before .before .before .pre .1 .1 .1 .1))
 
 split-len-is-minus-requires : (t : ℕ) → split-len-lts.Need-is-minus-requires (split-len-claims t) (split-len-at t) split-len.Post
 split-len-is-minus-requires t c κs = search needs
@@ -102,7 +102,7 @@ split-len-with-unvalued-requires : (t : ℕ) → split-len-lts.Need-with-unvalue
 split-len-with-unvalued-requires t c κs = search needs
 
 split-len-inner-place-requires : (t : ℕ) → split-len-lts.Need-inner-place-requires (split-len-claims t) (split-len-at t) split-len.Post
-split-len-inner-place-requires t c κs = rw (c .with-unvalued .ensures) (omega (arith, c .before .before .before .before .before .before .before .before .before .before .before .before .pre .1 .1 .1 .1))
+split-len-inner-place-requires t c κs = (c .before .before .before .before .view-at .ensures .stands, rw (c .with-unvalued .ensures) (omega (arith, c .before .before .before .before .before .before .before .before .before .before .before .before .pre .1 .1 .1 .1)))
 
 split-len-split-operands-len-requires : (t : ℕ) → split-len-lts.Need-split-operands-len-requires (split-len-claims t) (split-len-at t) split-len.Post
 split-len-split-operands-len-requires t c κs =
@@ -113,7 +113,7 @@ split-len-sub-rear-at-len : (t : ℕ) → split-len-lts.Need-sub-rear-at-len (sp
 split-len-sub-rear-at-len t c = omega (arith, c .split-operands-len .ensures .bound)
 
 split-len-rear-at-len-requires : (t : ℕ) → split-len-lts.Need-rear-at-len-requires (split-len-claims t) (split-len-at t) split-len.Post
-split-len-rear-at-len-requires t c κs = (c .before .before .before .before .before .before .view-at .ensures .lies, omega (arith, c .before .before .before .before .before .before .before .before .before .before .before .before .before .before .pre .1 .1 .1 .1))
+split-len-rear-at-len-requires t c κs = (c .before .before .before .before .before .before .view-at .ensures .stands, omega (arith, c .before .before .before .before .before .before .before .before .before .before .before .before .before .before .pre .1 .1 .1 .1))
 
 split-len-add-result : (t : ℕ) → split-len-lts.Need-add-result (split-len-claims t) (split-len-at t) split-len.Post
 split-len-add-result t c = omega (arith, c .before .before .before .before .before .before .front-at-len .ensures, c .before .split-operands-len .ensures .bound, c .before .before .before .before .before .before .before .before .before .before .before .before .before .before .before .fits)

@@ -3,7 +3,7 @@
 use Rattle.split.proofs.SplitLaws.{fits-line, over-line, run-line, run-split}
 use Rattle.view.proofs.NodeLaws.{minus-unvalued}
 use Rattle.view.proofs.ViewLaws.{starts-of, unmarked}
-use Rattle.view.specs.View.{layoutOn}
+use Rattle.view.specs.View.{layoutAt}
 use Rattle.text.proofs.WriteLaws.{wrote-nothing, wrote-as, text-none, text-one, run-more}
 use Rattle.text.proofs.LengthLaws.{last-operand, fewer-operands}
 use Rattle.text.proofs.OperandLaws.{fewer}
@@ -99,38 +99,38 @@ write-split-with-unvalued-requires : (t : ℕ) → write-split-lts.Need-with-unv
 write-split-with-unvalued-requires t c κs = search needs
 
 write-split-put-front-at-requires : (t : ℕ) → write-split-lts.Need-put-front-at-requires (write-split-claims t) (write-split-at t) write-split.Post
-write-split-put-front-at-requires t c κs = (c .before .before .before .view-at .ensures .lies, fits (run-split (c .before .before .before .before .before .before .before .before .before .before .before .pre .1 .0) (c .before .before .before .view-at .ensures .seen) _ _ (over-line _ _ (c .before .before .before .before .before .width .ensures) (c .before .before .before .before .if1 .left)) (c .before .before .before .before .before .before .before .before .before .before .before .args .out .now) (c .before .before .before .before .before .before .before .before .before .before .before .args .at) (c .before .before .before .before .before .before .before .before .before .before .before .pre .1 .1 .1 .1 .1)))
+write-split-put-front-at-requires t c κs = (c .before .before .before .view-at .ensures .stands, fits (run-split (c .before .before .before .before .before .before .before .before .before .before .before .pre .1 .0) (c .before .before .before .view-at .ensures .seen) _ _ (over-line _ _ (c .before .before .before .before .before .width .ensures) (c .before .before .before .before .if1 .left)) (c .before .before .before .before .before .before .before .before .before .before .before .args .out .now) (c .before .before .before .before .before .before .before .before .before .before .before .args .at) (c .before .before .before .before .before .before .before .before .before .before .before .pre .1 .1 .1 .1 .1)))
 
 write-split-write-split-operands-requires : (t : ℕ) → write-split-lts.Need-write-split-operands-requires (write-split-claims t) (write-split-at t) write-split.Post
 write-split-write-split-operands-requires t c κs =
     let seen = c .before .before .before .before .before .before .before .view-at .ensures .seen in
     let run = next (run-split (c .before .before .before .before .before .before .before .before .before .before .before .before .before .before .before .pre .1 .0) seen _ _ (over-line _ _ (c .before .before .before .before .before .before .before .before .before .width .ensures) (c .before .before .before .before .before .before .before .before .if1 .left)) (c .before .before .before .before .before .before .before .before .before .before .before .before .before .before .before .args .out .now) (c .before .before .before .before .before .before .before .before .before .before .before .before .before .before .before .args .at) (c .before .before .before .before .before .before .before .before .before .before .before .before .before .before .before .pre .1 .1 .1 .1 .1)) (c .before .before .before .put-front-at .ensures) in
-    (omega (arith, seen .low, c .before .before .before .before .before .before .before .before .before .before .before .before .before .before .before .pre .0), (fewer (c .before .before .before .before .before .before .before .before .before .before .before .before .before .before .before .pre .1 .0) (omega (arith, seen .low)), (c .before .before .before .before .before .before .before .before .before .before .before .before .before .before .before .pre .1 .1 .0, (c .before .before .before .before .before .before .before .view-at .ensures .lies, (seen .enough, rw (c .before .before .before .before .before .with-unvalued .ensures, c .before .before .before .before .before .before .is-minus .ensures) (minus-unvalued (c .before .before .before .before .before .before .before .view-at .ensures), (omega (arith, seen .low, c .before .before .before .before .before .before .before .before .before .before .before .before .before .before .before .pre .1 .1 .1 .1 .0), fits run)))))))
+    (omega (arith, seen .low, c .before .before .before .before .before .before .before .before .before .before .before .before .before .before .before .pre .0), (fewer (c .before .before .before .before .before .before .before .before .before .before .before .before .before .before .before .pre .1 .0) (omega (arith, seen .low)), (c .before .before .before .before .before .before .before .before .before .before .before .before .before .before .before .pre .1 .1 .0, (c .before .before .before .before .before .before .before .view-at .ensures .stands, (seen .enough, rw (c .before .before .before .before .before .with-unvalued .ensures, c .before .before .before .before .before .before .is-minus .ensures) (minus-unvalued (c .before .before .before .before .before .before .before .view-at .ensures), (omega (arith, seen .low, c .before .before .before .before .before .before .before .before .before .before .before .before .before .before .before .pre .1 .1 .1 .1 .0), fits run)))))))
 
 write-split-put-rear-at-requires : (t : ℕ) → write-split-lts.Need-put-rear-at-requires (write-split-claims t) (write-split-at t) write-split.Post
-write-split-put-rear-at-requires t c κs = (c .before .before .before .before .before .before .before .before .before .before .before .view-at .ensures .lies, fits (next (next (run-split (c .before .before .before .before .before .before .before .before .before .before .before .before .before .before .before .before .before .before .before .pre .1 .0) (c .before .before .before .before .before .before .before .before .before .before .before .view-at .ensures .seen) _ _ (over-line _ _ (c .before .before .before .before .before .before .before .before .before .before .before .before .before .width .ensures) (c .before .before .before .before .before .before .before .before .before .before .before .before .if1 .left)) (c .before .before .before .before .before .before .before .before .before .before .before .before .before .before .before .before .before .before .before .args .out .now) (c .before .before .before .before .before .before .before .before .before .before .before .before .before .before .before .before .before .before .before .args .at) (c .before .before .before .before .before .before .before .before .before .before .before .before .before .before .before .before .before .before .before .pre .1 .1 .1 .1 .1)) (c .before .before .before .before .before .before .before .put-front-at .ensures)) (rw (c .before .before .before .before .before .before .before .before .before .with-unvalued .ensures) at (c .before .before .before .write-split-operands .ensures))))
+write-split-put-rear-at-requires t c κs = (c .before .before .before .before .before .before .before .before .before .before .before .view-at .ensures .stands, fits (next (next (run-split (c .before .before .before .before .before .before .before .before .before .before .before .before .before .before .before .before .before .before .before .pre .1 .0) (c .before .before .before .before .before .before .before .before .before .before .before .view-at .ensures .seen) _ _ (over-line _ _ (c .before .before .before .before .before .before .before .before .before .before .before .before .before .width .ensures) (c .before .before .before .before .before .before .before .before .before .before .before .before .if1 .left)) (c .before .before .before .before .before .before .before .before .before .before .before .before .before .before .before .before .before .before .before .args .out .now) (c .before .before .before .before .before .before .before .before .before .before .before .before .before .before .before .before .before .before .before .args .at) (c .before .before .before .before .before .before .before .before .before .before .before .before .before .before .before .before .before .before .before .pre .1 .1 .1 .1 .1)) (c .before .before .before .before .before .before .before .put-front-at .ensures)) (rw (c .before .before .before .before .before .before .before .before .before .with-unvalued .ensures) at (c .before .before .before .write-split-operands .ensures))))
 
 write-split-same-length-2 : (t : ℕ) → write-split-lts.Need-same-length-2 (write-split-claims t) (write-split-at t) write-split.Post
-write-split-same-length-2 t c = c .before .before .put-rear-at .kept .1 .1 .1 .0 ∙ c .before .before .before .before .before .before .write-split-operands .kept .1 .1 .1 .1 .1 .1 .1 .1 .0 ∙ c .before .before .before .before .before .before .before .before .before .before .put-front-at .kept .1 .1 .1 .1 .0
+write-split-same-length-2 t c = c .before .before .put-rear-at .kept .1 .1 .1 .1 .0 ∙ c .before .before .before .before .before .before .write-split-operands .kept .1 .1 .1 .1 .1 .1 .1 .1 .0 ∙ c .before .before .before .before .before .before .before .before .before .before .put-front-at .kept .1 .1 .1 .1 .1 .0
 
 write-split-returns-2 : (t : ℕ) → write-split-lts.Need-returns-2 (write-split-claims t) (write-split-at t) write-split.Post
 write-split-returns-2 t c = end (next (next (next (run-split (c .before .before .before .before .before .before .before .before .before .before .before .before .before .before .before .before .before .before .before .before .before .before .pre .1 .0) (c .before .before .before .before .before .before .before .before .before .before .before .before .before .before .view-at .ensures .seen) _ _ (over-line _ _ (c .before .before .before .before .before .before .before .before .before .before .before .before .before .before .before .before .width .ensures) (c .before .before .before .before .before .before .before .before .before .before .before .before .before .before .before .if1 .left)) (c .before .before .before .before .before .before .before .before .before .before .before .before .before .before .before .before .before .before .before .before .before .before .args .out .now) (c .before .before .before .before .before .before .before .before .before .before .before .before .before .before .before .before .before .before .before .before .before .before .args .at) (c .before .before .before .before .before .before .before .before .before .before .before .before .before .before .before .before .before .before .before .before .before .before .pre .1 .1 .1 .1 .1)) (c .before .before .before .before .before .before .before .before .before .before .put-front-at .ensures)) (rw (c .before .before .before .before .before .before .before .before .before .before .before .before .with-unvalued .ensures) at (c .before .before .before .before .before .before .write-split-operands .ensures))) (c .before .before .put-rear-at .ensures))
 
 write-split-operands-returns : (t : ℕ) → write-split-operands-lts.Need-returns (write-split-operands-claims t) (write-split-operands-at t) write-split-operands.Post
 write-split-operands-returns t c =
-    let own = layoutOn (c .before .before .before .before .before .before .args .page .now) (c .before .before .before .before .before .before .args .own) in
+    let own = layoutAt (c .before .before .before .before .before .before .args .page .now) (c .before .before .before .before .before .before .args .node) in
     wrote-nothing _ _ (text-none (marked (innerMark (c .before .before .before .before .before .before .args .place .mark) own) (innerLevel (c .before .before .before .before .before .before .args .place .level) own)) (marked true (innerLevel (c .before .before .before .before .before .before .args .place .level) own)) (c .before .before .before .before .before .before .pre .1 .0) _ (c .before .before .before .before .before .before .pre .1 .1 .1 .1 .0) (betweenAt (c .before .before .before .before .before .before .args .place .level) own) (c .if1 .taken))
 
 write-split-operands-sub-root : (t : ℕ) → write-split-operands-lts.Need-sub-root (write-split-operands-claims t) (write-split-operands-at t) write-split-operands.Post
 write-split-operands-sub-root t c = last-operand (c .before .before .before .before .before .before .pre .1 .0) _ (c .before .before .before .before .before .before .pre .1 .1 .1 .1 .0) (c .if1 .left) .some
 
 write-split-operands-inner-place-requires : (t : ℕ) → write-split-operands-lts.Need-inner-place-requires (write-split-operands-claims t) (write-split-operands-at t) write-split-operands.Post
-write-split-operands-inner-place-requires t c κs = omega (arith, c .before .before .before .before .before .before .pre .1 .1 .1 .1 .1 .1 .0)
+write-split-operands-inner-place-requires t c κs = (c .before .before .before .before .before .before .pre .1 .1 .1 .0, omega (arith, c .before .before .before .before .before .before .pre .1 .1 .1 .1 .1 .1 .0))
 
 write-split-operands-write-split-requires : (t : ℕ) → write-split-operands-lts.Need-write-split-requires (write-split-operands-claims t) (write-split-operands-at t) write-split-operands.Post
 write-split-operands-write-split-requires t c κs =
     let w = last-operand (c .before .before .before .before .before .before .before .before .before .pre .1 .0) _ (c .before .before .before .before .before .before .before .before .before .pre .1 .1 .1 .1 .0) (c .before .before .before .if1 .left) in
-    let own = layoutOn (c .before .before .before .before .before .before .before .before .before .args .page .now) (c .before .before .before .before .before .before .before .before .before .args .own) in
+    let own = layoutAt (c .before .before .before .before .before .before .before .before .before .args .page .now) (c .before .before .before .before .before .before .before .before .before .args .node) in
     let one = text-one (marked (innerMark (c .before .before .before .before .before .before .before .before .before .args .place .mark) own) (innerLevel (c .before .before .before .before .before .before .before .before .before .args .place .level) own)) (marked true (innerLevel (c .before .before .before .before .before .before .before .before .before .args .place .level) own)) (c .before .before .before .before .before .before .before .before .before .pre .1 .0) _ (c .before .before .before .before .before .before .before .before .before .pre .1 .1 .1 .1 .0) (betweenAt (c .before .before .before .before .before .before .before .before .before .args .place .level) own) (c .before .if2 .taken) in
     (omega (arith, w .some, c .before .before .before .before .before .before .before .before .before .pre .0), (fewer (c .before .before .before .before .before .before .before .before .before .pre .1 .0) (omega (arith, w .some)), (c .before .before .before .before .before .before .before .before .before .pre .1 .1 .0, (rw (c .before .before .inner-place .ensures .0) (c .before .before .before .before .before .before .before .before .before .pre .1 .1 .1 .1 .1 .0), (omega (arith, w .some, c .before .before .before .before .before .before .before .before .before .pre .1 .1 .1 .1 .1 .1 .0, c .before .before .inner-place .ensures .1), rw (c .before .before .inner-place .ensures .0) (omega (arith, ap length one, c .before .before .before .before .before .before .before .before .before .pre .1 .1 .1 .1 .1 .1 .1)))))))
 
@@ -139,7 +139,7 @@ write-split-operands-same-length t c = c .before .before .write-split .kept .1 .
 
 write-split-operands-returns-2 : (t : ℕ) → write-split-operands-lts.Need-returns-2 (write-split-operands-claims t) (write-split-operands-at t) write-split-operands.Post
 write-split-operands-returns-2 t c =
-    let own = layoutOn (c .before .before .before .before .before .before .before .before .before .before .before .before .args .page .now) (c .before .before .before .before .before .before .before .before .before .before .before .before .args .own) in
+    let own = layoutAt (c .before .before .before .before .before .before .before .before .before .before .before .before .args .page .now) (c .before .before .before .before .before .before .before .before .before .before .before .before .args .node) in
     let one = text-one (marked (innerMark (c .before .before .before .before .before .before .before .before .before .before .before .before .args .place .mark) own) (innerLevel (c .before .before .before .before .before .before .before .before .before .before .before .before .args .place .level) own)) (marked true (innerLevel (c .before .before .before .before .before .before .before .before .before .before .before .before .args .place .level) own)) (c .before .before .before .before .before .before .before .before .before .before .before .before .pre .1 .0) _ (c .before .before .before .before .before .before .before .before .before .before .before .before .pre .1 .1 .1 .1 .0) (betweenAt (c .before .before .before .before .before .before .before .before .before .before .before .before .args .place .level) own) (c .before .before .before .before .if2 .taken) in
     wrote-as one (rw (c .before .before .before .before .before .inner-place .ensures .0) at (c .before .before .write-split .ensures))
 
@@ -158,13 +158,13 @@ write-split-operands-with-unvalued-requires t c κs = search needs
 write-split-operands-write-split-operands-requires : (t : ℕ) → write-split-operands-lts.Need-write-split-operands-requires (write-split-operands-claims t) (write-split-operands-at t) write-split-operands.Post
 write-split-operands-write-split-operands-requires t c κs =
     let w = last-operand (c .before .before .before .before .before .before .before .before .before .before .before .pre .1 .0) _ (c .before .before .before .before .before .before .before .before .before .before .before .pre .1 .1 .1 .1 .0) (c .before .before .before .before .before .if1 .left) in
-    let own = layoutOn (c .before .before .before .before .before .before .before .before .before .before .before .args .page .now) (c .before .before .before .before .before .before .before .before .before .before .before .args .own) in
+    let own = layoutAt (c .before .before .before .before .before .before .before .before .before .before .before .args .page .now) (c .before .before .before .before .before .before .before .before .before .before .before .args .node) in
     let run = run-more (marked (innerMark (c .before .before .before .before .before .before .before .before .before .before .before .args .place .mark) own) (innerLevel (c .before .before .before .before .before .before .before .before .before .before .before .args .place .level) own)) (marked true (innerLevel (c .before .before .before .before .before .before .before .before .before .before .before .args .place .level) own)) (c .before .before .before .before .before .before .before .before .before .before .before .pre .1 .0) _ (c .before .before .before .before .before .before .before .before .before .before .before .pre .1 .1 .1 .1 .0) (betweenAt (c .before .before .before .before .before .before .before .before .before .before .before .args .place .level) own) (c .before .before .before .before .before .if1 .left) (c .before .before .before .if2 .left) (c .before .before .before .before .before .before .before .before .before .before .before .args .out .now) (c .before .before .before .before .before .before .before .before .before .before .before .args .at) (c .before .before .before .before .before .before .before .before .before .before .before .pre .1 .1 .1 .1 .1 .1 .1) in
     (omega (arith, w .low, c .before .before .before .before .before .before .before .before .before .before .before .pre .0), (fewer (c .before .before .before .before .before .before .before .before .before .before .before .pre .1 .0) (omega (arith, w .low)), (c .before .before .before .before .before .before .before .before .before .before .before .pre .1 .1 .0, (c .before .before .before .before .before .before .before .before .before .before .before .pre .1 .1 .1 .0, (fewer-operands (c .before .before .before .before .before .before .before .before .before .before .before .pre .1 .0) _ (c .before .before .before .before .before .before .before .before .before .before .before .pre .1 .1 .1 .1 .0) (c .before .before .before .before .before .if1 .left), rw (c .before .with-unvalued .ensures) (unmarked _ _, (omega (arith, w .low, c .before .before .before .before .before .before .before .before .before .before .before .pre .1 .1 .1 .1 .1 .1 .0), fits run)))))))
 
 write-split-operands-put-between-at-requires : (t : ℕ) → write-split-operands-lts.Need-put-between-at-requires (write-split-operands-claims t) (write-split-operands-at t) write-split-operands.Post
 write-split-operands-put-between-at-requires t c κs =
-    let own = layoutOn (c .before .before .before .before .before .before .before .before .before .before .before .before .before .before .before .args .page .now) (c .before .before .before .before .before .before .before .before .before .before .before .before .before .before .before .args .own) in
+    let own = layoutAt (c .before .before .before .before .before .before .before .before .before .before .before .before .before .before .before .args .page .now) (c .before .before .before .before .before .before .before .before .before .before .before .before .before .before .before .args .node) in
     let run = run-more (marked (innerMark (c .before .before .before .before .before .before .before .before .before .before .before .before .before .before .before .args .place .mark) own) (innerLevel (c .before .before .before .before .before .before .before .before .before .before .before .before .before .before .before .args .place .level) own)) (marked true (innerLevel (c .before .before .before .before .before .before .before .before .before .before .before .before .before .before .before .args .place .level) own)) (c .before .before .before .before .before .before .before .before .before .before .before .before .before .before .before .pre .1 .0) _ (c .before .before .before .before .before .before .before .before .before .before .before .before .before .before .before .pre .1 .1 .1 .1 .0) (betweenAt (c .before .before .before .before .before .before .before .before .before .before .before .before .before .before .before .args .place .level) own) (c .before .before .before .before .before .before .before .before .before .if1 .left) (c .before .before .before .before .before .before .before .if2 .left) (c .before .before .before .before .before .before .before .before .before .before .before .before .before .before .before .args .out .now) (c .before .before .before .before .before .before .before .before .before .before .before .before .before .before .before .args .at) (c .before .before .before .before .before .before .before .before .before .before .before .before .before .before .before .pre .1 .1 .1 .1 .1 .1 .1) in
     (c .before .before .before .before .before .before .before .before .before .before .before .before .before .before .before .pre .1 .1 .1 .0, fits (next run (rw (c .before .before .before .before .before .with-unvalued .ensures) at (c .before .before .before .write-split-operands .ensures))))
 
@@ -174,16 +174,16 @@ write-split-operands-with-mark-requires t c κs = search needs
 write-split-operands-write-split-requires-2 : (t : ℕ) → write-split-operands-lts.Need-write-split-requires-2 (write-split-operands-claims t) (write-split-operands-at t) write-split-operands.Post
 write-split-operands-write-split-requires-2 t c κs =
     let w = last-operand (c .before .before .before .before .before .before .before .before .before .before .before .before .before .before .before .before .before .before .before .before .pre .1 .0) _ (c .before .before .before .before .before .before .before .before .before .before .before .before .before .before .before .before .before .before .before .before .pre .1 .1 .1 .1 .0) (c .before .before .before .before .before .before .before .before .before .before .before .before .before .before .if1 .left) in
-    let own = layoutOn (c .before .before .before .before .before .before .before .before .before .before .before .before .before .before .before .before .before .before .before .before .args .page .now) (c .before .before .before .before .before .before .before .before .before .before .before .before .before .before .before .before .before .before .before .before .args .own) in
+    let own = layoutAt (c .before .before .before .before .before .before .before .before .before .before .before .before .before .before .before .before .before .before .before .before .args .page .now) (c .before .before .before .before .before .before .before .before .before .before .before .before .before .before .before .before .before .before .before .before .args .node) in
     let run = run-more (marked (innerMark (c .before .before .before .before .before .before .before .before .before .before .before .before .before .before .before .before .before .before .before .before .args .place .mark) own) (innerLevel (c .before .before .before .before .before .before .before .before .before .before .before .before .before .before .before .before .before .before .before .before .args .place .level) own)) (marked true (innerLevel (c .before .before .before .before .before .before .before .before .before .before .before .before .before .before .before .before .before .before .before .before .args .place .level) own)) (c .before .before .before .before .before .before .before .before .before .before .before .before .before .before .before .before .before .before .before .before .pre .1 .0) _ (c .before .before .before .before .before .before .before .before .before .before .before .before .before .before .before .before .before .before .before .before .pre .1 .1 .1 .1 .0) (betweenAt (c .before .before .before .before .before .before .before .before .before .before .before .before .before .before .before .before .before .before .before .before .args .place .level) own) (c .before .before .before .before .before .before .before .before .before .before .before .before .before .before .if1 .left) (c .before .before .before .before .before .before .before .before .before .before .before .before .if2 .left) (c .before .before .before .before .before .before .before .before .before .before .before .before .before .before .before .before .before .before .before .before .args .out .now) (c .before .before .before .before .before .before .before .before .before .before .before .before .before .before .before .before .before .before .before .before .args .at) (c .before .before .before .before .before .before .before .before .before .before .before .before .before .before .before .before .before .before .before .before .pre .1 .1 .1 .1 .1 .1 .1) in
     (omega (arith, w .some, c .before .before .before .before .before .before .before .before .before .before .before .before .before .before .before .before .before .before .before .before .pre .0), (fewer (c .before .before .before .before .before .before .before .before .before .before .before .before .before .before .before .before .before .before .before .before .pre .1 .0) (omega (arith, w .some)), (c .before .before .before .before .before .before .before .before .before .before .before .before .before .before .before .before .before .before .before .before .pre .1 .1 .0, (rw (c .before .with-mark .ensures, c .before .before .before .before .before .before .before .before .before .before .before .before .before .inner-place .ensures .0) (c .before .before .before .before .before .before .before .before .before .before .before .before .before .before .before .before .before .before .before .before .pre .1 .1 .1 .1 .1 .0), (rw (c .before .with-mark .ensures) (omega (arith, w .some, c .before .before .before .before .before .before .before .before .before .before .before .before .before .before .before .before .before .before .before .before .pre .1 .1 .1 .1 .1 .1 .0, c .before .before .before .before .before .before .before .before .before .before .before .before .before .inner-place .ensures .1)), rw (c .before .with-mark .ensures, c .before .before .before .before .before .before .before .before .before .before .before .before .before .inner-place .ensures .0) (fits (next (next run (rw (c .before .before .before .before .before .before .before .before .before .before .with-unvalued .ensures) at (c .before .before .before .before .before .before .before .before .write-split-operands .ensures))) (c .before .before .before .before .put-between-at .ensures))))))))
 
 write-split-operands-same-length-2 : (t : ℕ) → write-split-operands-lts.Need-same-length-2 (write-split-operands-claims t) (write-split-operands-at t) write-split-operands.Post
-write-split-operands-same-length-2 t c = c .before .before .write-split2 .kept .1 .1 .1 .1 .1 .1 .0 ∙ c .before .before .before .before .before .before .before .put-between-at .kept .1 .1 .1 .0 ∙ c .before .before .before .before .before .before .before .before .before .before .before .write-split-operands .kept .1 .1 .1 .1 .1 .1 .1 .1 .0
+write-split-operands-same-length-2 t c = c .before .before .write-split2 .kept .1 .1 .1 .1 .1 .1 .0 ∙ c .before .before .before .before .before .before .before .put-between-at .kept .1 .1 .1 .1 .0 ∙ c .before .before .before .before .before .before .before .before .before .before .before .write-split-operands .kept .1 .1 .1 .1 .1 .1 .1 .1 .0
 
 write-split-operands-returns-3 : (t : ℕ) → write-split-operands-lts.Need-returns-3 (write-split-operands-claims t) (write-split-operands-at t) write-split-operands.Post
 write-split-operands-returns-3 t c =
-    let own = layoutOn (c .before .before .before .before .before .before .before .before .before .before .before .before .before .before .before .before .before .before .before .before .before .before .before .args .page .now) (c .before .before .before .before .before .before .before .before .before .before .before .before .before .before .before .before .before .before .before .before .before .before .before .args .own) in
+    let own = layoutAt (c .before .before .before .before .before .before .before .before .before .before .before .before .before .before .before .before .before .before .before .before .before .before .before .args .page .now) (c .before .before .before .before .before .before .before .before .before .before .before .before .before .before .before .before .before .before .before .before .before .before .before .args .node) in
     let run = run-more (marked (innerMark (c .before .before .before .before .before .before .before .before .before .before .before .before .before .before .before .before .before .before .before .before .before .before .before .args .place .mark) own) (innerLevel (c .before .before .before .before .before .before .before .before .before .before .before .before .before .before .before .before .before .before .before .before .before .before .before .args .place .level) own)) (marked true (innerLevel (c .before .before .before .before .before .before .before .before .before .before .before .before .before .before .before .before .before .before .before .before .before .before .before .args .place .level) own)) (c .before .before .before .before .before .before .before .before .before .before .before .before .before .before .before .before .before .before .before .before .before .before .before .pre .1 .0) _ (c .before .before .before .before .before .before .before .before .before .before .before .before .before .before .before .before .before .before .before .before .before .before .before .pre .1 .1 .1 .1 .0) (betweenAt (c .before .before .before .before .before .before .before .before .before .before .before .before .before .before .before .before .before .before .before .before .before .before .before .args .place .level) own) (c .before .before .before .before .before .before .before .before .before .before .before .before .before .before .before .before .before .if1 .left) (c .before .before .before .before .before .before .before .before .before .before .before .before .before .before .before .if2 .left) (c .before .before .before .before .before .before .before .before .before .before .before .before .before .before .before .before .before .before .before .before .before .before .before .args .out .now) (c .before .before .before .before .before .before .before .before .before .before .before .before .before .before .before .before .before .before .before .before .before .before .before .args .at) (c .before .before .before .before .before .before .before .before .before .before .before .before .before .before .before .before .before .before .before .before .before .before .before .pre .1 .1 .1 .1 .1 .1 .1) in
     end (next (next (next run (rw (c .before .before .before .before .before .before .before .before .before .before .before .before .before .with-unvalued .ensures) at (c .before .before .before .before .before .before .before .before .before .before .before .write-split-operands .ensures))) (c .before .before .before .before .before .before .before .put-between-at .ensures)) (rw (c .before .before .before .before .with-mark .ensures, c .before .before .before .before .before .before .before .before .before .before .before .before .before .before .before .before .inner-place .ensures .0) at (c .before .before .write-split2 .ensures)))
 
