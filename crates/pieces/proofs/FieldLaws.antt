@@ -6,7 +6,7 @@ use mathlib.Core.Path.{_≡_, refl, sym, ap, ap₂, subst, _∙_}
 use mathlib.Core.Bool.{Bool, true, false, _||_}
 use mathlib.Core.List.{List, [], _∷_, _++_}
 use mathlib.Core.Option.{Option, none, some}
-use lib.ListN.{drop, getD}
+use lib.ListN.{length, drop, getD}
 use lib.Dec.{eqb}
 use borrow.Author.Tests.{eqb-true, ne-eqb}
 use Prim.{tt}
@@ -16,8 +16,8 @@ use Rattle.page.specs.Bytes.{bytes}
 use Rattle.page.specs.Read.{FieldFault, Read, refused, got, Reader, andThen, _>>=_, return, repeat}
 use Rattle.page.specs.Number.{readNumber}
 use Rattle.page.specs.Text.{Text, readAnyText, readMetricName, readFunctionName, readCount, readList}
-use Rattle.page.specs.Listed.{listed}
-use Rattle.page.proofs.ListLaws.{read-listed}
+use Rattle.page.specs.Listed.{listed, AllRead}
+use Rattle.page.proofs.ListLaws.{read-listed, read-length}
 use Rattle.records.specs.Kind.{Kind}
 use Rattle.records.specs.Literal as literal
 use Rattle.records.specs.Field.{readKind, readOption}
@@ -126,24 +126,27 @@ module _ {page starts : List ℕ} {node : Node} (n : NodeAt page starts node) wh
     abbrev selectorMore : Text → Reader Record
     selectorMore t = readList matcher.readMatcher >>= λ ms. return (leaf (selector (record { name = t; matchers = ms })))
 
+    selector-fields : {t : Text} {r : List ℕ} {m : Read ℕ} → got t r ≡ readMetricName (drop (getD starts (node .base) 0 + 1) page) → m ≡ readCount r
+        → readRecord (drop (getD starts (node .base) 0) page)
+        ≡ andThen (andThen m (λ k. repeat k matcher.readMatcher)) (λ ms. return (leaf (selector (record { name = t; matchers = ms }))))
+    selector-fields {t} e h =
+        first-field base-known (foot-is f) readMetricName selectorMore (λ s. refl) e
+        ∙ ap (λ (m : Read ℕ). andThen (andThen m (λ k. repeat k matcher.readMatcher)) (λ ms. return (leaf (selector (record { name = t; matchers = ms }))))) (sym h)
+
     pub selector-reads : {t : Text} {r r′ : List ℕ} {count : ℕ} → got t r ≡ readMetricName (drop (getD starts (node .base) 0 + 1) page) → got count r′ ≡ readCount r
         → Reads page starts (node .base) (leaf (selector (record { name = t; matchers = listed matcher.readMatcher count r′ })))
+        × AllRead matcher.readMatcher count r′
     selector-reads {t} {r} {r′} {count} e h =
-        readable base-known (repeat count matcher.readMatcher r′) (λ ms. return (leaf (selector (record { name = t; matchers = ms }))))
-        (first-field base-known (foot-is f) readMetricName selectorMore (λ s. refl) e
-        ∙ ap (λ (m : Read ℕ). andThen (andThen m (λ k. repeat k matcher.readMatcher)) (λ ms. return (leaf (selector (record { name = t; matchers = ms }))))) (sym h))
-        (λ ms rest q is. record {
-          rest = rest;
-          reads = ap (λ (x : List matcher.Matcher). got (leaf (selector (record { name = t; matchers = x }))) rest) (read-listed matcher.readMatcher count r′ (sym q)) ∙ sym is;
-        })
+        readable base-known (repeat count matcher.readMatcher r′) (λ ms. return (leaf (selector (record { name = t; matchers = ms })))) (selector-fields e h) (λ ms rest q is.
+        let same = read-listed matcher.readMatcher count r′ (sym q) in
+        (record { rest = rest; reads = ap (λ (x : List matcher.Matcher). got (leaf (selector (record { name = t; matchers = x }))) rest) same ∙ sym is },
+        ap length same ∙ read-length matcher.readMatcher count r′ (sym q)))
 
     pub name-there : {x : FieldFault} → refused x ≡ readMetricName (drop (getD starts (node .base) 0 + 1) page) → ⊥
     name-there = no-field base-known (foot-is f) readMetricName selectorMore (λ s. refl)
 
     pub matchers-there : {t : Text} {r : List ℕ} {x : FieldFault} → got t r ≡ readMetricName (drop (getD starts (node .base) 0 + 1) page) → refused x ≡ readCount r → ⊥
-    matchers-there {t} e h =
-        never (first-field base-known (foot-is f) readMetricName selectorMore (λ s. refl) e
-        ∙ ap (λ (m : Read ℕ). andThen (andThen m (λ k. repeat k matcher.readMatcher)) (λ ms. return (leaf (selector (record { name = t; matchers = ms }))))) (sym h))
+    matchers-there e h = never (selector-fields e h)
 
   module _ (f : node .foot ≡ foot.Subquery) where
     abbrev spacingMore : ℕ → Reader Record

@@ -5,7 +5,7 @@ use view::Node;
 ghost use mathlib.Core.Path.{_≡_};
 ghost use mathlib.Core.Bool.{false};
 ghost use Rattle.page.specs.Answers.{spanOn, Lies};
-ghost use Rattle.records.specs.Answers.{literalOf, stepOf, modifierOn, labelModifierOn};
+ghost use Rattle.records.specs.Answers.{literalOf, stepOf, modifierOn, ModifierStored, labelModifierOn, LabelModifierStored};
 ghost use Rattle.records.specs.Record.{leaf, selector, wrapper, subquery};
 ghost use Rattle.float.specs.Exact.{ModifierExact};
 ghost use Rattle.reader.specs.Answers.{selectorOn};
@@ -131,6 +131,7 @@ pub fn operator_of(page: &[u8], starts: &[u16], node: Node) -> Operator
     requires { ⌜ NodeAt (now page) (now starts) node ⌝ }
     requires { ⌜ node .foot ≡ Foot.Binary ⌝ }
     ensures { λ r. ⌜ layoutAt (now (page .entry)) node ≡ infixed (displayOperator (r .code) (modifierOn (now (page .entry)) (r .modifier))) ⌝ }
+    ensures { λ r. ⌜ ModifierStored (now (page .entry)) (r .modifier) ⌝ }
     ensures { λ r. ⌜ ModifierExact (modifierOn (now (page .entry)) (r .modifier)) ⌝ }
 {
     let start = view::fields_start(starts, node.base);
@@ -162,6 +163,7 @@ pub fn aggregator_of(page: &[u8], starts: &[u16], node: Node) -> Aggregator
     requires { ⌜ NodeAt (now page) (now starts) node ⌝ }
     requires { ⌜ node .foot ≡ Foot.Aggregate ⌝ }
     ensures { λ r. ⌜ layoutAt (now (page .entry)) node ≡ enclosed (displayAggregator (r .code) (labelModifierOn (now (page .entry)) (r .grouping))) ⌝ }
+    ensures { λ r. ⌜ LabelModifierStored (now (page .entry)) (r .grouping) ⌝ }
 {
     let start = view::fields_start(starts, node.base);
     match reader::read_code(page, start) {

@@ -103,7 +103,7 @@ returns-7 : tie.Need-returns-7
 returns-7 c = omega (arith, ap length (binary-head (c .before .before .before .before .pre) (c .enum-told7 .given .1)))
 
 returns-8 : tie.Need-returns-8
-returns-8 c = rw (c .before .aggregator-of .ensures) (c .aggregator-len .ensures)
+returns-8 c = rw (c .before .aggregator-of .ensures .0) (c .aggregator-len .ensures)
 
 returns-9 : tie.Need-returns-9
 returns-9 c = rw (c .before .before .function-of .ensures .0) (omega (arith, c .capped-add3 .ensures, ap length (c .before .text-at2 .ensures)))

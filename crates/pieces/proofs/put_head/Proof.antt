@@ -62,7 +62,7 @@ aggregator-of-requires : tie.Need-aggregator-of-requires
 aggregator-of-requires c κs = search needs
 
 put-aggregator-requires : tie.Need-put-aggregator-requires
-put-aggregator-requires c κs = rw (c .before .aggregator-of .ensures) at (c .before .before .before .before .before .before .before .pre .1)
+put-aggregator-requires c κs = (c .before .aggregator-of .ensures .1, rw (c .before .aggregator-of .ensures .0) at (c .before .before .before .before .before .before .before .pre .1))
 
 enum-told-9 : tie.Need-enum-told-9
 enum-told-9 c = search needs
@@ -113,7 +113,7 @@ same-length-5 : tie.Need-same-length-5
 same-length-5 c = search needs
 
 returns-8 : tie.Need-returns-8
-returns-8 c = rw (c .before .before .before .before .aggregator-of .ensures) (c .before .before .put-aggregator .ensures)
+returns-8 c = rw (c .before .before .before .before .aggregator-of .ensures .0) (c .before .before .put-aggregator .ensures)
 
 same-length-6 : tie.Need-same-length-6
 same-length-6 c = search needs

@@ -16,7 +16,7 @@ operator-of-requires : tie.Need-operator-of-requires
 operator-of-requires c κs = search needs
 
 put-operator-requires : tie.Need-put-operator-requires
-put-operator-requires c κs = (c .before .operator-of .ensures .1, rw (c .before .operator-of .ensures .0) at (c .before .before .before .before .before .before .before .pre .1))
+put-operator-requires c κs = (c .before .operator-of .ensures .1 .0, (c .before .operator-of .ensures .1 .1, rw (c .before .operator-of .ensures .0) at (c .before .before .before .before .before .before .before .pre .1)))
 
 same-length : tie.Need-same-length
 same-length c = search needs

@@ -12,7 +12,7 @@ use Rattle.pieces.proofs.put_selector.Statement.{statement}
 use Rattle.pieces.proofs.put_selector.Tie as tie
 
 put-selector-requires : tie.Need-put-selector-requires
-put-selector-requires c κs = (c .before .before .before .before .pre .0 .name, ((c .before .before .before .before .pre .0 .few, c .before .before .before .before .pre .0 .short), fits (run-three (displaySelector (selectorOn (c .before .before .before .before .args .page .now) (c .before .before .before .before .args .selector))) (displayRange (stepOf (c .before .before .before .before .args .parts .range))) (displayTimes (timesOf (c .before .before .before .before .args .parts .times))) (c .before .before .before .before .args .out .now) (c .before .before .before .before .args .at) refl (c .before .before .before .before .pre .1))))
+put-selector-requires c κs = (c .before .before .before .before .pre .0 .name, (c .before .before .before .before .pre .0 .stored, ((c .before .before .before .before .pre .0 .few, c .before .before .before .before .pre .0 .short), fits (run-three (displaySelector (selectorOn (c .before .before .before .before .args .page .now) (c .before .before .before .before .args .selector))) (displayRange (stepOf (c .before .before .before .before .args .parts .range))) (displayTimes (timesOf (c .before .before .before .before .args .parts .times))) (c .before .before .before .before .args .out .now) (c .before .before .before .before .args .at) refl (c .before .before .before .before .pre .1)))))
 
 put-range-requires : tie.Need-put-range-requires
 put-range-requires c κs = fits (next (run-three (displaySelector (selectorOn (c .before .before .before .before .before .before .before .before .args .page .now) (c .before .before .before .before .before .before .before .before .args .selector))) (displayRange (stepOf (c .before .before .before .before .before .before .before .before .args .parts .range))) (displayTimes (timesOf (c .before .before .before .before .before .before .before .before .args .parts .times))) (c .before .before .before .before .before .before .before .before .args .out .now) (c .before .before .before .before .before .before .before .before .args .at) refl (c .before .before .before .before .before .before .before .before .pre .1)) (c .before .before .before .put-selector .ensures))

@@ -26,10 +26,10 @@ enum-told-2 : tie.Need-enum-told-2
 enum-told-2 c = search needs
 
 returns : tie.Need-returns
-returns c = aggregator-layout (c .before .before .before .before .before .before .before .before .before .before .before .pre .0) (c .before .before .before .before .before .before .before .before .before .before .before .pre .1) (rw (c .before .before .before .before .before .code .given .1, c .before .before .before .before .before .before .before .before .fields-start .ensures) at (c .before .before .before .before .before .before .before .read-code .ensures)) (rw (c .before .grouping .given .1) at (c .before .before .before .read-label-modifier .ensures))
+returns c = (aggregator-layout (c .before .before .before .before .before .before .before .before .before .before .before .pre .0) (c .before .before .before .before .before .before .before .before .before .before .before .pre .1) (rw (c .before .before .before .before .before .code .given .1, c .before .before .before .before .before .before .before .before .fields-start .ensures) at (c .before .before .before .before .before .before .before .read-code .ensures)) (rw (c .before .grouping .given .1) at (c .before .before .before .read-label-modifier .ensures .0)), rw (c .before .grouping .given .1) at (c .before .before .before .read-label-modifier .ensures .1))
 
 returns-2 : tie.Need-returns-2
-returns-2 c = absurd (grouping-there (c .before .before .before .before .before .before .before .before .before .before .pre .0) (c .before .before .before .before .before .before .before .before .before .before .pre .1) (rw (c .before .before .before .before .code .given .1, c .before .before .before .before .before .before .before .fields-start .ensures) at (c .before .before .before .before .before .before .read-code .ensures)) (rw (c .enum-told .given .1) at (c .before .before .read-label-modifier .ensures)))
+returns-2 c = absurd (grouping-there (c .before .before .before .before .before .before .before .before .before .before .pre .0) (c .before .before .before .before .before .before .before .before .before .before .pre .1) (rw (c .before .before .before .before .code .given .1, c .before .before .before .before .before .before .before .fields-start .ensures) at (c .before .before .before .before .before .before .read-code .ensures)) (rw (c .enum-told .given .1) at (c .before .before .read-label-modifier .ensures .0)))
 
 returns-3 : tie.Need-returns-3
 returns-3 c = absurd (aggregator-there (c .before .before .before .before .before .before .pre .0) (c .before .before .before .before .before .before .pre .1) (rw (c .enum-told2 .given .1, c .before .before .before .fields-start .ensures) at (c .before .before .read-code .ensures)))

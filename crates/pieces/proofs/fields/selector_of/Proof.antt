@@ -40,7 +40,7 @@ selector-requires-3 : tie.Need-selector-requires-3
 selector-requires-3 c κs = search needs
 
 returns : tie.Need-returns
-returns c = let r = selector-reads (c .before .before .before .before .before .before .before .before .before .before .before .before .pre .0) (c .before .before .before .before .before .before .before .before .before .before .before .before .pre .1) (rw (c .before .before .before .before .before .before .name .given .1, c .before .before .before .before .before .before .before .before .before .fields-start .ensures) at (c .before .before .before .before .before .before .before .before .read-text .ensures .0)) (rw (c .before .before .count .given .1) at (c .before .before .before .before .read-count .ensures)) in rw (c .selector .ensures) (r, record { name = rw (c .before .before .before .before .before .before .name .given .1) at (c .before .before .before .before .before .before .before .before .read-text .ensures .1); few = allowed _ (r .reads) .1 .0; short = page-short (c .before .before .before .before .before .before .before .before .before .before .before .before .pre .0 .known .tables) })
+returns c = let r = selector-reads (c .before .before .before .before .before .before .before .before .before .before .before .before .pre .0) (c .before .before .before .before .before .before .before .before .before .before .before .before .pre .1) (rw (c .before .before .before .before .before .before .name .given .1, c .before .before .before .before .before .before .before .before .before .fields-start .ensures) at (c .before .before .before .before .before .before .before .before .read-text .ensures .0)) (rw (c .before .before .count .given .1) at (c .before .before .before .before .read-count .ensures)) in rw (c .selector .ensures) (r .0, record { name = rw (c .before .before .before .before .before .before .name .given .1) at (c .before .before .before .before .before .before .before .before .read-text .ensures .1); stored = r .1; few = allowed _ (r .0 .reads) .1 .0; short = page-short (c .before .before .before .before .before .before .before .before .before .before .before .before .pre .0 .known .tables) })
 
 returns-2 : tie.Need-returns-2
 returns-2 c = absurd (matchers-there (c .before .before .before .before .before .before .before .before .before .before .before .pre .0) (c .before .before .before .before .before .before .before .before .before .before .before .pre .1) (rw (c .before .before .before .before .before .name .given .1, c .before .before .before .before .before .before .before .before .fields-start .ensures) at (c .before .before .before .before .before .before .before .read-text .ensures .0)) (rw (c .before .enum-told .given .1) at (c .before .before .before .read-count .ensures)))
