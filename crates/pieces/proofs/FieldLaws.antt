@@ -3,11 +3,10 @@
 use Prim.Native.Nat.{ℕ, suc, _+_, _-_}
 use native.Mathlib.Omega.{arith}
 use mathlib.Core.Path.{_≡_, refl, sym, ap, ap₂, subst, _∙_}
-use mathlib.Core.Bool.{Bool, true, false, _||_}
+use mathlib.Core.Bool.{true}
 use mathlib.Core.List.{List, [], _∷_, _++_}
 use mathlib.Core.Option.{Option, none, some}
 use lib.ListN.{length, drop, getD}
-use lib.Dec.{eqb}
 use borrow.Author.Tests.{eqb-true, ne-eqb}
 use Prim.{tt}
 use denote.Enum.Declared.{tagOf}
@@ -26,7 +25,7 @@ use Rattle.records.specs.Modifier as modifier
 use Rattle.records.specs.Time as time
 use Rattle.records.specs.Signature as signature
 use Rattle.records.specs.Allowed.{IsOptionOf, IsFill, IsBinModifier}
-use Rattle.records.specs.Record.{string, selector, range, subquery, at, offset, Record, leaf, wrapper, binary, aggregate, call, readCode, readSelector, readSubquery, readBinary, readAggregate, readCall, readRecord}
+use Rattle.records.specs.Record.{string, selector, range, subquery, at, offset, Record, leaf, wrapper, binary, aggregate, call, readCode, readRecord}
 use Rattle.records.specs.Answers.{stepOf}
 use Rattle.float.specs.Fills.{FillExact}
 use Rattle.float.specs.Exact.{ModifierExact}

@@ -13,9 +13,9 @@ use Rattle.records.specs.Time.{Times}
 use Rattle.records.specs.Record.{number, string, selector, range, subquery, at, offset, unary, paren, Record, leaf, wrapper, binary, aggregate, call, operands}
 use Rattle.ast.specs.Expr.{scalarValue}
 use Rattle.ast.specs.Construct.{noTimes}
-use Rattle.ast.specs.Tables.{treeAt, Tables}
-use Rattle.text.specs.Layout.{Layout, negation, layoutOf, head, operator, suffix}
-use Rattle.text.specs.Chain.{withAt, withOffset, settled}
+use Rattle.ast.specs.Tables.{treeAt}
+use Rattle.text.specs.Layout.{Layout, layoutOf, head, operator, suffix}
+use Rattle.text.specs.Chain.{settled}
 use Rattle.text.specs.Seen.{Reads, Seen}
 use Rattle.text.proofs.EntryLaws.{wrapped, leaf-tree}
 use Rattle.text.proofs.SeenLaws.{seen-number, seen-string, seen-selector, seen-subquery, seen-paren, seen-literal, seen-unary, seen-binary, seen-aggregate, seen-call}
@@ -28,7 +28,7 @@ use Rattle.view.specs.declared.Node.{Node}
 use Rattle.view.specs.declared.form.Form.{Form}
 use Rattle.view.specs.declared.form.Form.the-variants as form
 use Rattle.view.proofs.KindLaws.{reads-same, kind-same, fields, readable}
-use Rattle.view.proofs.ViewLaws.{starts-fewer, unary-reads}
+use Rattle.view.proofs.ViewLaws.{starts-fewer}
 
 never : false ≡ true → ⊥
 never h = let z : _≡_ {A = ℕ} 0 1 = cc in omega arith
