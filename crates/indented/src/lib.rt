@@ -59,7 +59,15 @@ fn led_len(page: &[u8], starts: &[u16], node: Node, mark: bool, level: usize, ca
     lead + head_len(page, starts, node, cap - lead)
 }
 
-fn put_led(page: &[u8], starts: &[u16], node: Node, mark: bool, level: usize, out: &mut [u8], at: usize) -> usize
+fn put_led(
+    page: &[u8],
+    starts: &[u16],
+    node: Node,
+    mark: bool,
+    level: usize,
+    out: &mut [u8],
+    at: usize,
+) -> usize
     requires { ⌜ NodeAt (now page) (now starts) node ⌝ }
     requires { ⌜ at + length (indentIf mark level ++ head (layoutAt (now page) node)) ≤ length (now out) ⌝ }
     ensures { λ r. ⌜ Wrote (now (out .entry)) (now (out .exit)) at (indentIf mark level ++ head (layoutAt (now (page .entry)) node)) r ⌝ }
@@ -68,7 +76,14 @@ fn put_led(page: &[u8], starts: &[u16], node: Node, mark: bool, level: usize, ou
     put_head(page, starts, node, out, next)
 }
 
-pub fn front_at_len(page: &[u8], starts: &[u16], node: Node, mark: bool, level: usize, cap: usize) -> usize
+pub fn front_at_len(
+    page: &[u8],
+    starts: &[u16],
+    node: Node,
+    mark: bool,
+    level: usize,
+    cap: usize,
+) -> usize
     requires { ⌜ NodeAt (now page) (now starts) node ⌝ }
     requires { ⌜ level ≤ 256 ⌝ }
     ensures { λ r. ⌜ r ≡ min (length (frontAt mark level (layoutAt (now (page .entry)) node))) cap ⌝ }
@@ -138,7 +153,14 @@ pub fn put_front_at(
     }
 }
 
-pub fn put_between_at(page: &[u8], starts: &[u16], node: Node, level: usize, out: &mut [u8], at: usize) -> usize
+pub fn put_between_at(
+    page: &[u8],
+    starts: &[u16],
+    node: Node,
+    level: usize,
+    out: &mut [u8],
+    at: usize,
+) -> usize
     requires { ⌜ NodeAt (now page) (now starts) node ⌝ }
     requires { ⌜ at + length (betweenAt level (layoutAt (now page) node)) ≤ length (now out) ⌝ }
     ensures { λ r. ⌜ Wrote (now (out .entry)) (now (out .exit)) at (betweenAt level (layoutAt (now (page .entry)) node)) r ⌝ }
@@ -157,7 +179,14 @@ pub fn put_between_at(page: &[u8], starts: &[u16], node: Node, level: usize, out
     }
 }
 
-pub fn put_rear_at(page: &[u8], starts: &[u16], node: Node, level: usize, out: &mut [u8], at: usize) -> usize
+pub fn put_rear_at(
+    page: &[u8],
+    starts: &[u16],
+    node: Node,
+    level: usize,
+    out: &mut [u8],
+    at: usize,
+) -> usize
     requires { ⌜ NodeAt (now page) (now starts) node ⌝ }
     requires { ⌜ at + length (rearAt level (layoutAt (now page) node)) ≤ length (now out) ⌝ }
     ensures { λ r. ⌜ Wrote (now (out .entry)) (now (out .exit)) at (rearAt level (layoutAt (now (page .entry)) node)) r ⌝ }

@@ -137,9 +137,10 @@ module _ {page starts : List ℕ} {node : Node} (n : NodeAt page starts node) wh
         × AllRead matcher.readMatcher count r′
     selector-reads {t} {r} {r′} {count} e h =
         readable base-known (repeat count matcher.readMatcher r′) (λ ms. return (leaf (selector (record { name = t; matchers = ms })))) (selector-fields e h) (λ ms rest q is.
-        let same = read-listed matcher.readMatcher count r′ (sym q) in
-        (record { rest = rest; reads = ap (λ (x : List matcher.Matcher). got (leaf (selector (record { name = t; matchers = x }))) rest) same ∙ sym is },
-        ap length same ∙ read-length matcher.readMatcher count r′ (sym q)))
+        let same = read-listed matcher.readMatcher count r′ (sym q) in (
+          record { rest = rest; reads = ap (λ (x : List matcher.Matcher). got (leaf (selector (record { name = t; matchers = x }))) rest) same ∙ sym is },
+          ap length same ∙ read-length matcher.readMatcher count r′ (sym q),
+        ))
 
     pub name-there : {x : FieldFault} → refused x ≡ readMetricName (drop (getD starts (node .base) 0 + 1) page) → ⊥
     name-there = no-field base-known (foot-is f) readMetricName selectorMore (λ s. refl)

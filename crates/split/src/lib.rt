@@ -5,10 +5,10 @@ pub mod place;
 pub mod whole;
 pub mod write;
 
-pub use whole::prettify_len;
-pub use whole::put_prettify;
 use view::Form;
 use view::Node;
+pub use whole::prettify_len;
+pub use whole::put_prettify;
 ghost use mathlib.Core.Path.{_≡_};
 ghost use Prim.Native.Nat.{suc, _≤_};
 ghost use Rattle.text.specs.Layout.{innerMark, innerLevel};

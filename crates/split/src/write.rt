@@ -47,7 +47,18 @@ pub fn write_split(
     let minus = view::is_minus(node);
     let inner = with_unvalued(place, minus);
     let at = put_front_at(page, starts, node, place.mark, place.level, out, at);
-    let behind = write_split_operands(page, starts, firsts, widths, node, end, count, inner, out, at);
+    let behind = write_split_operands(
+        page,
+        starts,
+        firsts,
+        widths,
+        node,
+        end,
+        count,
+        inner,
+        out,
+        at,
+    );
     put_rear_at(page, starts, node, place.level, out, behind)
 }
 
@@ -86,7 +97,18 @@ fn write_split_operands(
     let end = firsts[root] as usize;
     let fewer = count - 1;
     let rest = with_unvalued(place, false);
-    let gap = write_split_operands(page, starts, firsts, widths, node, end, fewer, rest, out, at);
+    let gap = write_split_operands(
+        page,
+        starts,
+        firsts,
+        widths,
+        node,
+        end,
+        fewer,
+        rest,
+        out,
+        at,
+    );
     let next = put_between_at(page, starts, node, place.level, out, gap);
     let last = with_mark(inner, true);
     write_split(page, starts, firsts, widths, root, last, out, next)
