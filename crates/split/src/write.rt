@@ -41,25 +41,14 @@ pub fn write_split(
         let text = put_indent(place.mark, place.level, out, at);
         return write_text(page, starts, firsts, i, place.unvalued, out, text);
     }
-    let node = view::view_at(page, starts, i, place.unvalued);
-    let end = node.base;
-    let count = node.count;
-    let minus = view::is_minus(node);
-    let inner = with_unvalued(place, minus);
-    let at = put_front_at(page, starts, node, place.mark, place.level, out, at);
-    let behind = write_split_operands(
-        page,
-        starts,
-        firsts,
-        widths,
-        node,
-        end,
-        count,
-        inner,
-        out,
-        at,
-    );
-    put_rear_at(page, starts, node, place.level, out, behind)
+    let own = view::view_at(page, starts, i, place.unvalued);
+    let end = own.base;
+    let count = own.count;
+    let minus = view::is_minus(own);
+    let kept = with_unvalued(place, minus);
+    let at = put_front_at(page, starts, own, place.mark, place.level, out, at);
+    let behind = write_split_operands(page, starts, firsts, widths, own, end, count, kept, out, at);
+    put_rear_at(page, starts, own, place.level, out, behind)
 }
 
 // Writes the split texts of the newest expressions behind the first `end` records, `count` of them, with what the node writes between
@@ -69,7 +58,7 @@ fn write_split_operands(
     starts: &[u16],
     firsts: &[u8],
     widths: &[u8],
-    node: view::Node,
+    own: view::Node,
     end: usize,
     count: usize,
     place: Place,
@@ -78,18 +67,18 @@ fn write_split_operands(
 ) -> usize
     requires { ⌜ Tables (now page) (now starts) (now firsts) end ⌝ }
     requires { ⌜ Known (now page) (now widths) ⌝ }
-    requires { ⌜ NodeAt (now page) (now starts) node ⌝ }
+    requires { ⌜ NodeAt (now page) (now starts) own ⌝ }
     requires { ⌜ count ≤ length (stackAt (now page) end) ⌝ }
     requires { ⌜ Unvalued (now page) (end - 1) (place .unvalued) ⌝ }
     requires { ⌜ place .level + end ≤ 256 ⌝ }
-    requires { ⌜ at + length (Operands (now page) node (place .mark) (place .level) count end) ≤ length (now out) ⌝ }
-    ensures { λ r. ⌜ Wrote (now (out .entry)) (now (out .exit)) at (Operands (now (page .entry)) node (place .mark) (place .level) count end) r ⌝ }
+    requires { ⌜ at + length (Operands (now page) own (place .mark) (place .level) count end) ≤ length (now out) ⌝ }
+    ensures { λ r. ⌜ Wrote (now (out .entry)) (now (out .exit)) at (Operands (now (page .entry)) own (place .mark) (place .level) count end) r ⌝ }
 {
     if count == 0 {
         return at;
     }
     let root = end - 1;
-    let inner = inner_place(page, starts, node, place);
+    let inner = inner_place(page, starts, own, place);
     if count == 1 {
         return write_split(page, starts, firsts, widths, root, inner, out, at);
     }
@@ -97,19 +86,8 @@ fn write_split_operands(
     let end = firsts[root] as usize;
     let fewer = count - 1;
     let rest = with_unvalued(place, false);
-    let gap = write_split_operands(
-        page,
-        starts,
-        firsts,
-        widths,
-        node,
-        end,
-        fewer,
-        rest,
-        out,
-        at,
-    );
-    let next = put_between_at(page, starts, node, place.level, out, gap);
+    let gap = write_split_operands(page, starts, firsts, widths, own, end, fewer, rest, out, at);
+    let next = put_between_at(page, starts, own, place.level, out, gap);
     let last = with_mark(inner, true);
     write_split(page, starts, firsts, widths, root, last, out, next)
 }

@@ -118,7 +118,7 @@ write-split-returns-2 t c = end (next (next (next (run-split (c .before .before 
 
 write-split-operands-returns : (t : ℕ) → write-split-operands-lts.Need-returns (write-split-operands-claims t) (write-split-operands-at t) write-split-operands.Post
 write-split-operands-returns t c =
-    let own = layoutAt (c .before .before .before .before .before .before .args .page .now) (c .before .before .before .before .before .before .args .node) in
+    let own = layoutAt (c .before .before .before .before .before .before .args .page .now) (c .before .before .before .before .before .before .args .own) in
     wrote-nothing _ _ (text-none (marked (innerMark (c .before .before .before .before .before .before .args .place .mark) own) (innerLevel (c .before .before .before .before .before .before .args .place .level) own)) (marked true (innerLevel (c .before .before .before .before .before .before .args .place .level) own)) (c .before .before .before .before .before .before .pre .1 .0) _ (c .before .before .before .before .before .before .pre .1 .1 .1 .1 .0) (betweenAt (c .before .before .before .before .before .before .args .place .level) own) (c .if1 .taken))
 
 write-split-operands-sub-root : (t : ℕ) → write-split-operands-lts.Need-sub-root (write-split-operands-claims t) (write-split-operands-at t) write-split-operands.Post
@@ -130,7 +130,7 @@ write-split-operands-inner-place-requires t c κs = (c .before .before .before .
 write-split-operands-write-split-requires : (t : ℕ) → write-split-operands-lts.Need-write-split-requires (write-split-operands-claims t) (write-split-operands-at t) write-split-operands.Post
 write-split-operands-write-split-requires t c κs =
     let w = last-operand (c .before .before .before .before .before .before .before .before .before .pre .1 .0) _ (c .before .before .before .before .before .before .before .before .before .pre .1 .1 .1 .1 .0) (c .before .before .before .if1 .left) in
-    let own = layoutAt (c .before .before .before .before .before .before .before .before .before .args .page .now) (c .before .before .before .before .before .before .before .before .before .args .node) in
+    let own = layoutAt (c .before .before .before .before .before .before .before .before .before .args .page .now) (c .before .before .before .before .before .before .before .before .before .args .own) in
     let one = text-one (marked (innerMark (c .before .before .before .before .before .before .before .before .before .args .place .mark) own) (innerLevel (c .before .before .before .before .before .before .before .before .before .args .place .level) own)) (marked true (innerLevel (c .before .before .before .before .before .before .before .before .before .args .place .level) own)) (c .before .before .before .before .before .before .before .before .before .pre .1 .0) _ (c .before .before .before .before .before .before .before .before .before .pre .1 .1 .1 .1 .0) (betweenAt (c .before .before .before .before .before .before .before .before .before .args .place .level) own) (c .before .if2 .taken) in
     (omega (arith, w .some, c .before .before .before .before .before .before .before .before .before .pre .0), (fewer (c .before .before .before .before .before .before .before .before .before .pre .1 .0) (omega (arith, w .some)), (c .before .before .before .before .before .before .before .before .before .pre .1 .1 .0, (rw (c .before .before .inner-place .ensures .0) (c .before .before .before .before .before .before .before .before .before .pre .1 .1 .1 .1 .1 .0), (omega (arith, w .some, c .before .before .before .before .before .before .before .before .before .pre .1 .1 .1 .1 .1 .1 .0, c .before .before .inner-place .ensures .1), rw (c .before .before .inner-place .ensures .0) (omega (arith, ap length one, c .before .before .before .before .before .before .before .before .before .pre .1 .1 .1 .1 .1 .1 .1)))))))
 
@@ -139,7 +139,7 @@ write-split-operands-same-length t c = c .before .before .write-split .kept .1 .
 
 write-split-operands-returns-2 : (t : ℕ) → write-split-operands-lts.Need-returns-2 (write-split-operands-claims t) (write-split-operands-at t) write-split-operands.Post
 write-split-operands-returns-2 t c =
-    let own = layoutAt (c .before .before .before .before .before .before .before .before .before .before .before .before .args .page .now) (c .before .before .before .before .before .before .before .before .before .before .before .before .args .node) in
+    let own = layoutAt (c .before .before .before .before .before .before .before .before .before .before .before .before .args .page .now) (c .before .before .before .before .before .before .before .before .before .before .before .before .args .own) in
     let one = text-one (marked (innerMark (c .before .before .before .before .before .before .before .before .before .before .before .before .args .place .mark) own) (innerLevel (c .before .before .before .before .before .before .before .before .before .before .before .before .args .place .level) own)) (marked true (innerLevel (c .before .before .before .before .before .before .before .before .before .before .before .before .args .place .level) own)) (c .before .before .before .before .before .before .before .before .before .before .before .before .pre .1 .0) _ (c .before .before .before .before .before .before .before .before .before .before .before .before .pre .1 .1 .1 .1 .0) (betweenAt (c .before .before .before .before .before .before .before .before .before .before .before .before .args .place .level) own) (c .before .before .before .before .if2 .taken) in
     wrote-as one (rw (c .before .before .before .before .before .inner-place .ensures .0) at (c .before .before .write-split .ensures))
 
@@ -158,13 +158,13 @@ write-split-operands-with-unvalued-requires t c κs = search needs
 write-split-operands-write-split-operands-requires : (t : ℕ) → write-split-operands-lts.Need-write-split-operands-requires (write-split-operands-claims t) (write-split-operands-at t) write-split-operands.Post
 write-split-operands-write-split-operands-requires t c κs =
     let w = last-operand (c .before .before .before .before .before .before .before .before .before .before .before .pre .1 .0) _ (c .before .before .before .before .before .before .before .before .before .before .before .pre .1 .1 .1 .1 .0) (c .before .before .before .before .before .if1 .left) in
-    let own = layoutAt (c .before .before .before .before .before .before .before .before .before .before .before .args .page .now) (c .before .before .before .before .before .before .before .before .before .before .before .args .node) in
+    let own = layoutAt (c .before .before .before .before .before .before .before .before .before .before .before .args .page .now) (c .before .before .before .before .before .before .before .before .before .before .before .args .own) in
     let run = run-more (marked (innerMark (c .before .before .before .before .before .before .before .before .before .before .before .args .place .mark) own) (innerLevel (c .before .before .before .before .before .before .before .before .before .before .before .args .place .level) own)) (marked true (innerLevel (c .before .before .before .before .before .before .before .before .before .before .before .args .place .level) own)) (c .before .before .before .before .before .before .before .before .before .before .before .pre .1 .0) _ (c .before .before .before .before .before .before .before .before .before .before .before .pre .1 .1 .1 .1 .0) (betweenAt (c .before .before .before .before .before .before .before .before .before .before .before .args .place .level) own) (c .before .before .before .before .before .if1 .left) (c .before .before .before .if2 .left) (c .before .before .before .before .before .before .before .before .before .before .before .args .out .now) (c .before .before .before .before .before .before .before .before .before .before .before .args .at) (c .before .before .before .before .before .before .before .before .before .before .before .pre .1 .1 .1 .1 .1 .1 .1) in
     (omega (arith, w .low, c .before .before .before .before .before .before .before .before .before .before .before .pre .0), (fewer (c .before .before .before .before .before .before .before .before .before .before .before .pre .1 .0) (omega (arith, w .low)), (c .before .before .before .before .before .before .before .before .before .before .before .pre .1 .1 .0, (c .before .before .before .before .before .before .before .before .before .before .before .pre .1 .1 .1 .0, (fewer-operands (c .before .before .before .before .before .before .before .before .before .before .before .pre .1 .0) _ (c .before .before .before .before .before .before .before .before .before .before .before .pre .1 .1 .1 .1 .0) (c .before .before .before .before .before .if1 .left), rw (c .before .with-unvalued .ensures) (unmarked _ _, (omega (arith, w .low, c .before .before .before .before .before .before .before .before .before .before .before .pre .1 .1 .1 .1 .1 .1 .0), fits run)))))))
 
 write-split-operands-put-between-at-requires : (t : ℕ) → write-split-operands-lts.Need-put-between-at-requires (write-split-operands-claims t) (write-split-operands-at t) write-split-operands.Post
 write-split-operands-put-between-at-requires t c κs =
-    let own = layoutAt (c .before .before .before .before .before .before .before .before .before .before .before .before .before .before .before .args .page .now) (c .before .before .before .before .before .before .before .before .before .before .before .before .before .before .before .args .node) in
+    let own = layoutAt (c .before .before .before .before .before .before .before .before .before .before .before .before .before .before .before .args .page .now) (c .before .before .before .before .before .before .before .before .before .before .before .before .before .before .before .args .own) in
     let run = run-more (marked (innerMark (c .before .before .before .before .before .before .before .before .before .before .before .before .before .before .before .args .place .mark) own) (innerLevel (c .before .before .before .before .before .before .before .before .before .before .before .before .before .before .before .args .place .level) own)) (marked true (innerLevel (c .before .before .before .before .before .before .before .before .before .before .before .before .before .before .before .args .place .level) own)) (c .before .before .before .before .before .before .before .before .before .before .before .before .before .before .before .pre .1 .0) _ (c .before .before .before .before .before .before .before .before .before .before .before .before .before .before .before .pre .1 .1 .1 .1 .0) (betweenAt (c .before .before .before .before .before .before .before .before .before .before .before .before .before .before .before .args .place .level) own) (c .before .before .before .before .before .before .before .before .before .if1 .left) (c .before .before .before .before .before .before .before .if2 .left) (c .before .before .before .before .before .before .before .before .before .before .before .before .before .before .before .args .out .now) (c .before .before .before .before .before .before .before .before .before .before .before .before .before .before .before .args .at) (c .before .before .before .before .before .before .before .before .before .before .before .before .before .before .before .pre .1 .1 .1 .1 .1 .1 .1) in
     (c .before .before .before .before .before .before .before .before .before .before .before .before .before .before .before .pre .1 .1 .1 .0, fits (next run (rw (c .before .before .before .before .before .with-unvalued .ensures) at (c .before .before .before .write-split-operands .ensures))))
 
@@ -174,7 +174,7 @@ write-split-operands-with-mark-requires t c κs = search needs
 write-split-operands-write-split-requires-2 : (t : ℕ) → write-split-operands-lts.Need-write-split-requires-2 (write-split-operands-claims t) (write-split-operands-at t) write-split-operands.Post
 write-split-operands-write-split-requires-2 t c κs =
     let w = last-operand (c .before .before .before .before .before .before .before .before .before .before .before .before .before .before .before .before .before .before .before .before .pre .1 .0) _ (c .before .before .before .before .before .before .before .before .before .before .before .before .before .before .before .before .before .before .before .before .pre .1 .1 .1 .1 .0) (c .before .before .before .before .before .before .before .before .before .before .before .before .before .before .if1 .left) in
-    let own = layoutAt (c .before .before .before .before .before .before .before .before .before .before .before .before .before .before .before .before .before .before .before .before .args .page .now) (c .before .before .before .before .before .before .before .before .before .before .before .before .before .before .before .before .before .before .before .before .args .node) in
+    let own = layoutAt (c .before .before .before .before .before .before .before .before .before .before .before .before .before .before .before .before .before .before .before .before .args .page .now) (c .before .before .before .before .before .before .before .before .before .before .before .before .before .before .before .before .before .before .before .before .args .own) in
     let run = run-more (marked (innerMark (c .before .before .before .before .before .before .before .before .before .before .before .before .before .before .before .before .before .before .before .before .args .place .mark) own) (innerLevel (c .before .before .before .before .before .before .before .before .before .before .before .before .before .before .before .before .before .before .before .before .args .place .level) own)) (marked true (innerLevel (c .before .before .before .before .before .before .before .before .before .before .before .before .before .before .before .before .before .before .before .before .args .place .level) own)) (c .before .before .before .before .before .before .before .before .before .before .before .before .before .before .before .before .before .before .before .before .pre .1 .0) _ (c .before .before .before .before .before .before .before .before .before .before .before .before .before .before .before .before .before .before .before .before .pre .1 .1 .1 .1 .0) (betweenAt (c .before .before .before .before .before .before .before .before .before .before .before .before .before .before .before .before .before .before .before .before .args .place .level) own) (c .before .before .before .before .before .before .before .before .before .before .before .before .before .before .if1 .left) (c .before .before .before .before .before .before .before .before .before .before .before .before .if2 .left) (c .before .before .before .before .before .before .before .before .before .before .before .before .before .before .before .before .before .before .before .before .args .out .now) (c .before .before .before .before .before .before .before .before .before .before .before .before .before .before .before .before .before .before .before .before .args .at) (c .before .before .before .before .before .before .before .before .before .before .before .before .before .before .before .before .before .before .before .before .pre .1 .1 .1 .1 .1 .1 .1) in
     (omega (arith, w .some, c .before .before .before .before .before .before .before .before .before .before .before .before .before .before .before .before .before .before .before .before .pre .0), (fewer (c .before .before .before .before .before .before .before .before .before .before .before .before .before .before .before .before .before .before .before .before .pre .1 .0) (omega (arith, w .some)), (c .before .before .before .before .before .before .before .before .before .before .before .before .before .before .before .before .before .before .before .before .pre .1 .1 .0, (rw (c .before .with-mark .ensures, c .before .before .before .before .before .before .before .before .before .before .before .before .before .inner-place .ensures .0) (c .before .before .before .before .before .before .before .before .before .before .before .before .before .before .before .before .before .before .before .before .pre .1 .1 .1 .1 .1 .0), (rw (c .before .with-mark .ensures) (omega (arith, w .some, c .before .before .before .before .before .before .before .before .before .before .before .before .before .before .before .before .before .before .before .before .pre .1 .1 .1 .1 .1 .1 .0, c .before .before .before .before .before .before .before .before .before .before .before .before .before .inner-place .ensures .1)), rw (c .before .with-mark .ensures, c .before .before .before .before .before .before .before .before .before .before .before .before .before .inner-place .ensures .0) (fits (next (next run (rw (c .before .before .before .before .before .before .before .before .before .before .with-unvalued .ensures) at (c .before .before .before .before .before .before .before .before .write-split-operands .ensures))) (c .before .before .before .before .put-between-at .ensures))))))))
 
@@ -183,7 +183,7 @@ write-split-operands-same-length-2 t c = c .before .before .write-split2 .kept .
 
 write-split-operands-returns-3 : (t : ℕ) → write-split-operands-lts.Need-returns-3 (write-split-operands-claims t) (write-split-operands-at t) write-split-operands.Post
 write-split-operands-returns-3 t c =
-    let own = layoutAt (c .before .before .before .before .before .before .before .before .before .before .before .before .before .before .before .before .before .before .before .before .before .before .before .args .page .now) (c .before .before .before .before .before .before .before .before .before .before .before .before .before .before .before .before .before .before .before .before .before .before .before .args .node) in
+    let own = layoutAt (c .before .before .before .before .before .before .before .before .before .before .before .before .before .before .before .before .before .before .before .before .before .before .before .args .page .now) (c .before .before .before .before .before .before .before .before .before .before .before .before .before .before .before .before .before .before .before .before .before .before .before .args .own) in
     let run = run-more (marked (innerMark (c .before .before .before .before .before .before .before .before .before .before .before .before .before .before .before .before .before .before .before .before .before .before .before .args .place .mark) own) (innerLevel (c .before .before .before .before .before .before .before .before .before .before .before .before .before .before .before .before .before .before .before .before .before .before .before .args .place .level) own)) (marked true (innerLevel (c .before .before .before .before .before .before .before .before .before .before .before .before .before .before .before .before .before .before .before .before .before .before .before .args .place .level) own)) (c .before .before .before .before .before .before .before .before .before .before .before .before .before .before .before .before .before .before .before .before .before .before .before .pre .1 .0) _ (c .before .before .before .before .before .before .before .before .before .before .before .before .before .before .before .before .before .before .before .before .before .before .before .pre .1 .1 .1 .1 .0) (betweenAt (c .before .before .before .before .before .before .before .before .before .before .before .before .before .before .before .before .before .before .before .before .before .before .before .args .place .level) own) (c .before .before .before .before .before .before .before .before .before .before .before .before .before .before .before .before .before .if1 .left) (c .before .before .before .before .before .before .before .before .before .before .before .before .before .before .before .if2 .left) (c .before .before .before .before .before .before .before .before .before .before .before .before .before .before .before .before .before .before .before .before .before .before .before .args .out .now) (c .before .before .before .before .before .before .before .before .before .before .before .before .before .before .before .before .before .before .before .before .before .before .before .args .at) (c .before .before .before .before .before .before .before .before .before .before .before .before .before .before .before .before .before .before .before .before .before .before .before .pre .1 .1 .1 .1 .1 .1 .1) in
     end (next (next (next run (rw (c .before .before .before .before .before .before .before .before .before .before .before .before .before .with-unvalued .ensures) at (c .before .before .before .before .before .before .before .before .before .before .before .write-split-operands .ensures))) (c .before .before .before .before .before .before .before .put-between-at .ensures)) (rw (c .before .before .before .before .with-mark .ensures, c .before .before .before .before .before .before .before .before .before .before .before .before .before .before .before .before .inner-place .ensures .0) at (c .before .before .write-split2 .ensures)))
 
