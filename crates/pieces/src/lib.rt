@@ -1,18 +1,16 @@
 // What a node has of its own, as text: a leaf's text or what stands before a bracket, an operator, a suffix.
 // Each has a length up to a cap and a writer.
-pub mod fields;
-pub mod parts;
 pub mod times;
 
+use fields::Parts;
 use fields::aggregator_of;
 use fields::function_of;
 use fields::literal_of;
 use fields::operator_of;
+use fields::parts_of;
 use fields::selector_of;
 use fields::spacing_of;
 use fields::string_of;
-use parts::Parts;
-use parts::parts_of;
 use times::put_range;
 use times::put_subquery;
 use times::put_times;
@@ -32,7 +30,7 @@ ghost use Rattle.text.specs.Display.{displaySelector, displayTimes};
 ghost use Rattle.text.specs.Layout.{displayRange, head, operator, suffix};
 ghost use Rattle.text.specs.Answers.{timesOf};
 ghost use Rattle.view.specs.View.{NodeAt, layoutAt};
-ghost use Rattle.pieces.specs.Parts.{SelectorLies};
+ghost use Rattle.fields.specs.Parts.{SelectorLies};
 
 // A selector with its range, @ and offset.
 fn selector_len(page: &[u8], selector: reader::Selector, parts: Parts, cap: usize) -> usize

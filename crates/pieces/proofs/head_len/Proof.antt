@@ -4,7 +4,7 @@ use lib.ListN.{length}
 use mathlib.Core.Path.{ap, _∙_}
 use native.Mathlib.Omega.{arith}
 use Rattle.util.specs.Escape.{quote}
-use Rattle.pieces.proofs.FieldLaws.{selector-layout, subquery-head, binary-head, minus-head, paren-head}
+use Rattle.fields.proofs.FieldLaws.{selector-layout, subquery-head, binary-head, minus-head, paren-head}
 use borrow.Author.Needs.{needs}
 use Rattle.pieces.proofs.head_len.Statement.{statement}
 use Rattle.pieces.proofs.head_len.Tie as tie

@@ -2,7 +2,7 @@
 use lib.ListN.{length}
 use mathlib.Core.Path.{refl, ap}
 use native.Mathlib.Omega.{arith}
-use Rattle.pieces.proofs.FieldLaws.{no-operator}
+use Rattle.fields.proofs.FieldLaws.{no-operator}
 use borrow.Author.Needs.{needs}
 use Rattle.pieces.proofs.operator_len.Statement.{statement}
 use Rattle.pieces.proofs.operator_len.Tie as tie

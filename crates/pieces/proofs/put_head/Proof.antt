@@ -2,7 +2,7 @@
 use mathlib.Core.Path.{sym, ap}
 use Rattle.util.specs.Escape.{quote}
 use Rattle.text.proofs.WriteLaws.{wrote-nothing, wrote-as}
-use Rattle.pieces.proofs.FieldLaws.{selector-layout, subquery-head, binary-head, minus-head, paren-head}
+use Rattle.fields.proofs.FieldLaws.{selector-layout, subquery-head, binary-head, minus-head, paren-head}
 use borrow.Author.Needs.{needs}
 use Rattle.pieces.proofs.put_head.Statement.{statement}
 use Rattle.pieces.proofs.put_head.Tie as tie

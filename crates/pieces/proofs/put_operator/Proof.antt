@@ -1,7 +1,7 @@
 -- `pieces::put_operator` meets its contract: only a binary node has an operator. Assumes nothing.
 use mathlib.Core.Path.{refl}
 use Rattle.text.proofs.WriteLaws.{wrote-nothing}
-use Rattle.pieces.proofs.FieldLaws.{no-operator}
+use Rattle.fields.proofs.FieldLaws.{no-operator}
 use borrow.Author.Needs.{needs}
 use Rattle.pieces.proofs.put_operator.Statement.{statement}
 use Rattle.pieces.proofs.put_operator.Tie as tie

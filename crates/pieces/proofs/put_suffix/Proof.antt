@@ -1,7 +1,7 @@
 -- `pieces::put_suffix` meets its contract: only a subquery has a suffix. Assumes nothing.
 use mathlib.Core.Path.{refl}
 use Rattle.text.proofs.WriteLaws.{wrote-nothing}
-use Rattle.pieces.proofs.FieldLaws.{suffix-layout, no-suffix}
+use Rattle.fields.proofs.FieldLaws.{suffix-layout, no-suffix}
 use borrow.Author.Needs.{needs}
 use Rattle.pieces.proofs.put_suffix.Statement.{statement}
 use Rattle.pieces.proofs.put_suffix.Tie as tie

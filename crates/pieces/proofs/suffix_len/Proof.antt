@@ -2,7 +2,7 @@
 use lib.ListN.{length}
 use mathlib.Core.Path.{refl, ap}
 use native.Mathlib.Omega.{arith}
-use Rattle.pieces.proofs.FieldLaws.{suffix-layout, no-suffix}
+use Rattle.fields.proofs.FieldLaws.{suffix-layout, no-suffix}
 use borrow.Author.Needs.{needs}
 use Rattle.pieces.proofs.suffix_len.Statement.{statement}
 use Rattle.pieces.proofs.suffix_len.Tie as tie

@@ -1,8 +1,8 @@
--- `pieces::fields::spacing_of` meets its contract, field by field. Assumes nothing.
-use Rattle.pieces.proofs.FieldLaws.{spacing-reads, range-there, step-there}
+-- `fields::spacing_of` meets its contract, field by field. Assumes nothing.
+use Rattle.fields.proofs.FieldLaws.{spacing-reads, range-there, step-there}
 use borrow.Author.Needs.{needs}
-use Rattle.pieces.proofs.fields.spacing_of.Statement.{statement}
-use Rattle.pieces.proofs.fields.spacing_of.Tie as tie
+use Rattle.fields.proofs.spacing_of.Statement.{statement}
+use Rattle.fields.proofs.spacing_of.Tie as tie
 
 fields-start-requires : tie.Need-fields-start-requires
 fields-start-requires c κs = search needs

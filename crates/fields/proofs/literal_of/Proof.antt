@@ -1,8 +1,8 @@
--- `pieces::fields::literal_of` meets its contract: the value of the tree at the foot. Assumes nothing.
-use Rattle.pieces.proofs.FieldLaws.{base-known, literal-layout, literal-there}
+-- `fields::literal_of` meets its contract: the value of the tree at the foot. Assumes nothing.
+use Rattle.fields.proofs.FieldLaws.{base-known, literal-layout, literal-there}
 use borrow.Author.Needs.{needs}
-use Rattle.pieces.proofs.fields.literal_of.Statement.{statement}
-use Rattle.pieces.proofs.fields.literal_of.Tie as tie
+use Rattle.fields.proofs.literal_of.Statement.{statement}
+use Rattle.fields.proofs.literal_of.Tie as tie
 
 signed-literal-requires : tie.Need-signed-literal-requires
 signed-literal-requires c κs = base-known (c .before .before .pre .0)

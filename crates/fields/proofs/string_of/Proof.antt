@@ -1,8 +1,8 @@
--- `pieces::fields::string_of` meets its contract: the text stands behind the kind. Assumes nothing.
-use Rattle.pieces.proofs.FieldLaws.{string-layout, string-there}
+-- `fields::string_of` meets its contract: the text stands behind the kind. Assumes nothing.
+use Rattle.fields.proofs.FieldLaws.{string-layout, string-there}
 use borrow.Author.Needs.{needs}
-use Rattle.pieces.proofs.fields.string_of.Statement.{statement}
-use Rattle.pieces.proofs.fields.string_of.Tie as tie
+use Rattle.fields.proofs.string_of.Statement.{statement}
+use Rattle.fields.proofs.string_of.Tie as tie
 
 fields-start-requires : tie.Need-fields-start-requires
 fields-start-requires c κs = search needs

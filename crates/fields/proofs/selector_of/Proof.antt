@@ -1,10 +1,10 @@
--- `pieces::fields::selector_of` meets its contract: the name, then the count of the matchers; they stand behind it. Assumes nothing.
+-- `fields::selector_of` meets its contract: the name, then the count of the matchers; they stand behind it. Assumes nothing.
 use Rattle.text.proofs.EntryLaws.{page-short}
 use Rattle.text.proofs.SoundLaws.{allowed}
-use Rattle.pieces.proofs.FieldLaws.{selector-reads, name-there, matchers-there}
+use Rattle.fields.proofs.FieldLaws.{selector-reads, name-there, matchers-there}
 use borrow.Author.Needs.{needs}
-use Rattle.pieces.proofs.fields.selector_of.Statement.{statement}
-use Rattle.pieces.proofs.fields.selector_of.Tie as tie
+use Rattle.fields.proofs.selector_of.Statement.{statement}
+use Rattle.fields.proofs.selector_of.Tie as tie
 
 fields-start-requires : tie.Need-fields-start-requires
 fields-start-requires c κs = search needs

@@ -1,13 +1,13 @@
--- `pieces::parts::parts_of` meets its contract. Invariant: the parts of the records above record j, which is not below the foot. The measure
+-- `fields::parts::parts_of` meets its contract. Invariant: the parts of the records above record j, which is not below the foot. The measure
 -- is j. Assumes nothing.
 use Prim.Native.Nat.{_≤_}
 use native.Mathlib.Omega.{arith}
 use mathlib.Core.Path.{refl, _∙_}
 use Rattle.view.proofs.ViewLaws.{starts-fewer}
-use Rattle.pieces.specs.Parts.{Sets}
-use Rattle.pieces.proofs.FieldLaws.{sets-start, sets-as}
-use Rattle.pieces.proofs.parts.parts_of.Statement.{statement}
-use Rattle.pieces.proofs.parts.parts_of.Tie as tie
+use Rattle.fields.specs.Parts.{Sets}
+use Rattle.fields.proofs.FieldLaws.{sets-start, sets-as}
+use Rattle.fields.proofs.parts.parts_of.Statement.{statement}
+use Rattle.fields.proofs.parts.parts_of.Tie as tie
 
 abbrev Inv-loop : tie.InvT-loop
 Inv-loop page starts base j₀ parts₀ j parts = (base ≤ j) × (j ≤ j₀) × Sets page j₀ j parts

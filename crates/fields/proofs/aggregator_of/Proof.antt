@@ -1,8 +1,8 @@
--- `pieces::fields::aggregator_of` meets its contract, field by field. Assumes nothing.
-use Rattle.pieces.proofs.FieldLaws.{aggregator-layout, aggregator-there, grouping-there}
+-- `fields::aggregator_of` meets its contract, field by field. Assumes nothing.
+use Rattle.fields.proofs.FieldLaws.{aggregator-layout, aggregator-there, grouping-there}
 use borrow.Author.Needs.{needs}
-use Rattle.pieces.proofs.fields.aggregator_of.Statement.{statement}
-use Rattle.pieces.proofs.fields.aggregator_of.Tie as tie
+use Rattle.fields.proofs.aggregator_of.Statement.{statement}
+use Rattle.fields.proofs.aggregator_of.Tie as tie
 
 fields-start-requires : tie.Need-fields-start-requires
 fields-start-requires c κs = search needs

@@ -42,8 +42,8 @@ use Rattle.text.specs.Seen.{Reads}
 use Rattle.text.proofs.SoundLaws.{allowed}
 use Rattle.text.proofs.SeenLaws.{seen-string, seen-selector, seen-subquery, seen-paren, seen-literal, seen-binary, seen-aggregate, seen-call}
 use Rattle.text.proofs.ChainLaws.{settled-nothing, chain-range, chain-at, chain-offset}
-use Rattle.pieces.specs.Parts.{Sets}
-use Rattle.pieces.specs.declared.parts.Parts.{Parts}
+use Rattle.fields.specs.Parts.{Sets}
+use Rattle.fields.specs.declared.parts.Parts.{Parts}
 use Rattle.view.specs.View.{Starts, KindAt, isPart, PartAt, FootAt, NodeAt, layoutAt, formOf, formed}
 use Rattle.view.specs.declared.Foot.{Foot}
 use Rattle.view.specs.declared.Foot.the-variants as foot

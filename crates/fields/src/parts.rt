@@ -12,7 +12,7 @@ ghost use Rattle.ast.specs.Tables.{treeAt};
 ghost use Rattle.text.specs.Chain.{withAt, withOffset, settled};
 ghost use Rattle.text.specs.Answers.{timesOf};
 ghost use Rattle.view.specs.View.{Starts, PartAt, NodeAt};
-ghost use Rattle.pieces.specs.Parts.{Sets};
+ghost use Rattle.fields.specs.Parts.{Sets};
 
 // What the records above a selector or a subquery have set. A subquery has no range of this kind.
 pub struct Parts {

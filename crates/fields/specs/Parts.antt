@@ -12,7 +12,7 @@ use Rattle.reader.specs.declared.Selector.{Selector}
 use Rattle.ast.specs.Tables.{treeAt}
 use Rattle.text.specs.Chain.{settled}
 use Rattle.text.specs.Answers.{timesOf}
-use Rattle.pieces.specs.declared.parts.Parts.{Parts}
+use Rattle.fields.specs.declared.parts.Parts.{Parts}
 
 -- the tree of record i is that of record j with the parts of the records between them
 pub record Sets (page : List ℕ) (i j : ℕ) (parts : Parts) : Type 0 where

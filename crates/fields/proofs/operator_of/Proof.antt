@@ -1,8 +1,8 @@
--- `pieces::fields::operator_of` meets its contract, field by field. Assumes nothing.
-use Rattle.pieces.proofs.FieldLaws.{operator-layout, operator-there, modifier-there}
+-- `fields::operator_of` meets its contract, field by field. Assumes nothing.
+use Rattle.fields.proofs.FieldLaws.{operator-layout, operator-there, modifier-there}
 use borrow.Author.Needs.{needs}
-use Rattle.pieces.proofs.fields.operator_of.Statement.{statement}
-use Rattle.pieces.proofs.fields.operator_of.Tie as tie
+use Rattle.fields.proofs.operator_of.Statement.{statement}
+use Rattle.fields.proofs.operator_of.Tie as tie
 
 fields-start-requires : tie.Need-fields-start-requires
 fields-start-requires c κs = search needs

@@ -1,4 +1,8 @@
-// What a node's text shows of the record at its foot, read where the record stands.
+// What a node's text shows of its records, read where they stand: the fields of the record at its foot, and the parts above it.
+pub mod parts;
+
+pub use parts::Parts;
+pub use parts::parts_of;
 use records::Step;
 use view::Foot;
 use view::Node;
@@ -15,7 +19,7 @@ ghost use Rattle.text.specs.Display.{displayOperator, displayAggregator};
 ghost use Rattle.text.specs.Layout.{whole, enclosed, infixed};
 ghost use Rattle.text.specs.Seen.{Reads};
 ghost use Rattle.view.specs.View.{NodeAt, layoutAt};
-ghost use Rattle.pieces.specs.Parts.{SelectorLies};
+ghost use Rattle.fields.specs.Parts.{SelectorLies};
 
 // The number, with its sign.
 pub fn literal_of(page: &[u8], starts: &[u16], node: Node) -> records::Literal

@@ -1,4 +1,4 @@
--- `pieces::parts::with_record` meets its contract: by the part's kind. Assumes nothing.
+-- `fields::parts::with_record` meets its contract: by the part's kind. Assumes nothing.
 use mathlib.Core.Path.{refl, _∙_}
 use native.Mathlib.Omega.{arith}
 use Rattle.page.specs.Read.{return}
@@ -6,10 +6,10 @@ use Rattle.page.specs.Number.{readNumber}
 use Rattle.records.specs.Time.{readAtModifier, readOffset}
 use Rattle.records.specs.Record.{range, at, offset, wrapper}
 use Rattle.view.proofs.KindLaws.{no-field}
-use Rattle.pieces.proofs.FieldLaws.{part-range, part-at, part-offset, last-part}
+use Rattle.fields.proofs.FieldLaws.{part-range, part-at, part-offset, last-part}
 use borrow.Author.Needs.{needs}
-use Rattle.pieces.proofs.parts.with_record.Statement.{statement}
-use Rattle.pieces.proofs.parts.with_record.Tie as tie
+use Rattle.fields.proofs.parts.with_record.Statement.{statement}
+use Rattle.fields.proofs.parts.with_record.Tie as tie
 
 fields-start-requires : tie.Need-fields-start-requires
 fields-start-requires c κs = omega (arith, c .before .before .pre .0 .tables .few, c .before .before .pre .0 .tables .starts-size)

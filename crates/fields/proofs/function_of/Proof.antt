@@ -1,8 +1,8 @@
--- `pieces::fields::function_of` meets its contract: the text stands behind the kind. Assumes nothing.
-use Rattle.pieces.proofs.FieldLaws.{function-layout, function-there}
+-- `fields::function_of` meets its contract: the text stands behind the kind. Assumes nothing.
+use Rattle.fields.proofs.FieldLaws.{function-layout, function-there}
 use borrow.Author.Needs.{needs}
-use Rattle.pieces.proofs.fields.function_of.Statement.{statement}
-use Rattle.pieces.proofs.fields.function_of.Tie as tie
+use Rattle.fields.proofs.function_of.Statement.{statement}
+use Rattle.fields.proofs.function_of.Tie as tie
 
 fields-start-requires : tie.Need-fields-start-requires
 fields-start-requires c κs = search needs
