@@ -21,7 +21,7 @@
  *
  * Calls keep nothing between them, allocate nothing and use no global state: any thread may call at any time, with a page that
  * no one writes to meanwhile. Both texts recurse over the records of a page, at most 256 deep: the most stack that was measured
- * is 255,015 bytes (docs/SPEED.md has each call's). Give a thread that prints a stack of 512 KiB or more.
+ * is 177,255 bytes (docs/SPEED.md has each call's). Give a thread that prints a stack of 512 KiB or more.
  */
 #ifndef SANDZGULI_H
 #define SANDZGULI_H
