@@ -36,8 +36,8 @@ module _ {C : Type 0} where
   one-left k ended h = absurd h
 
 module _ {C : Type 0} (contents : ℕ → C) (page : List ℕ) where
-  outcome-right : (outcome : Outcome) → check page ≡ outcome → KindsRightWith contents page outcome
-  outcome-right outcome e = subst (λ (o : Outcome). KindsRightWith contents page o) e (kindsRightWith contents page)
+  outcome-right : (outcome : Outcome) → check page ≡ outcome → KindsRightWith isSetAside kindRefusals contents page outcome
+  outcome-right outcome e = subst (λ (o : Outcome). KindsRightWith isSetAside kindRefusals contents page o) e (kindsRightWith contents page)
 
   -- "Where check accepts a page in which no call falls under the exp or logarithm literal exception and each limitk or limit_ratio has
   -- a scalar first argument, the working-out runs to the page's end, no record meets an operand kind that the documented operators

@@ -23,7 +23,7 @@ use Rattle.ast.specs.CheckPage.{apply, checkPage, outcomeOf, check}
 use Rattle.ast.proofs.StackLaws.{map-drop, map-operandsOf}
 use Rattle.kinds.specs.Asked.{areAsAsked, kindGiven, isInPlace}
 use Rattle.kinds.specs.WorkingOut.{Value, Step, ended, WorkedOut, kinds, stepOf, bareNumber, isSetAside, putBack, putBare, workRecords, workPage}
-use Rattle.kinds.specs.Demand3.{nothingSetAside, allAsAsked, RunsClean, MeetsFirst, KindsRightWith}
+use Rattle.kinds.specs.Demand3.{kindRefusals, nothingSetAside, allAsAsked, RunsClean, MeetsFirst, KindsRightWith}
 use Rattle.agreement.proofs.Bools.{both, either-left}
 use Rattle.agreement.proofs.Lists.{all-drop, all-operandsOf}
 use Rattle.agreement.proofs.Faults.{isKindRefusal}
@@ -170,7 +170,7 @@ module _ {C : Type 0} (contents : ℕ → C) where
 
 module _ {C : Type 0} (contents : ℕ → C) where
   -- the check's answer or refusal, from the claim at record 0
-  fromClaim : (page : List ℕ) (c : Checked Expr) → Claim 0 (workPage isSetAside contents (readPage page)) c → KindsRightWith contents page (outcomeOf c)
+  fromClaim : (page : List ℕ) (c : Checked Expr) → Claim 0 (workPage isSetAside contents (readPage page)) c → KindsRightWith isSetAside kindRefusals contents page (outcomeOf c)
   fromClaim page (accepted e n) f = f
   fromClaim page (refusedAt n j) f =
       λ k g. subst (λ (d : ℕ). MeetsFirst d steps) (same k) (f k .2 (subst (λ (d : ℕ). T (nothingSetAside (take d steps))) (sym (same k)) g))
@@ -182,7 +182,7 @@ module _ {C : Type 0} (contents : ℕ → C) where
       same k = sym (f k .1 ∙ add-zero (f k .0))
 
   -- for every byte string, every type of contents and every contents
-  pub kindsRightWith : (page : List ℕ) → KindsRightWith contents page (check page)
+  pub kindsRightWith : (page : List ℕ) → KindsRightWith isSetAside kindRefusals contents page (check page)
   unfolding checkPage
   kindsRightWith page =
       fromClaim page (checkPage page) (right contents (readPage page .ending) (length (readPage page .records)) (readPage page .records) 0 [] [] [] refl refl tt)
