@@ -1,60 +1,36 @@
 -- A page that the check refuses with 19 has its label at the part that `labelPart` answers: the record named is a binary record with a label
--- in both lists (`apply-refuses`), and `readJoint` at that record finds the first one (`readJoint-finds`). Assumes nothing.
-use Prim.Native.Nat.{ℕ, zero, suc}
-use mathlib.Core.Path.{_≡_, refl, sym, ap, _∙_, subst}
-use mathlib.Core.Bool.{Bool, true, false, _||_}
-use mathlib.Core.List.{List, [], _∷_, cons-ne-nil}
+-- in both lists (`apply-refuses`), and `readJoint` at that record finds the first one, with its place (`readJoint-written`). Assumes nothing.
+use Prim.Native.Nat.{ℕ, _+_, _-_, _≤_}
+use mathlib.Core.Path.{_≡_, refl, sym, ap, ap₂, _∙_, subst}
+use mathlib.Core.Bool.{Bool, true, false, not}
+use mathlib.Core.List.{List, [], _∷_, _++_, append-assoc}
 use mathlib.Core.Option.{none, some}
 use native.Mathlib.Omega.{arith}
-use lib.ListN.{length, drop}
-use lib.Seq.{drop-nil}
+use lib.ListN.{length, take, drop, length-append}
+use lib.Seq.{take-append-seam, drop-append-seam, length-take-le}
 use borrow.Author.Tests.{ne-eqb}
-use lib.Dec.{T, leb}
-use Rattle.page.specs.Bytes.{pick, any}
-use Rattle.page.specs.Limits.{pageLimit, recordLimit}
-use Rattle.page.specs.Read.{badField, pastLimit, badText, Read, refused, got}
-use Rattle.records.specs.Field.{Labels}
-use Rattle.records.specs.Modifier.{BinModifier}
-use Rattle.records.specs.Record.{Record, leaf, wrapper, binary, aggregate, call, readRecord, Ending, end, unreadable, noRecords, followed, readRecords, readPage}
+use lib.Dec.{T}
+use Rattle.page.specs.Bytes.{pick, all, any}
+use Rattle.page.specs.Read.{badField, pastLimit, badText, got}
+use Rattle.page.specs.Number.{writeNumber}
+use Rattle.page.specs.Text.{Text, writeText, writeAll}
+use Rattle.page.proofs.NumberLaws.{left-of, right-of, isByte}
+use Rattle.records.specs.Literal.{writeLiteral}
+use Rattle.records.specs.Field.{Labels, writeFlag, writeOption}
+use Rattle.records.specs.Modifier.{BinModifier, Cardinality, oneToOne, manyToMany, manyToOne, oneToMany, writeLabelModifier, writeCardinality}
+use Rattle.records.specs.Record.{Record, leaf, wrapper, binary, aggregate, call, readRecord, writeRecord, Ending, end, unreadable, readPage}
 use Rattle.records.specs.Outcome.{Outcome, refusal}
 use Rattle.ast.specs.Refusal.{Result}
 use Rattle.ast.specs.Expr.{Expr}
-use Rattle.ast.specs.CheckAst.{hasLabel, onLabels, groupLabels}
+use Rattle.ast.specs.CheckAst.{hasLabel, onLabels, groupLabels, checkAst}
 use Rattle.ast.specs.Walk.{Walked, stack, stopped, atEnd, finished, walk}
 use Rattle.ast.specs.CheckPage.{apply, checkPage, outcomeOf, check}
-use Rattle.ast.specs.Part.{emptyPart, partOf, behind, fromRecord, Placed, firstIn, readJoint, partIn, labelPart, firstShared, HoldsJointLabel}
+use Rattle.ast.specs.Part.{Part, emptyPart, partOf, fromRecord, Placed, readJoint, partIn, labelPart, writeGroupHead, writtenBefore, HoldsJointLabel}
+use Rattle.ast.specs.PartExample.{jointPage}
 use Rattle.ast.proofs.RefusalLaws.{RefusedIn, isOfRecord, apply-refuses}
 use Rattle.ast.proofs.WalkLaws.{StoppedAt, walk-stops}
-use Rattle.ast.proofs.PartLaws.{Holds, labelPart-lies, labelPart-holds}
-use Rattle.ast.proofs.JointLaws.{labels, Sees, JointModifier, Joint, readJoint-finds}
-
--- ## The bytes of record i of a page
-
-none-there : {A : Type 0} {B : Type 0} (k : ℕ) (x : A) (xs : List A) → drop k [] ≡ x ∷ xs → B
-none-there k x xs e = absurd (cons-ne-nil x xs (sym e ∙ drop-nil k))
-
-readRecords-at : (n : ℕ) (s : List ℕ) (k : ℕ) (r : Record) (later : List Record) → drop k (readRecords n s .records) ≡ r ∷ later → (t : List ℕ) × (readRecord (fromRecord k s) ≡ got r t)
-readRecords-at zero [] k r later e = none-there k r later e
-readRecords-at zero (b ∷ bs) k r later e = none-there k r later e
-readRecords-at (suc n) [] k r later e = none-there k r later e
-readRecords-at (suc n) (b ∷ bs) k r later e = by k (readRecord (b ∷ bs)) refl (readRecords-at n) e
-  where
-    by : (k : ℕ) (m : Read Record) → readRecord (b ∷ bs) ≡ m
-        → ((s : List ℕ) (k : ℕ) (r : Record) (later : List Record) → drop k (readRecords n s .records) ≡ r ∷ later → (t : List ℕ) × (readRecord (fromRecord k s) ≡ got r t))
-        → drop k (followed m (λ rest. readRecords n rest) .records) ≡ r ∷ later → (t : List ℕ) × (readRecord (fromRecord k (b ∷ bs)) ≡ got r t)
-    by k (refused f) q more e = none-there k r later e
-    by zero (got x rest) q more e = (rest, let same : x ≡ r = cc in q ∙ ap (λ (y : Record). got y rest) same)
-    by (suc k) (got x rest) q more e =
-        let found = more rest k r later e in
-        (found .0, ap (λ (m : Read Record). readRecord (fromRecord k (behind m))) q ∙ found .1)
-
-readPage-at : (page : List ℕ) (k : ℕ) (r : Record) (later : List Record) → drop k (readPage page .records) ≡ r ∷ later → (t : List ℕ) × (readRecord (fromRecord k page) ≡ got r t)
-unfolding readPage
-readPage-at page k r later = by (leb (length page) pageLimit)
-  where
-    by : (b : Bool) → drop k (pick b (readRecords recordLimit page) (noRecords (unreadable pastLimit)) .records) ≡ r ∷ later → (t : List ℕ) × (readRecord (fromRecord k page) ≡ got r t)
-    by true e = readRecords-at recordLimit page k r later e
-    by false e = none-there k r later e
+use Rattle.ast.proofs.RecordAtLaws.{RecordAt, readPage-at}
+use Rattle.ast.proofs.PlaceLaws.{toFills, readJoint-written, Shared, first-shared}
 
 -- ## The record that is refused with 19
 
@@ -94,48 +70,114 @@ check-named page i =
 
 -- ## Its label
 
-first-found : (on : Labels) (ps : List Placed) → T (any (hasLabel on) (labels ps)) → (p : Placed) × (firstIn on ps ≡ p ∷ []) × (firstShared on (labels ps) ≡ p .label ∷ [])
-first-found on [] h = absurd h
-first-found on (p ∷ ps) h = by (hasLabel on (p .label)) (first-found on ps) h
-  where
-    by : (b : Bool) → (T (any (hasLabel on) (labels ps)) → (p : Placed) × (firstIn on ps ≡ p ∷ []) × (firstShared on (labels ps) ≡ p .label ∷ []))
-        → T (b || any (hasLabel on) (labels ps))
-        → (q : Placed) × (pick b (p ∷ []) (firstIn on ps) ≡ q ∷ []) × (pick b (p .label ∷ []) (firstShared on (labels ps)) ≡ q .label ∷ [])
-    by true more h = (p, refl, refl)
-    by false more h = more h
+writeAll-append : (xs ys : Labels) → writeAll writeText (xs ++ ys) ≡ writeAll writeText xs ++ writeAll writeText ys
+writeAll-append [] ys = refl
+writeAll-append (x ∷ xs) ys =
+    ap (λ (s : List ℕ). writeText x ++ s) (writeAll-append xs ys) ∙ sym (append-assoc (writeText x) (writeAll writeText xs) (writeAll writeText ys))
 
-module _ (page : List ℕ) (i : ℕ) where
+head-labels : (c : Cardinality) → writeCardinality c ≡ writeGroupHead c ++ writeAll writeText (groupLabels c)
+head-labels oneToOne = refl
+head-labels manyToMany = refl
+head-labels (manyToOne ls) = refl
+head-labels (oneToMany ls) = refl
+
+-- the labels of a group before one of them, it and those behind it
+group-apart : (c : Cardinality) (earlier : Labels) (label : Text) (more : Labels) → groupLabels c ≡ earlier ++ (label ∷ more)
+    → writeCardinality c ≡ writeGroupHead c ++ (writeAll writeText earlier ++ (writeText label ++ writeAll writeText more))
+group-apart c earlier label more e =
+    head-labels c ∙ ap (λ (s : List ℕ). writeGroupHead c ++ s) (ap (writeAll writeText) e ∙ writeAll-append earlier (label ∷ more))
+
+-- the fields of a binary record and what stands behind it, and those before and behind a label of its group, one after the other
+fields-apart : (kind code mark bool matching card left right rest : List ℕ)
+    → (kind ++ code) ++ (mark ++ (bool ++ matching ++ card ++ left ++ right)) ++ rest
+    ≡ kind ++ (code ++ (mark ++ (bool ++ (matching ++ (card ++ (left ++ (right ++ rest)))))))
+fields-apart kind code mark bool matching card left right rest = simp append-assoc
+
+label-apart : (records kind code mark bool matching head earlier size label more rest : List ℕ)
+    → records ++ (kind ++ (code ++ (mark ++ (bool ++ (matching ++ ((head ++ (earlier ++ ((size ++ label) ++ more))) ++ rest))))))
+    ≡ (records ++ (kind ++ code) ++ (mark ++ bool) ++ matching ++ head ++ earlier ++ size) ++ (label ++ (more ++ rest))
+label-apart records kind code mark bool matching head earlier size label more rest = simp append-assoc
+
+-- a part by what stands before it and behind it
+module _ (page before label rest : List ℕ) (e : page ≡ before ++ (label ++ rest)) where
+  abbrev part : Part
+  part = partIn (length page) (got (record { label = label; left = length rest } ∷ []) [])
+
+  start-is : part .start ≡ length before
+  start-is = subtract (ap length e ∙ length-append before (label ++ rest)) (length-append label rest)
+    where
+      subtract : length page ≡ length before + length (label ++ rest) → length (label ++ rest) ≡ length label + length rest
+          → length page - length rest - length label ≡ length before
+      subtract g h = omega arith
+
+  place-is : take (part .start) page ≡ before
+  place-is = ap (λ (n : ℕ). take n page) start-is ∙ ap (take (length before)) e ∙ take-append-seam before (label ++ rest)
+
+  part-holds : partOf page part ≡ label
+  part-holds =
+      ap (λ (n : ℕ). take (length label) (drop n page)) start-is
+      ∙ ap (λ (s : List ℕ). take (length label) (drop (length before) s)) e
+      ∙ ap (take (length label)) (drop-append-seam before (label ++ rest))
+      ∙ take-append-seam label rest
+
+  part-lies : part .start + part .size ≤ length page
+  part-lies = omega (arith, start-is, ap length e, length-append before (label ++ rest), length-append label rest)
+
+module _ (page : List ℕ) (bytes : T (all isByte page)) (i : ℕ) where
   part-found : (c : ℕ) (m : BinModifier) (later : List Record) → drop i (readPage page .records) ≡ binary c (some m) ∷ later
       → T (any (hasLabel (onLabels (m .matching))) (groupLabels (m .card))) → HoldsJointLabel page i (labelPart page (refusal 19 i))
-  unfolding labelPart
+  unfolding labelPart writeRecord
   part-found c m later e h =
+      rw (ap (partIn (length page)) reads) (
       record {
         code = c;
         modifier = m;
         later = later;
-        label = label;
+        earlier = shared .earlier;
+        label = shared .label;
+        more = shared .more;
         isRecord = e;
-        isFirst = ap (firstShared (onLabels (m .matching))) (sym (joint .3)) ∙ found .2;
-        lies = labelPart-lies page (refusal 19 i);
-        isSize = ap (λ (x : Read (List Placed)). partIn (length page) x .size) reads;
-        holds = ap (λ (x : Read (List Placed)). partOf page (partIn (length page) x)) reads
-            ∙ subst (λ (x : Read (List Placed)). Holds page x) reads (labelPart-holds page i);
+        isGroup = shared .isGroup;
+        isShared = shared .isShared;
+        isFirst = shared .isFirst;
+        isPlace = place-is page before (shared .label) after whole;
+        isSize = refl;
+        holds = part-holds page before (shared .label) after whole;
+        lies = part-lies page before (shared .label) after whole;
       }
+      )
     where
-      bytes : (t : List ℕ) × (readRecord (fromRecord i page) ≡ got (binary c (some m)) t)
-      bytes = readPage-at page i (binary c (some m)) later e
+      at : RecordAt page i (readPage page .records) (binary c (some m))
+      at = readPage-at page bytes i (binary c (some m)) later e
 
-      joint : JointModifier m (readJoint (fromRecord i page))
-      joint = subst (λ (x : Read Record). Sees Joint x (readJoint (fromRecord i page))) (bytes .1) (readJoint-finds (fromRecord i page))
+      -- the fills and all behind the record
+      rest : List ℕ
+      rest = writeOption writeLiteral (m .fillValues .lhs) ++ (writeOption writeLiteral (m .fillValues .rhs) ++ at .rest)
 
-      found : (p : Placed) × (firstIn (onLabels (m .matching)) (joint .0) ≡ p ∷ []) × (firstShared (onLabels (m .matching)) (labels (joint .0)) ≡ p .label ∷ [])
-      found = first-found (onLabels (m .matching)) (joint .0) (subst (λ (x : Labels). T (any (hasLabel (onLabels (m .matching))) x)) (sym (joint .3)) h)
+      here : fromRecord i page ≡ toFills c m rest
+      here = at .isRecord ∙ fields-apart (9 ∷ []) (writeNumber c) (1 ∷ []) (writeFlag (m .returnBool)) (writeLabelModifier (m .matching)) (writeCardinality (m .card))
+          (writeOption writeLiteral (m .fillValues .lhs)) (writeOption writeLiteral (m .fillValues .rhs)) (at .rest)
 
-      label : List ℕ
-      label = found .0 .label
+      shared : Shared (onLabels (m .matching)) (groupLabels (m .card)) rest
+      shared = first-shared (onLabels (m .matching)) rest (groupLabels (m .card)) h
 
-      reads : readJoint (fromRecord i page) ≡ got (found .0 ∷ []) (joint .1)
-      reads = joint .2 ∙ ap (λ (x : List Placed). got x (joint .1)) (found .1)
+      reads : readJoint (fromRecord i page) ≡ got (record { label = shared .label; left = length (writeAll writeText (shared .more) ++ rest) } ∷ []) rest
+      reads = ap readJoint here ∙ readJoint-written c m rest (at .isAllowed) ∙ ap (λ (ps : List Placed). got ps rest) (shared .isFound)
+
+      before : List ℕ
+      before = writtenBefore (take i (readPage page .records)) c m (shared .earlier) (shared .label)
+
+      after : List ℕ
+      after = writeAll writeText (shared .more) ++ rest
+
+      whole : page ≡ before ++ (shared .label ++ after)
+      whole =
+          at .isWhole
+          ∙ ap (λ (s : List ℕ). writeAll writeRecord (take i (readPage page .records)) ++ s) here
+          ∙ ap (λ (s : List ℕ). writeAll writeRecord (take i (readPage page .records)) ++ (9 ∷ (writeNumber c ++ (1 ∷ (writeFlag (m .returnBool) ++ (writeLabelModifier (m .matching) ++ (s ++ rest)))))))
+          (group-apart (m .card) (shared .earlier) (shared .label) (shared .more) (shared .isGroup))
+          ∙ label-apart (writeAll writeRecord (take i (readPage page .records))) (9 ∷ []) (writeNumber c) (1 ∷ []) (writeFlag (m .returnBool)) (writeLabelModifier (m .matching))
+          (writeGroupHead (m .card)) (writeAll writeText (shared .earlier)) (writeNumber (length (shared .label))) (shared .label) (writeAll writeText (shared .more)) rest
 
   record-found : (r : Record) (later : List Record) → drop i (readPage page .records) ≡ r ∷ later → T (isOfRecord r 19) → HoldsJointLabel page i (labelPart page (refusal 19 i))
   record-found (leaf l) later e h = absurd h
@@ -145,13 +187,62 @@ module _ (page : List ℕ) (i : ℕ) where
   record-found (aggregate c m n) later e h = absurd h
   record-found (call f n) later e h = absurd h
 
-  -- a page refused with 19: the part holds the first group label of the record named that is also in its on list
+  -- a page refused with 19: the part is the first group label of the record named that is also in its on list, where it stands in the group list
   pub labelPart-joint : check page ≡ refusal 19 i → HoldsJointLabel page i (labelPart page (check page))
   labelPart-joint e =
       let n = check-named page i e in
       subst (λ (o : Outcome). HoldsJointLabel page i (labelPart page o)) (sym e) (record-found (n .0) (n .1) (n .2) (n .3))
 
-  -- any other outcome has an empty part
-  pub labelPart-otherwise : (n : ℕ) → (n ≡ 19 → ⊥) → labelPart page (refusal n i) ≡ emptyPart
-  unfolding labelPart
-  labelPart-otherwise n h = ap (λ (b : Bool). pick b (partIn (length page) (readJoint (fromRecord i page))) emptyPart) (ne-eqb n 19 h)
+-- any other outcome has an empty part
+pub labelPart-otherwise : (page : List ℕ) (i n : ℕ) → (n ≡ 19 → ⊥) → labelPart page (refusal n i) ≡ emptyPart
+unfolding labelPart
+labelPart-otherwise page i n h = ap (λ (b : Bool). pick b (partIn (length page) (readJoint (fromRecord i page))) emptyPart) (ne-eqb n 19 h)
+
+-- ## There is one such part
+
+both-ways : (b : Bool) → T b → T (not b) → ⊥
+both-ways true p q = q
+both-ways false p q = p
+
+-- the first element that passes a test, and those before it
+split-unique : (test : Text → Bool) (xs ys : Labels) (x y : Text) (more others : Labels) → xs ++ (x ∷ more) ≡ ys ++ (y ∷ others)
+    → T (test x) → T (test y) → T (all (λ t. not (test t)) xs) → T (all (λ t. not (test t)) ys) → (xs ≡ ys) × (x ≡ y)
+split-unique test [] [] x y more others e p q h k = (refl, cc)
+split-unique test [] (b ∷ ys) x y more others e p q h k =
+    let same : x ≡ b = cc in
+    absurd (both-ways (test b) (rw same at p) (left-of (not (test b)) (all (λ t. not (test t)) ys) k))
+split-unique test (a ∷ xs) [] x y more others e p q h k =
+    let same : y ≡ a = cc in
+    absurd (both-ways (test a) (rw same at q) (left-of (not (test a)) (all (λ t. not (test t)) xs) h))
+split-unique test (a ∷ xs) (b ∷ ys) x y more others e p q h k =
+    let first : a ≡ b = cc in
+    let tails : xs ++ (x ∷ more) ≡ ys ++ (y ∷ others) = cc in
+    let same = split-unique test xs ys x y more others tails p q (right-of (not (test a)) (all (λ t. not (test t)) xs) h) (right-of (not (test b)) (all (λ t. not (test t)) ys) k) in
+    (ap₂ {C = Labels} (λ t ts. t ∷ ts) first (same .0), same .1)
+
+module _ {page : List ℕ} {i : ℕ} {part : Part} (h : HoldsJointLabel page i part) where
+  start-written : part .start ≡ length (writtenBefore (take i (readPage page .records)) (h .code) (h .modifier) (h .earlier) (h .label))
+  start-written = sym (length-take-le (part .start) page (within (h .lies))) ∙ ap length (h .isPlace)
+    where
+      within : part .start + part .size ≤ length page → part .start ≤ length page
+      within g = omega arith
+
+-- what `HoldsJointLabel` says is said of one part only
+pub label-unique : {page : List ℕ} {i : ℕ} {part other : Part} → HoldsJointLabel page i part → HoldsJointLabel page i other → part ≡ other
+label-unique {page} {i} {part} {other} h k =
+    let records : binary (h .code) (some (h .modifier)) ∷ h .later ≡ binary (k .code) (some (k .modifier)) ∷ k .later = sym (h .isRecord) ∙ k .isRecord in
+    let code : h .code ≡ k .code = cc in
+    let modifier : h .modifier ≡ k .modifier = cc in
+    let group : h .earlier ++ (h .label ∷ h .more) ≡ k .earlier ++ (k .label ∷ k .more) = sym (h .isGroup) ∙ ap (λ (m : BinModifier). groupLabels (m .card)) modifier ∙ k .isGroup in
+    let same =
+    split-unique (hasLabel (onLabels (h .modifier .matching))) (h .earlier) (k .earlier) (h .label) (k .label) (h .more) (k .more) group
+    (h .isShared) (rw (← modifier) at (k .isShared)) (h .isFirst) (rw (← modifier) at (k .isFirst)) in
+    let start : part .start ≡ other .start = start-written h ∙ (rw (code, modifier, same .0, same .1)) ∙ sym (start-written k) in
+    ap₂ (λ (s n : ℕ). record { start = s; size = n }) start (h .isSize ∙ ap length (same .1) ∙ sym (k .isSize))
+
+-- so the same label in the on list is not the part
+label-of-on : HoldsJointLabel jointPage 2 (record { start = 19; size = 1 }) → ⊥
+unfolding readRecord readPage checkAst apply checkPage labelPart
+label-of-on h =
+    let same : _≡_ {A = ℕ} 19 23 = ap (λ (p : Part). p .start) (label-unique h (labelPart-joint jointPage tt 2 refl)) in
+    omega arith

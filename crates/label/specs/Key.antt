@@ -56,7 +56,7 @@ AreKeys page (k ∷ ks) = IsKey page k × AreKeys page ks
 unfoldable pub keyTexts : List ℕ → List ℕ → List (List ℕ)
 keyTexts page ks = map (keyText page) ks
 
--- the same keys, in the order of their texts
+-- keys whose texts are those of the keys before, sorted
 pub record Sorts (page before after : List ℕ) : Type 0 where
   pub sorted : keyTexts page after ≡ sort (keyTexts page before)
   pub keys : AreKeys page after

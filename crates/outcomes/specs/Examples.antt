@@ -11,7 +11,6 @@ use Rattle.records.specs.Kind.{Kind, vector, scalar, matrix, equalKind}
 use Rattle.records.specs.Record.{readRecord, readPage, writeRecord}
 use Rattle.ast.specs.CheckAst.{checkAst}
 use Rattle.ast.specs.CheckPage.{apply, checkPage, check}
-use Rattle.ast.specs.Part.{Part, labelPart}
 use Rattle.copy.specs.Copy.{copyPage}
 use Rattle.util.specs.Decimal.{digits, decimal}
 use Rattle.util.specs.Escape.{escapeByte, escape, quote}
@@ -91,19 +90,6 @@ writesAs (refuses n i w) page = equalBytes (programOutput page) (bytes w)
 
 abbrev holds : Example → Bool
 holds e = outcomeIs (e .expected) (check (e .page)) && writesAs (e .expected) (e .page)
-
--- `up + on (x, y) group_left (y, x) up`, refused with 19: the label y that stands behind group_left, and not the y of the on list
-abbrev jointPage : List ℕ
-jointPage =
-    0x02 ∷ 0x02 ∷ 0x75 ∷ 0x70 ∷ 0x00 ∷ 0x02 ∷ 0x02 ∷ 0x75 ∷ 0x70 ∷ 0x00 ∷ 0x09 ∷ 0x01 ∷ 0x01 ∷ 0x00 ∷ 0x01 ∷ 0x02 ∷ 0x01 ∷ 0x78 ∷ 0x01 ∷ 0x79
-    ∷ 0x01 ∷ 0x02 ∷ 0x01 ∷ 0x79 ∷ 0x01 ∷ 0x78 ∷ 0x00 ∷ 0x00 ∷ []
-
-abbrev isPart : ℕ → ℕ → Part → Bool
-isPart start size p = eqb start (p .start) && eqb size (p .size)
-
-jointLabel : T (outcomeIs (refuses 19 2 "") (check jointPage) && isPart 23 1 (labelPart jointPage (check jointPage)))
-unfolding readRecord readPage checkAst apply checkPage labelPart
-jointLabel = tt
 
 -- row 5 of document 01's table: `up`, 1 byte lent. 5 has the number of records as index, and the buffer keeps its byte
 abbrev isTooShort : Called → Bool

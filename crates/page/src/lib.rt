@@ -1,4 +1,4 @@
-// The fields of a page (document 01, 'The page', house format): numbers, counts and texts, read at a position and written into a buffer.
+// The fields of a page (document 01, 'The page', house format): numbers, counts and texts, read at a position; bytes written into a buffer.
 pub mod fault;
 pub mod list;
 pub mod name;
@@ -27,8 +27,5 @@ pub use text::same_text;
 pub use text::stored_text;
 pub use text::text_at;
 pub use text::within;
-pub use write::number_len;
 pub use write::put_byte;
 pub use write::put_bytes;
-pub use write::put_number;
-pub use write::put_text;

@@ -142,7 +142,7 @@ readFunction-back f h =
 
 -- ## Records
 
-readCode-back : ReadsBack readCode writeNumber (λ c. T (isCode c))
+pub readCode-back : ReadsBack readCode writeNumber (λ c. T (isCode c))
 readCode-back c h = reads-tested isCode badField (readNumber-back c (omega (arith, leb→le c 30 (right-of (leb 1 c) (leb c 30) h)))) h
 
 readSelector-back : (s : Selector) → IsSelector s → Reads readSelector (writeText (s .name) ++ writeList writeMatcher (s .matchers)) (leaf (selector s))

@@ -37,7 +37,7 @@ one-line (Call f es) s level h = rw (le-ltb _ _ h)
 
 -- ## The mark
 
--- a text that is its indentation and then begins with no space: with the mark or without
+-- a text that is its indentation and then begins with no white character: with the mark or without
 marked-is : (e : Expr) (level : ℕ) {text : List ℕ} → pretty e level ≡ indent level ++ text → Begins text → (mark : Bool) → marked mark level e ≡ indentIf mark level ++ text
 unfolding marked
 marked-is e level p b true = p
@@ -75,7 +75,7 @@ unfolding joined
 texts-map level [] = refl
 texts-map level (e ∷ es) = refl
 
--- ## The split text without its indentation begins with no space
+-- ## The split text without its indentation begins with no white character
 
 record Trims (text : List ℕ) : Type 0 where
   rest : Begins (trimStart text)

@@ -1,5 +1,5 @@
--- Every tree on the stack of an accepted page is sound: names begin with a letter, `_` or `:`, the words of the codes with no space,
--- and a selector without a name has matchers, or it is refused with 34.
+-- Every tree on the stack of an accepted page is sound: names begin with a letter, `_` or `:`, the words of the codes with no white
+-- character, and a selector without a name has matchers, or it is refused with 34. So no text begins with one (`display-trimmed`).
 use Prim.Native.Nat.{ℕ, zero, suc, _-_, _≤_, _<_}
 use native.Mathlib.Omega.{arith}
 use mathlib.Core.Path.{_≡_, refl, sym, ap, subst, _∙_}
@@ -7,9 +7,9 @@ use mathlib.Core.Bool.{Bool, true, false, _||_, not}
 use mathlib.Core.List.{List, [], _∷_}
 use mathlib.Core.Option.{Option, none, some}
 use lib.ListN.{length, drop, getD, replicate}
-use lib.Dec.{T, leb, eqb, leb→le}
+use lib.Dec.{T, leb, ltb, eqb, leb→le, ltb→lt, eqb→eq}
 use Rattle.base.specs.Table.{at}
-use Rattle.page.specs.Bytes.{bytes, all}
+use Rattle.page.specs.Bytes.{bytes, all, between}
 use Rattle.page.specs.Read.{got}
 use Rattle.page.specs.Text.{Text, isAlpha, isAlphaNumeric, isLabel, isMetricName, isSelectorName}
 use Rattle.records.specs.Stack.{operandsOf}
@@ -29,9 +29,10 @@ use Rattle.ast.specs.Construct.{newAggregateOf, noTimes}
 use Rattle.ast.specs.CheckAst.{selectorRows, checkAst}
 use Rattle.ast.specs.CheckPage.{leafExpr, wrap, apply}
 use Rattle.ast.specs.Tables.{stackAt, treeAt, Tables}
-use Rattle.text.specs.Display.{displaySelector}
+use Rattle.text.specs.Display.{display, displaySelector}
+use Rattle.text.specs.Pretty.{trimStart}
 use Rattle.text.specs.Chain.{withAt, withOffset, settled}
-use Rattle.text.proofs.TrimLaws.{Begins, begins, begins-append, Sound}
+use Rattle.text.proofs.TrimLaws.{Begins, begins, begins-append, trim-none, Sound, display-begins}
 use Rattle.text.proofs.TreeLaws.{checkedExpr, Pushed, leaf-ok, wrapper-ok, binary-ok, aggregate-ok, call-ok}
 use Rattle.text.proofs.EntryLaws.{negated, UnaryOf, unary-of}
 use Rattle.text.proofs.SeenLaws.{number-is}
@@ -43,22 +44,42 @@ stackAt-none page = refl
 
 -- ## Names and words
 
+-- a letter, `_` or `:` stands above the space
+alpha-high : (c : ℕ) → T (isAlpha c) → 32 < c
+alpha-high c h = by (between 65 90 c) (between 97 122 c) (eqb c 95) (ranged 65 90) (ranged 97 122) (equals 95) h
+  where
+    ranged : (low high : ℕ) → T (between low high c) → low ≤ c
+    ranged low high g = leb→le low c (left-of (leb low c) (leb c high) g)
+
+    equals : (b : ℕ) → T (eqb c b) → c ≡ b
+    equals b g = eqb→eq c b g
+
+    by : (x y z : Bool) → (T x → 65 ≤ c) → (T y → 97 ≤ c) → (T z → c ≡ 95) → T (x || y || z) → 32 < c
+    by true y z p q r g = omega (arith, p tt)
+    by false true z p q r g = omega (arith, q tt)
+    by false false true p q r g = omega (arith, r tt)
+    by false false false p q r g = absurd g
+
 label-begins : (t : Text) → T (isLabel t) → Begins t
 label-begins [] h = absurd h
-label-begins (c ∷ cs) h = begins c cs (λ e. subst (λ (x : ℕ). T (isAlpha x)) e (left-of (isAlpha c) (all isAlphaNumeric cs) h))
+label-begins (c ∷ cs) h = begins c cs (alpha-high c (left-of (isAlpha c) (all isAlphaNumeric cs) h))
 
 metric-begins : (c : ℕ) (cs : Text) → T (isMetricName (c ∷ cs)) → Begins (c ∷ cs)
-metric-begins c cs h =
-    begins c cs (λ e. subst (λ (x : ℕ). T (isAlpha x || eqb x 58)) e (left-of (isAlpha c || eqb c 58) (all (λ x. isAlphaNumeric x || eqb x 58) cs) h))
+metric-begins c cs h = begins c cs (by (isAlpha c) (eqb c 58) (alpha-high c) (eqb→eq c 58) (left-of (isAlpha c || eqb c 58) (all (λ x. isAlphaNumeric x || eqb x 58) cs) h))
+  where
+    by : (x y : Bool) → (T x → 32 < c) → (T y → c ≡ 58) → T (x || y) → 32 < c
+    by true y p q g = p tt
+    by false true p q g = omega (arith, q tt)
+    by false false p q g = absurd g
 
 isBeginning : List ℕ → Bool
 isBeginning [] = false
-isBeginning (c ∷ cs) = not (eqb c 32)
+isBeginning (c ∷ cs) = ltb 32 c
 
 beginning : (t : List ℕ) → T (isBeginning t) → Begins t
 unfolding isBeginning
 beginning [] h = absurd h
-beginning (c ∷ cs) h = begins c cs (λ e. subst (λ (x : ℕ). T (not (eqb x 32))) e h)
+beginning (c ∷ cs) h = begins c cs (ltb→lt 32 c h)
 
 -- the words of all codes, by one table
 word-test : ℕ → ℕ → Bool
@@ -149,20 +170,20 @@ below-sound (suc n) (e ∷ s) h = below-sound n s (h .1)
 pushed-sound : {made : Result Expr} {below after : List Expr} (p : Pushed made below after) → Sound (checkedExpr (p .node)) → Each Sound below → Each Sound after
 pushed-sound p s below = rw (p .stack) (s, below)
 
-apply-sound : (r : Record) (s after : List Expr) → IsAllowed r → operands r ≤ length s → Each Sound s → apply r s ≡ ok after → Each Sound after
-apply-sound (leaf l) s after a n h k = let p = leaf-ok l s after k in pushed-sound p (leaf-sound l (p .node) a (p .makes) (p .passes)) h
-apply-sound (wrapper w) [] after a n h k = absurd (omega arith)
-apply-sound (wrapper w) (e ∷ s) after a n h k = let p = wrapper-ok w e s after k in pushed-sound p (wrap-sound w e (p .node) (h .0) (p .makes)) (h .1)
-apply-sound (binary c m) [] after a n h k = absurd (omega arith)
-apply-sound (binary c m) (r ∷ []) after a n h k = absurd (omega arith)
-apply-sound (binary c m) (r ∷ l ∷ s) after a n h k = let p = binary-ok c m l r s after k in pushed-sound p (left (p .node) (p .makes)) (h .1 .1)
+apply-begins : (r : Record) (s after : List Expr) → IsAllowed r → operands r ≤ length s → Each Sound s → apply r s ≡ ok after → Each Sound after
+apply-begins (leaf l) s after a n h k = let p = leaf-ok l s after k in pushed-sound p (leaf-sound l (p .node) a (p .makes) (p .passes)) h
+apply-begins (wrapper w) [] after a n h k = absurd (omega arith)
+apply-begins (wrapper w) (e ∷ s) after a n h k = let p = wrapper-ok w e s after k in pushed-sound p (wrap-sound w e (p .node) (h .0) (p .makes)) (h .1)
+apply-begins (binary c m) [] after a n h k = absurd (omega arith)
+apply-begins (binary c m) (r ∷ []) after a n h k = absurd (omega arith)
+apply-begins (binary c m) (r ∷ l ∷ s) after a n h k = let p = binary-ok c m l r s after k in pushed-sound p (left (p .node) (p .makes)) (h .1 .1)
   where
     left : (node : Expr) → ok (Binary c m l r) ≡ ok node → Sound (checkedExpr node)
     left node q = let same : node ≡ Binary c m l r = cc in rw same (h .1 .0)
-apply-sound (aggregate c m count) s after a n h k =
+apply-begins (aggregate c m count) s after a n h k =
     let p = aggregate-ok c m count s after k in
     pushed-sound p (aggregate-sound c m (hasParameter c) (operandsOf count s) (p .node) (word-begins c (a .0)) (p .makes)) (below-sound count s h)
-apply-sound (call f count) s after a n h k =
+apply-begins (call f count) s after a n h k =
     let p = call-ok f count s after k in
     pushed-sound p (named (p .node) (p .makes)) (below-sound count s h)
   where
@@ -179,8 +200,12 @@ module _ {page starts firsts : List ℕ} {n : ℕ} (t : Tables page starts first
   stack-sound zero h = rw (stackAt-none page) tt
   stack-sound (suc i) h =
       let e = t .entry i (omega arith) in
-      apply-sound (e .item) (stackAt page i) (stackAt page (suc i)) (allowed _ (e .reads)) (e .enough) (stack-sound i (omega arith)) (e .applies)
+      apply-begins (e .item) (stackAt page i) (stackAt page (suc i)) (allowed _ (e .reads)) (e .enough) (stack-sound i (omega arith)) (e .applies)
 
   -- the tree that a record ends
   pub tree-sound : (i : ℕ) → i < n → Sound (treeAt page i)
   tree-sound i h = let stack : Each Sound (treeAt page i ∷ stackAt page (getD firsts i 0)) = rw (t .entry i h .grows) at (stack-sound (suc i) h) in stack .0
+
+  -- no text of the tree begins with a white character: `trim_start` leaves it as it is
+  pub display-trimmed : (i : ℕ) → i < n → trimStart (display (treeAt page i)) ≡ display (treeAt page i)
+  display-trimmed i h = trim-none (display-begins (treeAt page i) (tree-sound i h))

@@ -1,13 +1,13 @@
 -- `trim_start` under a unary expression takes away the operand's indentation and nothing else, since no node's own text begins with
--- a space: a number, a quote, a name, a brace, a bracket, a minus or a word stands first.
-use Prim.Native.Nat.{ℕ, zero, suc, _+_, _/_, _%_}
+-- a white character: a number, a quote, a name, a brace, a bracket, a minus or a word stands first, all above the space.
+use Prim.Native.Nat.{ℕ, zero, suc, _+_, _/_, _%_, _<_}
 use native.Mathlib.Omega.{arith}
 use mathlib.Core.Path.{_≡_, refl}
 use mathlib.Core.Bool.{Bool, true, false}
 use mathlib.Core.List.{List, [], _∷_, _++_}
 use borrow.Author.Tests.{ne-eqb}
 use lib.Dec.{eqb, ltb}
-use Rattle.page.specs.Bytes.{pick}
+use Rattle.page.specs.Bytes.{pick, any}
 use Rattle.records.specs.Code.{word}
 use Rattle.records.specs.Literal.{Literal, plus, minus, nan, whole, infinite}
 use Rattle.util.specs.Decimal.{digits, decimal}
@@ -15,18 +15,25 @@ use Rattle.util.specs.Escape.{quote}
 use Rattle.util.specs.Numeral.{displayNumber, displayLiteral}
 use Rattle.ast.specs.Expr.{Expr, Aggregate, AggregateParam, Unary, Binary, Paren, Subquery, NumberLiteral, StringLiteral, VectorSelector, MatrixSelector, Call}
 use Rattle.text.specs.Display.{display, displaySelector}
-use Rattle.text.specs.Pretty.{indent, trimStart}
+use Rattle.text.specs.Pretty.{indent, whiteCharacters, trimStart}
 
--- ## Texts that begin with no space
+-- ## Texts that begin with no white character
 
+-- with one above the space, the highest of them
 pub data Begins : List ℕ → Type 0 where
-  begins : (c : ℕ) (t : List ℕ) → (c ≡ 32 → ⊥) → Begins (c ∷ t)
+  begins : (c : ℕ) (t : List ℕ) → 32 < c → Begins (c ∷ t)
 
 pub begins-append : {t : List ℕ} (u : List ℕ) → Begins t → Begins (t ++ u)
 begins-append u (begins c t n) = begins c (t ++ u) n
 
-trim-none : {t : List ℕ} → Begins t → trimStart t ≡ t
-trim-none (begins c t n) = rw (ne-eqb c 32 n)
+not-white : (c : ℕ) → 32 < c → any (eqb c) whiteCharacters ≡ false
+not-white c n = simp (other 9 (omega arith), other 10 (omega arith), other 11 (omega arith), other 12 (omega arith), other 13 (omega arith), other 32 (omega arith))
+  where
+    other : (w : ℕ) → w < c → eqb c w ≡ false
+    other w l = ne-eqb c w (λ e. omega arith)
+
+pub trim-none : {t : List ℕ} → Begins t → trimStart t ≡ t
+trim-none (begins c t n) = rw (not-white c n)
 
 -- the indentation goes, and nothing else
 pub trim-indent : (level : ℕ) {t : List ℕ} → Begins t → trimStart (indent level ++ t) ≡ t
@@ -38,7 +45,7 @@ not-empty (begins c t n) e = let z : _≡_ {A = ℕ} 0 1 = cc in omega arith
 
 pub trim-append : (t u : List ℕ) → Begins (trimStart t) → trimStart (t ++ u) ≡ trimStart t ++ u
 trim-append [] u h = absurd (not-empty h refl)
-trim-append (c ∷ t) u h = by (eqb c 32) (trim-append t u) h
+trim-append (c ∷ t) u h = by (any (eqb c) whiteCharacters) (trim-append t u) h
   where
     by : (b : Bool) → (Begins (trimStart t) → trimStart (t ++ u) ≡ trimStart t ++ u) → Begins (pick b (trimStart t) (c ∷ t))
         → pick b (trimStart (t ++ u)) (c ∷ t ++ u) ≡ pick b (trimStart t) (c ∷ t) ++ u
