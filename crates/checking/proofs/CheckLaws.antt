@@ -4,11 +4,10 @@ use mathlib.Core.Path.{_≡_, sym, ap, subst, _∙_}
 use mathlib.Core.List.{List}
 use Rattle.records.specs.Kind.{Kind}
 use Rattle.records.specs.Outcome.{Outcome, answer, refusal}
-use Rattle.ast.specs.Walk.{refusedAt}
-use Rattle.ast.specs.CheckPage.{checkPage, outcomeOf, check}
+use Rattle.ast.specs.CheckPage.{outcomeOf, check}
 use Rattle.agreement.specs.CheckContract.{CheckContract}
 use Rattle.agreement.proofs.Demand3.{check-contract}
-use Rattle.checking.specs.Answers.{Accepts}
+use Rattle.checking.specs.Answers.{Accepts, Refuses}
 
 -- an outcome that is the definition's
 contract-of : (page : List ℕ) {outcome : Outcome} → outcome ≡ check page → CheckContract page outcome
@@ -17,5 +16,5 @@ contract-of page e = subst (λ (o : Outcome). CheckContract page o) (sym e) (che
 pub accepts-contract : {page starts firsts : List ℕ} {k : Kind} {n : ℕ} → Accepts page starts firsts k n → CheckContract page (answer k 0)
 accepts-contract {page} says = contract-of page (ap {B = Outcome} (λ k. answer k 0) (sym (says .kind)) ∙ sym (ap outcomeOf (says .tree)))
 
-pub refused-contract : {page : List ℕ} {n i : ℕ} → checkPage page ≡ refusedAt n i → CheckContract page (refusal n i)
-refused-contract {page} says = contract-of page (sym (ap outcomeOf says))
+pub refused-contract : {page starts firsts : List ℕ} {n i : ℕ} → Refuses page starts firsts n i → CheckContract page (refusal n i)
+refused-contract {page} says = contract-of page (sym (ap outcomeOf (says .refuses)))

@@ -5,6 +5,7 @@ use mathlib.Core.List.{List, [], _∷_, map}
 use native.Mathlib.Omega.{arith}
 use native.Mathlib.Numerals.{add-one}
 use lib.ListN.{length, getD, set, drop}
+use lib.Seq.{drop-set-lt, drop-drop}
 use lib.Ieee.{Float}
 use Rattle.page.specs.Read.{FieldFault, faultNumber, refused as refusedField, got}
 use Rattle.records.specs.Kind.{Kind}
@@ -21,23 +22,31 @@ use Rattle.ast.proofs.NodeLaws.{nodeOf-kind}
 use Rattle.judge.specs.Stack.{formOf, valueOf, nodes, Sized}
 use Rattle.judge.proofs.StackLaws.{stack-size, stack-empty, stack-top}
 use Rattle.page.specs.Answers.{Within}
-use Rattle.checking.specs.Answers.{Accepts}
+use Rattle.checking.specs.Answers.{Accepts, Refuses}
 use Rattle.checking.specs.Walk.{firstOf}
 use Rattle.checking.proofs.ApplyLaws.{Pushed, apply-pushes, operands-there, Applied, applied, unapplied}
 use Rattle.checking.proofs.BasesLaws.{first-right}
-use Rattle.checking.proofs.ProgressLaws.{Progress, progress-start, at-stack, progress-end, progress-over, progress-bad, progress-refused, progress-next}
+use Rattle.checking.proofs.ProgressLaws.{Progress, too-long, progress-start, at-stack, progress-end, progress-over, progress-bad, progress-refused, progress-next}
 use Rattle.checking.proofs.TableLaws.{tables-start, tables-next, entry-of}
 use Rattle.checking.proofs.HeldLaws.{Arrays, stack-length, arrays-next}
 
-pub record Held (page starts firsts forms : List ℕ) (values : List Float) (bases : List ℕ) (top at count : ℕ) : Type 0 where
+pub record Held (page starts₀ firsts₀ starts firsts forms : List ℕ) (values : List Float) (bases : List ℕ) (top at count : ℕ) : Type 0 where
   -- the trees of which the arrays hold the nodes
   pub stack : List Expr
   pub progress : Progress page at count stack
   pub arrays : Arrays page forms values bases top count stack
   pub tables : Tables page starts firsts count
+  -- the entries behind are those that were lent
+  pub starts-kept : drop count starts ≡ drop count starts₀
+  pub firsts-kept : drop count firsts ≡ drop count firsts₀
+
+kept-next : (table before : List ℕ) (n entry : ℕ) → drop n table ≡ drop n before → drop (suc n) (set table n entry) ≡ drop (suc n) before
+kept-next table before n entry e =
+    drop-set-lt (suc n) table n entry (omega arith)
+    ∙ ap (λ (k : ℕ). drop k table) (sym (add-one n)) ∙ sym (drop-drop 1 n table) ∙ ap (drop 1) e ∙ drop-drop 1 n before ∙ ap (λ (k : ℕ). drop k before) (add-one n)
 
 pub held-start : {page starts firsts forms : List ℕ} {values : List Float} {bases : List ℕ} → length page ≤ 8192 → Sized forms values → length bases ≡ 256
-    → length starts ≡ 256 → length firsts ≡ 256 → Held page starts firsts forms values bases 256 0 0
+    → length starts ≡ 256 → length firsts ≡ 256 → Held page starts firsts starts firsts forms values bases 256 0 0
 held-start {page} {starts} {firsts} {forms} {values} {bases} short sized b s f = record {
   stack = [];
   progress = progress-start page short;
@@ -50,19 +59,29 @@ held-start {page} {starts} {firsts} {forms} {values} {bases} short sized b s f =
     depth-range = omega arith;
   };
   tables = tables-start page starts firsts s f;
+  starts-kept = refl;
+  firsts-kept = refl;
 }
 
+-- a page too long: no record was read
+pub too-long-refused : {page starts firsts : List ℕ} → 8192 < length page → length starts ≡ 256 → length firsts ≡ 256 → Refuses page starts firsts 3 0
+too-long-refused {page} {starts} {firsts} h s f = record { tables = tables-start page starts firsts s f; refuses = too-long page h }
+
 -- after a record that takes n operands and puts the node x
-pub record Next (page starts firsts forms : List ℕ) (values : List Float) (bases : List ℕ) (top at count n next : ℕ) (x : Node) : Type 0 where
+pub record Next (page starts₀ firsts₀ starts firsts forms : List ℕ) (values : List Float) (bases : List ℕ) (top at count n next : ℕ) (x : Node) : Type 0 where
   pub high : top + n ≤ 256
   pub low : 1 ≤ top + n
   pub held-again : (end : ℕ) → Within page next end →
       let first = firstOf n count (drop top bases) in let place = top + n - 1 in
-      Held page (set starts count at) (set firsts count first) (set forms place (formOf x)) (set values place (valueOf x)) (set bases place first) place end (count + 1)
+      Held page starts₀ firsts₀ (set starts count at) (set firsts count first) (set forms place (formOf x)) (set values place (valueOf x)) (set bases place first) place end (count + 1)
 
-module _ {page starts firsts forms : List ℕ} {values : List Float} {bases : List ℕ} {top at count : ℕ} (held : Held page starts firsts forms values bases top at count) where
+module _ {page starts₀ firsts₀ starts firsts forms : List ℕ} {values : List Float} {bases : List ℕ} {top at count : ℕ} (held : Held page starts₀ firsts₀ starts firsts forms values bases top at count) where
   abbrev trees : List Expr
   trees = held .stack
+
+  -- a refusal of the record that would come next
+  refuses-next : {n : ℕ} → checkPage page ≡ refusedAt n count → Refuses page starts firsts n count
+  refuses-next e = record { tables = held .tables; refuses = e }
 
   -- ## The page's end
 
@@ -71,9 +90,9 @@ module _ {page starts firsts forms : List ℕ} {values : List Float} {bases : Li
   not-one (e ∷ []) h = absurd (h refl)
   not-one (e ∷ f ∷ s) h = refl
 
-  pub ends-refused : length page ≤ at → (top ≡ 255 → ⊥) → checkPage page ≡ refusedAt 2 count
+  pub ends-refused : length page ≤ at → (top ≡ 255 → ⊥) → Refuses page starts firsts 2 count
   ends-refused h other =
-      progress-end (held .progress) h ∙ not-one trees (λ e. other (omega (arith, e, stack-length (held .arrays), held .arrays .top-range)))
+      refuses-next (progress-end (held .progress) h ∙ not-one trees (λ e. other (omega (arith, e, stack-length (held .arrays), held .arrays .top-range))))
 
   -- one tree is left, and its node lies on top
   pub record Left : Type 0 where
@@ -108,18 +127,18 @@ module _ {page starts firsts forms : List ℕ} {values : List Float} {bases : Li
   -- ## A record is left
 
   module _ (more : at < length page) where
-    pub too-many : count ≡ 256 → checkPage page ≡ refusedAt 3 count
-    too-many e = progress-over (held .progress) more e
+    pub too-many : count ≡ 256 → Refuses page starts firsts 3 count
+    too-many e = refuses-next (progress-over (held .progress) more e)
 
     module _ (few : count ≡ 256 → ⊥) where
-      pub unreadable : (f : FieldFault) → refusedField f ≡ readRecord (drop at page) → checkPage page ≡ refusedAt (faultNumber f) count
-      unreadable f e = progress-bad (held .progress) more few f e
+      pub unreadable : (f : FieldFault) {n : ℕ} → refusedField f ≡ readRecord (drop at page) → n ≡ faultNumber f → Refuses page starts firsts n count
+      unreadable f e number = rw number (refuses-next (progress-bad (held .progress) more few f e))
 
       module _ {r : Record} (next : ℕ) (read : got r (drop next page) ≡ readRecord (drop at page)) where
-        pub unfit : {n : ℕ} → refused n ≡ judgement r (drop top (nodes forms values)) → checkPage page ≡ refusedAt n count
+        pub unfit : {n : ℕ} → refused n ≡ judgement r (drop top (nodes forms values)) → Refuses page starts firsts n count
         unfit e =
-            progress-refused (held .progress) more few next read
-            (unapplied r trees (held .progress .sound) (e ∙ ap (judgement r) (held .arrays .summaries)))
+            refuses-next (progress-refused (held .progress) more few next read
+            (unapplied r trees (held .progress .sound) (e ∙ ap (judgement r) (held .arrays .summaries))))
 
         module _ {x : Node} (put : ok x ≡ judgement r (drop top (nodes forms values))) (n : ℕ) (takes : n ≡ operands r) where
           done : Applied r trees x
@@ -155,7 +174,7 @@ module _ {page starts firsts forms : List ℕ} {values : List Float} {bases : Li
 
             held-next :
                 let first = firstOf n count (drop top bases) in let place = top + n - 1 in
-                Held page (set starts count at) (set firsts count first) (set forms place (formOf x)) (set values place (valueOf x)) (set bases place first) place end (suc count)
+                Held page starts₀ firsts₀ (set starts count at) (set firsts count first) (set forms place (formOf x)) (set values place (valueOf x)) (set bases place first) place end (suc count)
             held-next = record {
               stack = new .tree ∷ drop n trees;
               progress = subst (λ (s : List Expr). Progress page end (suc count) s) (new .is ∙ ap {B = List Expr} (λ k. new .tree ∷ drop k trees) (sym takes)) onward;
@@ -163,7 +182,9 @@ module _ {page starts firsts forms : List ℕ} {values : List Float} {bases : Li
               tables = tables-next (held .tables) (omega (arith, held .progress .count-range, few)) at (firstOf n count (drop top bases))
                   (entry-of page at (firstOf n count (drop top bases)) count (held .progress .stands) read (at-stack (held .progress)) (at-stack onward)
                   (omega (arith, enough, takes, stack-length (held .arrays))) (done .applies) (first-is .0) (first-is .1 ∙ ap (λ (k : ℕ). drop k trees) takes));
+              starts-kept = kept-next starts starts₀ count at (held .starts-kept);
+              firsts-kept = kept-next firsts firsts₀ count (firstOf n count (drop top bases)) (held .firsts-kept);
             }
 
-          pub stepped : Next page starts firsts forms values bases top at count n next x
+          pub stepped : Next page starts₀ firsts₀ starts firsts forms values bases top at count n next x
           stepped = record { high = enough; low = room; held-again = λ end w. rw add-one (held-next end w) }

@@ -2,6 +2,7 @@
 use Prim.Native.Nat.{ℕ, _-_}
 use mathlib.Core.List.{List}
 use mathlib.Core.Path.{_≡_}
+use lib.ListN.{drop}
 use Rattle.records.specs.Kind.{Kind}
 use Rattle.records.specs.Outcome as spec
 use Rattle.records.specs.Answers.{kindOf}
@@ -26,7 +27,23 @@ pub record Accepts (page starts firsts : List ℕ) (k : Kind) (n : ℕ) : Type 0
   pub tree : checkPage page ≡ accepted (treeAt page (n - 1)) n
   pub kind : valueType (treeAt page (n - 1)) ≡ k
 
--- what the walk's answer says of the page and of the tables; of a page that is refused the tables say nothing
+-- a page refused with a number at record i: the tables of the records before it
+pub record Refuses (page starts firsts : List ℕ) (number i : ℕ) : Type 0 where
+  pub tables : Tables page starts firsts i
+  pub refuses : checkPage page ≡ refusedAt number i
+
+-- what the walk's answer says of the page and of the tables
 abbrev pub WalkSays : List ℕ → List ℕ → List ℕ → Walked → Type 0
 WalkSays page starts firsts (walked.Accepted k n) = Accepts page starts firsts (kindOf k) n
-WalkSays page starts firsts (walked.Refused r i) = checkPage page ≡ refusedAt (refusalNumber r) i
+WalkSays page starts firsts (walked.Refused r i) = Refuses page starts firsts (refusalNumber r) i
+
+-- how many records were accepted, each with an entry in both tables
+abbrev pub entriesOf : Walked → ℕ
+entriesOf (walked.Accepted k n) = n
+entriesOf (walked.Refused r i) = i
+
+-- the walk's answer, and that the entries behind those of the records accepted are as they were
+pub record Walks (page startsBefore firstsBefore starts firsts : List ℕ) (r : Walked) : Type 0 where
+  pub says : WalkSays page starts firsts r
+  pub starts-kept : drop (entriesOf r) starts ≡ drop (entriesOf r) startsBefore
+  pub firsts-kept : drop (entriesOf r) firsts ≡ drop (entriesOf r) firstsBefore

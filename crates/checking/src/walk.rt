@@ -21,7 +21,7 @@ ghost use Rattle.reader.specs.Answers.{recordOn};
 ghost use Rattle.ast.specs.Judge.{judgement};
 ghost use Rattle.judge.specs.Answers.{verdictMeant};
 ghost use Rattle.judge.specs.Stack.{nodes, Sized};
-ghost use Rattle.checking.specs.Answers.{WalkSays};
+ghost use Rattle.checking.specs.Answers.{Walks};
 ghost use Rattle.checking.specs.Walk.{Item, firstOf};
 
 // The kind and the number of records, or a refusal and the index of its record.
@@ -64,7 +64,7 @@ fn first_record(bases: &[u8], top: usize, needed: usize, count: usize) -> u8
 
 pub fn walk(page: &[u8], starts: &mut [u16], firsts: &mut [u8]) -> Walked
     requires { ⌜ (length (now starts) ≡ 256) × (length (now firsts) ≡ 256) ⌝ }
-    ensures { λ r. ⌜ WalkSays (now (page .entry)) (now (starts .exit)) (now (firsts .exit)) r ⌝ }
+    ensures { λ r. ⌜ Walks (now (page .entry)) (now (starts .entry)) (now (firsts .entry)) (now (starts .exit)) (now (firsts .exit)) r ⌝ }
 {
     if 8192 < page.len() {
         return Walked::Refused(Refusal::PastLimit, 0);

@@ -1,22 +1,21 @@
 -- Demand 1 for the three calls that write (`check` writes nothing: `WalkLaws.check-in`). Assumes nothing.
 use Prim.Native.Nat.{ℕ, _+_, _-_, _≤_}
 use mathlib.Core.Path.{_≡_, refl, ap, _∙_}
-use mathlib.Core.Bool.{Bool, true, false, not}
+use mathlib.Core.Bool.{Bool, true, false, _||_, not}
 use mathlib.Core.List.{List, [], _∷_, _++_}
 use native.Mathlib.Omega.{arith}
 use borrow.Author.Tests.{leb-true}
 use lib.ListN.{length, drop, length-append, length-drop}
-use lib.Dec.{T, leb, eqb, leb→le}
-use Rattle.page.specs.Bytes.{pick}
+use lib.Dec.{T, leb, eqb, leb→le, eqb→eq}
+use Rattle.page.specs.Bytes.{pick, all, any}
 use Rattle.page.specs.Limits.{recordLimit}
 use Rattle.page.proofs.NumberLaws.{left-of, right-of}
 use Rattle.records.specs.Kind.{Kind}
-use Rattle.records.specs.Record.{readPage}
 use Rattle.records.specs.Outcome.{answer, refusal}
 use Rattle.ast.specs.Expr.{Expr, valueType}
 use Rattle.ast.specs.Walk.{Checked, accepted, refusedAt}
 use Rattle.ast.specs.CheckPage.{checkPage, outcomeOf}
-use Rattle.ast.specs.Table.{isInTable, InTable}
+use Rattle.ast.specs.Table.{tableNumbers, isInTable, recordCount, InTable}
 use Rattle.ast.proofs.WalkLaws.{CheckedIn, checkPage-in, page-limit}
 use Rattle.copy.specs.Copy.{copyPage}
 use Rattle.text.specs.Display.{display}
@@ -61,10 +60,10 @@ written-agrees k records text buffer = by (leb (length text) (length buffer))
     by true = refl
     by false = refl
 
-written-in : (k : Kind) (records : ℕ) (text buffer : List ℕ) → records ≤ recordLimit → InTable isInTable (written k records text buffer .outcome)
-written-in k records text buffer h = by (leb (length text) (length buffer))
+written-in : (page : List ℕ) (k : Kind) (records : ℕ) (text buffer : List ℕ) → records ≤ recordCount page → InTable isInTable page (written k records text buffer .outcome)
+written-in page k records text buffer h = by (leb (length text) (length buffer))
   where
-    by : (b : Bool) → InTable isInTable (chosen k records text buffer b .outcome)
+    by : (b : Bool) → InTable isInTable page (chosen k records text buffer b .outcome)
     by true = tt
     by false = (tt, h)
 
@@ -79,36 +78,48 @@ module _ (textOf : Expr → List ℕ) where
   writing-agrees (accepted e n) buffer = written-agrees (valueType e) n (textOf e) buffer
   writing-agrees (refusedAt n i) buffer = (refl, refl)
 
-  writing-in : (count : ℕ) → count ≤ recordLimit → (c : Checked Expr) → CheckedIn count c → (buffer : List ℕ) → InTable isInTable (writing textOf c buffer .outcome)
-  writing-in count h (accepted e n) g buffer = written-in (valueType e) n (textOf e) buffer (at-most g)
+  writing-in : (page : List ℕ) (c : Checked Expr) → CheckedIn (recordCount page) c → (buffer : List ℕ) → InTable isInTable page (writing textOf c buffer .outcome)
+  writing-in page (accepted e n) g buffer = written-in page (valueType e) n (textOf e) buffer (at-most g)
     where
-      at-most : n ≡ count → n ≤ recordLimit
+      at-most : n ≡ recordCount page → n ≤ recordCount page
       at-most q = omega arith
-  writing-in count h (refusedAt n i) g buffer = (left-of (isInTable n) (not (eqb n 5)) (g .0), within (g .1))
-    where
-      within : i ≤ count → i ≤ recordLimit
-      within q = omega arith
+  writing-in page (refusedAt n i) g buffer = (left-of (isInTable n) (not (eqb n 5)) (g .0), g .1)
 
 writing-demand1 : (page : List ℕ) (textOf : Expr → List ℕ) → Demand1 page (λ page buffer. writing textOf (checkPage page) buffer)
 writing-demand1 page textOf =
     record {
       keeps = writing-keeps textOf (checkPage page);
       agrees = writing-agrees textOf (checkPage page);
-      inTable = writing-in textOf (length (readPage page .records)) (page-limit page) (checkPage page) (checkPage-in page);
+      inTable = writing-in textOf page (checkPage page) (checkPage-in page);
     }
 
 -- ## The calls
 
--- the table has 34 rows
-pub isInTable-small : (n : ℕ) → T (isInTable n) → n ≤ 34
-isInTable-small n h = leb→le n 34 (right-of (leb 1 n) (leb n 34) h)
+-- every number of the table has one byte
+pub isInTable-small : (n : ℕ) → T (isInTable n) → n ≤ 255
+isInTable-small n = among tableNumbers tt
+  where
+    among : (ns : List ℕ) → T (all (λ m. leb m 255) ns) → T (any (eqb n) ns) → n ≤ 255
+    among [] g h = absurd h
+    among (m ∷ ns) g h = by (eqb n m) (eqb→eq n m) (leb→le m 255 (left-of (leb m 255) (all (λ m. leb m 255) ns) g)) (among ns (right-of (leb m 255) (all (λ m. leb m 255) ns) g)) h
+      where
+        by : (b : Bool) → (T b → n ≡ m) → m ≤ 255 → (T (any (eqb n) ns) → n ≤ 255) → T (b || any (eqb n) ns) → n ≤ 255
+        by true e l others h = omega (arith, e tt)
+        by false e l others h = others h
+
+-- and its record is at most the limit of records
+pub inTable-record : (test : ℕ → Bool) (page : List ℕ) (n i : ℕ) → InTable test page (refusal n i) → i ≤ recordLimit
+inTable-record test page n i h = within (h .1) (page-limit page)
+  where
+    within : i ≤ recordCount page → recordCount page ≤ recordLimit → i ≤ recordLimit
+    within g l = omega arith
 
 pub copy-demand1 : (page : List ℕ) → Demand1 page copy
 copy-demand1 page =
     record {
       keeps = writing-keeps (λ e. copyPage page) (checkPage page);
       agrees = writing-agrees (λ e. copyPage page) (checkPage page);
-      inTable = writing-in (λ e. copyPage page) (length (readPage page .records)) (page-limit page) (checkPage page) (checkPage-in page);
+      inTable = writing-in (λ e. copyPage page) page (checkPage page) (checkPage-in page);
     }
 
 pub canonicalText-demand1 : (page : List ℕ) → Demand1 page canonicalText

@@ -1,4 +1,4 @@
--- The mission's demand 1, as laws of the calls (proved in proofs/CallsLaws): what a call does to the lent buffer, and which outcomes
+-- The client's demand 1, as laws of the calls (proved in proofs/CallsLaws): what a call does to the lent buffer, and which outcomes
 -- it can have.
 use Prim.Native.Nat.{ℕ, _≤_}
 use mathlib.Core.Path.{_≡_}
@@ -25,4 +25,4 @@ Agrees (refusal n i) (refusal m j) = (n ≡ m) × (i ≡ j)
 pub record Demand1 (page : List ℕ) (call : List ℕ → List ℕ → Called) : Type 0 where
   pub keeps : (buffer : List ℕ) → Keeps buffer (call page buffer .outcome) (call page buffer .buffer)
   pub agrees : (buffer : List ℕ) → Agrees (check page) (call page buffer .outcome)
-  pub inTable : (buffer : List ℕ) → InTable isInTable (call page buffer .outcome)
+  pub inTable : (buffer : List ℕ) → InTable isInTable page (call page buffer .outcome)

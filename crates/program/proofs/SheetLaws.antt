@@ -13,6 +13,7 @@ use lib.Dec.{leb}
 use Rattle.base.specs.Cases.{by-lt}
 use Rattle.base.specs.Splice.{Wrote, wrote-length, join, cut, cut-last, begin, step, finish}
 use Rattle.page.specs.Bytes.{pick, bytes}
+use Rattle.page.specs.Limits.{recordLimit}
 use Rattle.records.specs.Kind.{Kind}
 use Rattle.records.specs.Outcome.{Outcome, answer, refusal}
 use Rattle.util.specs.Decimal.{decimal}
@@ -26,7 +27,7 @@ use Rattle.text.specs.Pretty.{prettify}
 use Rattle.outcomes.specs.Calls.{Called, tooShort, written, writing, splitText, Does}
 use Rattle.outcomes.specs.Output.{programBuffer, refusedLine, programLine, programOutput}
 use Rattle.outcomes.specs.Demand1.{Keeps}
-use Rattle.outcomes.proofs.CallsLaws.{isInTable-small, splitText-demand1}
+use Rattle.outcomes.proofs.CallsLaws.{isInTable-small, inTable-record, splitText-demand1}
 use Rattle.calls.proofs.DoesLaws.{splice-start}
 
 abbrev lineOf : Called → List ℕ
@@ -73,8 +74,11 @@ pub refusedLine-pieces : (n i : ℕ) → refusedLine n i ≡ join (bytes "refuse
 unfolding join
 refusedLine-pieces n i = simp append-assoc
 
-refusedLine-short : (n i : ℕ) → n ≤ 34 → i ≤ 256 → length (refusedLine n i) ≤ 65537
-refusedLine-short n i h g = simp length-append (omega (arith, decimal-short-64 n (omega arith), decimal-short-64 i (omega arith)))
+refusedLine-short : (page : List ℕ) (n i : ℕ) → InTable isInTable page (refusal n i) → length (refusedLine n i) ≤ 65537
+refusedLine-short page n i h = by (isInTable-small n (h .0)) (inTable-record isInTable page n i h)
+  where
+    by : n ≤ 255 → i ≤ recordLimit → length (refusedLine n i) ≤ 65537
+    by g l = simp length-append (omega (arith, decimal-short-64 n (omega arith), decimal-short-64 i (omega arith)))
 
 -- ## What `split` did
 
@@ -84,8 +88,8 @@ module _ (page before : List ℕ) {after : List ℕ} {o : Outcome} (d : Does (sp
       subst (λ (x : Outcome). Keeps before x after) (sym (d .answers))
       (subst (λ (l : List ℕ). Keeps before (splitText page before .outcome) l) (sym (d .leaves)) (splitText-demand1 page .keeps before))
 
-  listed : InTable isInTable o
-  listed = subst (InTable isInTable) (sym (d .answers)) (splitText-demand1 page .inTable before)
+  listed : InTable isInTable page o
+  listed = subst (InTable isInTable page) (sym (d .answers)) (splitText-demand1 page .inTable before)
 
   output : length before ≡ 65536 → programOutput page ≡ programLine o after
   output h =
@@ -94,17 +98,18 @@ module _ (page before : List ℕ) {after : List ℕ} {o : Outcome} (d : Does (sp
 
 -- ## The length
 
-line-short : (o : Outcome) (before after : List ℕ) → length before ≡ 65536 → Keeps before o after → InTable isInTable o → length (programLine o after) ≤ 65537
-line-short (answer k n) before after e h t =
+line-short : (page : List ℕ) (o : Outcome) (before after : List ℕ) → length before ≡ 65536 → Keeps before o after → InTable isInTable page o
+    → length (programLine o after) ≤ 65537
+line-short page (answer k n) before after e h t =
     omega (arith, length-append (take n after) (bytes "\n"), length-take-le n after (omega (arith, h .0, h .1)), h .1)
-line-short (refusal n i) before after e h t = refusedLine-short n i (isInTable-small n (t .0)) (t .1)
+line-short page (refusal n i) before after e h t = refusedLine-short page n i t
 
 output-short : (page : List ℕ) → length (programOutput page) ≤ 65537
 unfolding programOutput
 output-short page =
     let called : Called = splitText page programBuffer in
     let d = splitText-demand1 page in
-    line-short (called .outcome) programBuffer (called .buffer) (length-replicate {A = ℕ} 65536 0) (d .keeps programBuffer) (d .inTable programBuffer)
+    line-short page (called .outcome) programBuffer (called .buffer) (length-replicate {A = ℕ} 65536 0) (d .keeps programBuffer) (d .inTable programBuffer)
 
 -- the end of what was written lies in the buffer
 pub output-within : (page out : List ℕ) {last : List ℕ} {r : ℕ} → 65537 ≡ length out → Wrote out last 0 (programOutput page) r → r ≤ length last
@@ -156,7 +161,7 @@ module _ (page out : List ℕ) (size : 65537 ≡ length out) where
     same-buffer = ap (λ (l : List ℕ). l ++ rest) (kept page lent d) ∙ take-append-drop 65536 out
 
     pub refused-room : 0 + length (refusedLine n i) ≤ length (after ++ rest)
-    refused-room = omega (arith, refusedLine-short n i (isInTable-small n (listed page lent d .0)) (listed page lent d .1), ap length same-buffer)
+    refused-room = omega (arith, refusedLine-short page n i (listed page lent d), ap length same-buffer)
 
     pub refused-line : {last : List ℕ} {r : ℕ} → Wrote (after ++ rest) last 0 (refusedLine n i) r → Wrote out last 0 (programOutput page) r
     refused-line {last} {r} w =

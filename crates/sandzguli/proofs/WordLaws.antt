@@ -1,12 +1,18 @@
 -- The words of outcomes fit 64 bits. Assumes nothing.
-use Prim.Native.Nat.{_≤_}
+use Prim.Native.Nat.{ℕ, _≤_}
 use native.Mathlib.Omega.{arith}
 use mathlib.Core.Bool.{not}
+use mathlib.Core.List.{List}
 use lib.Dec.{eqb}
+use Rattle.page.specs.Limits.{recordLimit}
 use Rattle.page.proofs.NumberLaws.{left-of}
 use Rattle.records.specs.Kind.{Kind, vector, scalar, matrix, string, kindNumber}
 use Rattle.records.specs.Outcome.{Outcome, answer, refusal}
+use Rattle.ast.specs.CheckPage.{check}
 use Rattle.ast.specs.Table.{isInTable, isOfCheck, InTable}
+use Rattle.ast.proofs.WalkLaws.{check-in}
+use Rattle.outcomes.proofs.CallsLaws.{isInTable-small, inTable-record}
+use Rattle.sandzguli.specs.Words.{FitsWord}
 
 pub kindNumber-small : (k : Kind) → kindNumber k ≤ 3
 kindNumber-small vector = omega arith
@@ -14,7 +20,18 @@ kindNumber-small scalar = omega arith
 kindNumber-small matrix = omega arith
 kindNumber-small string = omega arith
 
--- what the check answers is in the table
-pub isOfCheck-inTable : (o : Outcome) → InTable isOfCheck o → InTable isInTable o
-isOfCheck-inTable (answer k n) h = tt
-isOfCheck-inTable (refusal n i) h = (left-of (isInTable n) (not (eqb n 5)) (h .0), h .1)
+-- a refusal in the table fits its word
+pub inTable-fits : (page : List ℕ) (o : Outcome) → InTable isInTable page o → FitsWord o
+inTable-fits page (answer k n) h = tt
+inTable-fits page (refusal n i) h = (isInTable-small n (h .0), within (inTable-record isInTable page n i h))
+  where
+    within : i ≤ recordLimit → i ≤ 65535
+    within l = omega arith
+
+-- and what the check answers is in the table
+pub check-fits : (page : List ℕ) → FitsWord (check page)
+check-fits page = inTable-fits page (check page) (all-but-five (check page) (check-in page))
+  where
+    all-but-five : (o : Outcome) → InTable isOfCheck page o → InTable isInTable page o
+    all-but-five (answer k n) h = tt
+    all-but-five (refusal n i) h = (left-of (isInTable n) (not (eqb n 5)) (h .0), h .1)

@@ -1,5 +1,5 @@
 -- The words of the library's face for C (house format): one 64-bit number for an outcome, one for the part of 19's label.
-use Prim.Native.Nat.{ℕ, _+_, _*_, _^_, _%_}
+use Prim.Native.Nat.{ℕ, _+_, _*_, _^_, _%_, _≤_}
 use mathlib.Core.Path.{_≡_}
 use mathlib.Core.List.{List}
 use Rattle.records.specs.Kind.{kindNumber}
@@ -12,6 +12,11 @@ use Rattle.outcomes.specs.Calls.{Called}
 abbrev pub outcomeWord : Outcome → ℕ
 outcomeWord (answer k n) = n % 2 ^ 61 * 4 + kindNumber k
 outcomeWord (refusal n i) = 2 ^ 63 + n * 65536 + i
+
+-- a refusal's number and record have room in the word: eight bits and sixteen
+abbrev pub FitsWord : Outcome → Type 0
+FitsWord (answer k n) = Unit {0}
+FitsWord (refusal n i) = (n ≤ 255) × (i ≤ 65535)
 
 -- the start and the size of the label; 0 where there is none. Only the outcome says whether there is one
 abbrev pub labelWord : Part → ℕ

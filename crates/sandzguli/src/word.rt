@@ -5,9 +5,8 @@ use records::Kind;
 ghost use mathlib.Core.Path.{_≡_};
 ghost use Rattle.records.specs.Kind.{kindNumber};
 ghost use Rattle.records.specs.Answers.{kindOf};
-ghost use Rattle.ast.specs.Table.{isInTable, InTable};
 ghost use Rattle.checking.specs.Answers.{outcomeMeant};
-ghost use Rattle.sandzguli.specs.Words.{outcomeWord};
+ghost use Rattle.sandzguli.specs.Words.{outcomeWord, FitsWord};
 
 fn kind_number(kind: Kind) -> u64
     ensures { λ r. ⌜ r ≡ kindNumber (kindOf kind) ⌝ }
@@ -22,7 +21,7 @@ fn kind_number(kind: Kind) -> u64
 
 // Accepted: four times the count of bytes, and the kind. Refused: the highest bit, the refusal's number, the record.
 pub fn outcome_word(outcome: Outcome) -> u64
-    requires { ⌜ InTable isInTable (outcomeMeant outcome) ⌝ }
+    requires { ⌜ FitsWord (outcomeMeant outcome) ⌝ }
     ensures { λ r. ⌜ r ≡ outcomeWord (outcomeMeant outcome) ⌝ }
 {
     match outcome {

@@ -17,7 +17,7 @@ use Rattle.calls.proofs.copy.Tie as tie
 -- where the page is accepted: what the walk left in the tables
 known : (c : tie.After-walked) → let k = c .before .before .before .before in let s = k .before .before .before .before .before in
     Accepts (now (s .args .page)) (k .walk .last .1 .0) (k .walk .last .1 .1 .0) (kindOf (c .walked .given .0 .0)) (c .walked .given .0 .1 .0)
-known c = rw (c .walked .given .1) at (c .before .before .before .before .walk .ensures)
+known c = rw (c .walked .given .1) at (c .before .before .before .before .walk .ensures .says)
 
 starts-known : (c : tie.After-walked) → let k = c .before .before .before .before in let s = k .before .before .before .before .before in
     Starts (now (s .args .page)) (k .walk .last .1 .0) (c .walked .given .0 .1 .0)
@@ -62,7 +62,7 @@ returns-2 : tie.Need-returns-2
 returns-2 c = does-short (λ e. copyPage (now (c .before .before .before .before .before .before .before .before .before .before .before .before .before .args .page))) (known (c .before .before .before .before) .tree) (sym (c .before .copy-fits .ensures) ∙ c .if1 .left)
 
 returns-3 : tie.Need-returns-3
-returns-3 c = does-refused (λ e. copyPage (now (c .before .before .before .before .before .before .before .before .before .before .args .page))) (rw (c .before .walked2 .given .1) at (c .before .before .before .before .before .walk .ensures))
+returns-3 c = does-refused (λ e. copyPage (now (c .before .before .before .before .before .before .before .before .before .before .args .page))) ((rw (c .before .walked2 .given .1) at (c .before .before .before .before .before .walk .ensures .says)) .refuses)
 
 pub copy-spec : {M : Type 1} → statement M
 copy-spec =

@@ -16,7 +16,7 @@ use Rattle.calls.proofs.split.Tie as tie
 -- where the page is accepted: what the walk left in the tables
 known : (c : tie.After-walked) → let k = c .before .before .before .before in let s = k .before .before .before .before .before in
     Accepts (now (s .args .page)) (k .walk .last .1 .0) (k .walk .last .1 .1 .0) (kindOf (c .walked .given .0 .0)) (c .walked .given .0 .1 .0)
-known c = rw (c .walked .given .1) at (c .before .before .before .before .walk .ensures)
+known c = rw (c .walked .given .1) at (c .before .before .before .before .walk .ensures .says)
 
 some : (c : tie.After-walked) → 0 < c .walked .given .0 .1 .0
 some c = accepted-some (now (c .before .before .before .before .before .before .before .before .before .args .page)) (known c .tree)
@@ -95,7 +95,7 @@ returns-2 : tie.Need-returns-2
 returns-2 c = does-short prettify (known (c .before .before .before .before .before .before .before .before .before) .tree) (room-short (length (prettify (treeAt (now (c .before .before .before .before .before .before .before .before .before .before .before .before .before .before .before .before .before .before .args .page)) (c .before .before .before .before .before .before .before .before .before .walked .given .0 .1 .0 - 1)))) (length (now (c .before .before .before .before .before .before .before .before .before .before .before .before .before .before .before .before .before .before .args .out))) (c .before .prettify-len .result) (c .before .prettify-len .ensures) (c .if1 .left))
 
 returns-3 : tie.Need-returns-3
-returns-3 c = does-refused prettify (rw (c .before .walked2 .given .1) at (c .before .before .before .before .before .walk .ensures))
+returns-3 c = does-refused prettify ((rw (c .before .walked2 .given .1) at (c .before .before .before .before .before .walk .ensures .says)) .refuses)
 
 pub split-spec : {M : Type 1} → statement M
 split-spec =

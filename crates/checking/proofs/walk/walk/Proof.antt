@@ -1,9 +1,7 @@
 -- `checking::walk::walk` meets its contract. The invariant, and what each way through the loop's body makes of it, stand in `WalkHeld`; each
 -- answer here hands the values over. The measure is the records that a page may still have.
 use Prim.Native.Nat.{_-_}
-use Rattle.ast.specs.Expr.{Expr}
-use Rattle.ast.specs.Walk.{Checked, refusedAt}
-use mathlib.Core.Path.{refl, sym, ap, _∙_}
+use mathlib.Core.Path.{refl, ap, _∙_}
 use denote.Ref.{now}
 use Rattle.float.specs.Exact.{RecordExact}
 use Rattle.float.proofs.ExactLaws.{of-got, readRecord-exact}
@@ -13,14 +11,13 @@ use native.Mathlib.Omega.{arith}
 use Rattle.judge.specs.Answers.{nodeMeant}
 use Rattle.ast.specs.Node.{nodeKind}
 use Rattle.page.specs.Answers.{faultOf}
-use Rattle.checking.proofs.ProgressLaws.{too-long}
-use Rattle.checking.proofs.WalkHeld.{Held, Next, held-start, unfit, stepped, too-many, unreadable, ends-refused, ends-accepted}
+use Rattle.checking.proofs.WalkHeld.{Held, Next, held-start, too-long-refused, unfit, stepped, too-many, unreadable, ends-refused, ends-accepted}
 use borrow.Author.Needs.{needs}
 use Rattle.checking.proofs.walk.walk.Statement.{statement}
 use Rattle.checking.proofs.walk.walk.Tie as tie
 
 abbrev Inv-loop : tie.InvT-loop
-Inv-loop page starts₀ firsts₀ forms₀ values₀ bases₀ top₀ at₀ count₀ starts firsts forms values bases top at count = Held page starts firsts forms values bases top at count
+Inv-loop page starts₀ firsts₀ forms₀ values₀ bases₀ top₀ at₀ count₀ starts firsts forms values bases top at count = Held page starts₀ firsts₀ starts firsts forms values bases top at count
 
 abbrev μ-loop : tie.MeasureT-loop
 μ-loop page starts₀ firsts₀ forms₀ values₀ bases₀ top₀ at₀ count₀ starts firsts forms values bases top at count = 256 - count
@@ -28,7 +25,7 @@ abbrev μ-loop : tie.MeasureT-loop
 -- what the record that was judged leaves
 step : (c : tie.After-bases Inv-loop μ-loop) →
     let k = c .before .before .before .before .before .before .before .before .before .before .before .before .before .before in
-    Next (now (k .before .before .before .before .before .args .page)) (k .loop .starts) (k .loop .firsts) (k .loop .forms) (k .loop .values) (k .loop .bases) (k .loop .top) (k .loop .at) (k .loop .count)
+    Next (now (k .before .before .before .before .before .args .page)) (now (k .before .before .before .before .before .args .starts)) (now (k .before .before .before .before .before .args .firsts)) (k .loop .starts) (k .loop .firsts) (k .loop .forms) (k .loop .values) (k .loop .bases) (k .loop .top) (k .loop .at) (k .loop .count)
     (c .before .before .before .before .before .before .before .operand-count .result) (c .before .before .before .before .before .before .before .before .before .item .given .0 .1 .0) (nodeMeant (c .before .before .node .given .0 .0))
 step c =
     let k = c .before .before .before .before .before .before .before .before .before .before .before .before .before .before in
@@ -37,7 +34,7 @@ step c =
     (rw (c .before .before .node .given .1) at (c .before .before .before .before .judge-next .ensures)) (c .before .before .before .before .before .before .before .operand-count .result) (c .before .before .before .before .before .before .before .operand-count .ensures (now (k .before .before .before .before .before .args .page)))
 
 returns : tie.Need-returns Inv-loop μ-loop
-returns c = too-long (now (c .before .before .before .before .args .page)) (c .if1 .taken)
+returns c = record { says = too-long-refused (c .if1 .taken) (c .before .before .before .before .pre .0) (c .before .before .before .before .pre .1); starts-kept = refl; firsts-kept = refl }
 
 loop-holds : tie.Need-loop-holds Inv-loop μ-loop
 loop-holds c = held-start (c .if1 .left) (record { forms-size = refl; values-size = refl }) refl (c .before .before .before .before .pre .0) (c .before .before .before .before .pre .1)
@@ -49,7 +46,9 @@ same-length-2 : tie.Need-same-length-2 Inv-loop μ-loop
 same-length-2 c = omega (arith, c .before .before .loop .inv .tables .firsts-size, c .before .before .before .before .before .before .before .pre .1)
 
 returns-2 : tie.Need-returns-2 Inv-loop μ-loop
-returns-2 c = too-many (c .before .before .loop .inv) (c .before .loop-test .taken) (c .if2 .taken)
+returns-2 c =
+    let held = c .before .before .loop .inv in
+    record { says = too-many held (c .before .loop-test .taken) (c .if2 .taken); starts-kept = held .starts-kept; firsts-kept = held .firsts-kept }
 
 read-record-requires : tie.Need-read-record-requires Inv-loop μ-loop
 read-record-requires c κs = search needs
@@ -67,7 +66,15 @@ same-length-4 : tie.Need-same-length-4 Inv-loop μ-loop
 same-length-4 c = omega (arith, c .before .before .before .before .before .before .before .loop .inv .tables .firsts-size, c .before .before .before .before .before .before .before .before .before .before .before .before .pre .1)
 
 returns-3 : tie.Need-returns-3 Inv-loop μ-loop
-returns-3 c = unreadable (c .before .before .before .before .before .before .before .loop .inv) (c .before .before .before .before .before .before .loop-test .taken) (c .before .before .before .before .before .if2 .left) (faultOf (c .before .before .fault .given .0 .0)) (rw (c .before .before .fault .given .1) at (c .before .before .before .before .read-record .ensures .0)) ∙ ap {B = Checked Expr} (λ n. refusedAt n (c .before .before .before .before .before .before .before .loop .count)) (sym (c .field-refusal .ensures))
+returns-3 c =
+    let at-read = c .before .before .before .before in
+    let held = at-read .before .before .before .loop .inv in
+    record {
+      says = unreadable held (at-read .before .before .loop-test .taken) (at-read .before .if2 .left) (faultOf (c .before .before .fault .given .0 .0))
+          (rw (c .before .before .fault .given .1) at (at-read .read-record .ensures .0)) (c .field-refusal .ensures);
+      starts-kept = held .starts-kept;
+      firsts-kept = held .firsts-kept;
+    }
 
 enum-known-item : tie.Need-enum-known-item Inv-loop μ-loop
 enum-known-item c = search needs
@@ -96,8 +103,17 @@ same-length-6 : tie.Need-same-length-6 Inv-loop μ-loop
 same-length-6 c = omega (arith, c .before .before .before .before .before .before .before .before .before .before .before .before .before .loop .inv .tables .firsts-size, c .before .before .before .before .before .before .before .before .before .before .before .before .before .before .before .before .before .before .pre .1)
 
 returns-4 : tie.Need-returns-4 Inv-loop μ-loop
-returns-4 c = let read = rw (c .before .before .before .before .before .before .before .before .item .given .1) at (c .before .before .before .before .before .before .before .before .before .before .read-record .ensures .0) in
-    unfit (c .before .before .before .before .before .before .before .before .before .before .before .before .before .loop .inv) (c .before .before .before .before .before .before .before .before .before .before .before .before .loop-test .taken) (c .before .before .before .before .before .before .before .before .before .before .before .if2 .left) (c .before .before .before .before .before .before .before .before .item .given .0 .1 .0) read (rw (c .before .refusal .given .1) at (c .before .before .before .judge-next .ensures))
+returns-4 c =
+    let at-item = c .before .before .before .before .before .before .before .before in
+    let at-read = at-item .before .before in
+    let held = at-read .before .before .before .loop .inv in
+    let read = rw (at-item .item .given .1) at (at-read .read-record .ensures .0) in
+    record {
+      says = unfit held (at-read .before .before .loop-test .taken) (at-read .before .if2 .left) (at-item .item .given .0 .1 .0) read
+          (rw (c .before .refusal .given .1) at (c .before .before .before .judge-next .ensures));
+      starts-kept = held .starts-kept;
+      firsts-kept = held .firsts-kept;
+    }
 
 enum-known-node : tie.Need-enum-known-node Inv-loop μ-loop
 enum-known-node c = search needs
@@ -163,7 +179,9 @@ same-length-8 : tie.Need-same-length-8 Inv-loop μ-loop
 same-length-8 c = omega (arith, c .before .before .loop .inv .tables .firsts-size, c .before .before .before .before .before .before .before .pre .1)
 
 returns-5 : tie.Need-returns-5 Inv-loop μ-loop
-returns-5 c = ends-refused (c .before .before .loop .inv) (c .before .loop-test .left) (c .if3 .taken)
+returns-5 c =
+    let held = c .before .before .loop .inv in
+    record { says = ends-refused held (c .before .loop-test .left) (c .if3 .taken); starts-kept = held .starts-kept; firsts-kept = held .firsts-kept }
 
 slice-aggregate-node-at : tie.Need-slice-aggregate-node-at Inv-loop μ-loop
 slice-aggregate-node-at c = omega (arith, c .before .before .before .loop .inv .arrays .sized)
@@ -184,7 +202,15 @@ same-length-10 : tie.Need-same-length-10 Inv-loop μ-loop
 same-length-10 c = omega (arith, c .before .before .before .before .before .before .loop .inv .tables .firsts-size, c .before .before .before .before .before .before .before .before .before .before .before .pre .1)
 
 returns-6 : tie.Need-returns-6 Inv-loop μ-loop
-returns-6 c = ends-accepted (c .before .before .before .before .before .before .loop .inv) (c .before .before .before .before .before .loop-test .left) (c .before .before .before .before .if3 .left) (c .kind-of .ensures ∙ ap nodeKind (c .before .node-at .ensures))
+returns-6 c =
+    let at-loop = c .before .before .before .before .before .before in
+    let held = at-loop .loop .inv in
+    record {
+      says = ends-accepted held (c .before .before .before .before .before .loop-test .left) (c .before .before .before .before .if3 .left)
+          (c .kind-of .ensures ∙ ap nodeKind (c .before .node-at .ensures));
+      starts-kept = held .starts-kept;
+      firsts-kept = held .firsts-kept;
+    }
 
 pub walk-spec : {M : Type 1} → statement M
 walk-spec =

@@ -2,11 +2,8 @@
 use mathlib.Core.Path.{ap, _∙_, subst, sym}
 use denote.Ref.{now}
 use borrow.Author.Needs.{needs}
-use Rattle.ast.proofs.WalkLaws.{check-in}
-use Rattle.ast.specs.CheckPage.{check}
-use Rattle.ast.specs.Table.{isInTable, InTable}
-use Rattle.sandzguli.specs.Words.{outcomeWord}
-use Rattle.sandzguli.proofs.WordLaws.{isOfCheck-inTable}
+use Rattle.sandzguli.specs.Words.{outcomeWord, FitsWord}
+use Rattle.sandzguli.proofs.WordLaws.{check-fits}
 use Rattle.sandzguli.proofs.face.sandzguli_check.Statement.{statement}
 use Rattle.sandzguli.proofs.face.sandzguli_check.Tie as tie
 
@@ -14,7 +11,7 @@ check-requires : tie.Need-check-requires
 check-requires c κs = search needs
 
 outcome-word-requires : tie.Need-outcome-word-requires
-outcome-word-requires c κs = subst (InTable isInTable) (sym (c .check .ensures .isCheck)) (isOfCheck-inTable (check (now (c .before .before .args .page))) (check-in (now (c .before .before .args .page))))
+outcome-word-requires c κs = subst FitsWord (sym (c .check .ensures .isCheck)) (check-fits (now (c .before .before .args .page)))
 
 returns : tie.Need-returns
 returns c = c .outcome-word .ensures ∙ ap outcomeWord (c .before .check .ensures .isCheck)

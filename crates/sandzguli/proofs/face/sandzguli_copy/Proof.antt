@@ -2,8 +2,8 @@
 use mathlib.Core.Path.{ap, _∙_, subst, sym}
 use denote.Ref.{now}
 use borrow.Author.Needs.{needs}
-use Rattle.ast.specs.Table.{isInTable, InTable}
-use Rattle.sandzguli.specs.Words.{outcomeWord}
+use Rattle.sandzguli.specs.Words.{outcomeWord, FitsWord}
+use Rattle.sandzguli.proofs.WordLaws.{inTable-fits}
 use Rattle.outcomes.proofs.CallsLaws.{copy-demand1}
 use Rattle.sandzguli.proofs.face.sandzguli_copy.Statement.{statement}
 use Rattle.sandzguli.proofs.face.sandzguli_copy.Tie as tie
@@ -12,7 +12,10 @@ copy-requires : tie.Need-copy-requires
 copy-requires c κs = search needs
 
 outcome-word-requires : tie.Need-outcome-word-requires
-outcome-word-requires c κs = subst (InTable isInTable) (sym (c .before .before .copy .ensures .answers)) (copy-demand1 (now (c .before .before .before .before .before .before .args .page)) .inTable (now (c .before .before .before .before .before .before .args .out)))
+outcome-word-requires c κs =
+    let at-start = c .before .before .before .before .before .before in
+    let page = now (at-start .args .page) in
+    subst FitsWord (sym (c .before .before .copy .ensures .answers)) (inTable-fits page _ (copy-demand1 page .inTable (now (at-start .args .out))))
 
 same-length : tie.Need-same-length
 same-length c = search needs

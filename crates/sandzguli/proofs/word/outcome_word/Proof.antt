@@ -3,15 +3,14 @@ use native.Mathlib.Omega.{arith}
 use borrow.Author.Needs.{needs}
 use Rattle.records.specs.Outcome.{refusal}
 use Rattle.records.specs.Answers.{kindOf}
-use Rattle.ast.specs.Table.{isInTable, InTable}
 use Rattle.judge.specs.Answers.{refusalNumber}
-use Rattle.outcomes.proofs.CallsLaws.{isInTable-small}
+use Rattle.sandzguli.specs.Words.{FitsWord}
 use Rattle.sandzguli.proofs.WordLaws.{kindNumber-small}
 use Rattle.sandzguli.proofs.word.outcome_word.Statement.{statement}
 use Rattle.sandzguli.proofs.word.outcome_word.Tie as tie
 
--- a refusal's number and its record, from the table
-inside : (c : tie.After-outcome2) → InTable isInTable (refusal (refusalNumber (c .outcome2 .given .0 .0)) (c .outcome2 .given .0 .1 .0))
+-- a refusal's number and its record are small
+inside : (c : tie.After-outcome2) → FitsWord (refusal (refusalNumber (c .outcome2 .given .0 .0)) (c .outcome2 .given .0 .1 .0))
 inside c = rw (c .outcome2 .given .1) at (c .before .before .pre)
 
 enum-known-outcome : tie.Need-enum-known-outcome
@@ -33,13 +32,13 @@ refusal-number-requires : tie.Need-refusal-number-requires
 refusal-number-requires c κs = search needs
 
 mul-result-2 : tie.Need-mul-result-2
-mul-result-2 c = omega (arith, isInTable-small (refusalNumber (c .before .before .outcome2 .given .0 .0)) (inside (c .before .before) .0), c .refusal-number .ensures)
+mul-result-2 c = omega (arith, inside (c .before .before) .0, c .refusal-number .ensures)
 
 add-result-2 : tie.Need-add-result-2
-add-result-2 c = omega (arith, isInTable-small (refusalNumber (c .before .before .outcome2 .given .0 .0)) (inside (c .before .before) .0), c .refusal-number .ensures)
+add-result-2 c = omega (arith, inside (c .before .before) .0, c .refusal-number .ensures)
 
 add-result-3 : tie.Need-add-result-3
-add-result-3 c = omega (arith, isInTable-small (refusalNumber (c .before .before .outcome2 .given .0 .0)) (inside (c .before .before) .0), inside (c .before .before) .1, c .refusal-number .ensures)
+add-result-3 c = omega (arith, inside (c .before .before) .0, inside (c .before .before) .1, c .refusal-number .ensures)
 
 returns : tie.Need-returns
 returns c = rw (c .before .before .outcome .given .1, c .kind-number .ensures)
