@@ -5,8 +5,8 @@ use Prim.Native.String.{String}
 use native.Mathlib.Omega.{arith}
 use mathlib.Core.Bool.{Bool, true, false, _&&_}
 use mathlib.Core.List.{List, [], _∷_, _++_}
-use mathlib.Core.Option.{some}
-use mathlib.Core.Path.{_≡_, refl, sym, ap, _∙_, subst}
+use mathlib.Core.Option.{Option, none, some}
+use mathlib.Core.Path.{_≡_, refl, sym, ap, _∙_}
 use borrow.Author.Tests.{eq-eqb, ne-eqb}
 use lib.Dec.{eqb}
 use lib.ListN.{length, length-append}
@@ -14,16 +14,12 @@ use Rattle.base.specs.Cases.{by-eq}
 use Rattle.base.specs.Splice.{Cut, join}
 use Rattle.page.specs.Bytes.{bytes}
 use Rattle.records.specs.Literal.{Magnitude, whole, infinite, Literal, plus, minus, nan, isZero, equalMagnitude, equalAsFloats}
-use Rattle.records.specs.Answers.{literalOf, fillOf}
-use Rattle.records.specs.declared.literal.Fill.{Fill}
-use Rattle.records.specs.declared.literal.Fill.the-variants.{None, Some}
-use Rattle.records.specs.declared.literal.Literal.{Literal as CodeLiteral}
 use Rattle.records.proofs.FloatLaws.{float-equal}
-use Rattle.float.specs.Fills.{fillValues, FillExact, sameFills}
+use Rattle.float.specs.Fills.{isPresent, fillValues, FillExact, sameFills}
 use Rattle.float.specs.declared.FillValues.{FillValues}
 use Rattle.util.specs.Numeral.{displayFill}
 use Rattle.text.specs.Display.{filled, displayFills}
-use Rattle.words.specs.Labelled.{filledBytes, bothFills}
+use Rattle.words.specs.Labelled.{fillDigits, filledBytes, bothFills}
 use Rattle.words.proofs.LabelledLaws.{four}
 
 -- ## equalAsFloats, turned round
@@ -89,27 +85,49 @@ module _ (same : Bool) (l r : Literal) where
             ∙ ap (λ (a : List ℕ). filledBytes leftWord l ++ a) (filled-bytes " fill_right" r));
       }
 
--- ## displayFills
+-- ## displayFills, by the marks of the values
 
-module _ (x y : Fill) where
-  pub fills-none : x ≡ None → y ≡ None → displayFills (fillOf x) (fillOf y) ≡ []
-  fills-none ex ey = rw (ex, ey)
+module _ (l r : Option Literal) (values : FillValues) (is : values ≡ fillValues l r) where
+  left-mark : (b : Bool) → values .«has_left» ≡ b → isPresent l ≡ b
+  left-mark b e = sym (ap (λ (v : FillValues). v .«has_left») is) ∙ e
 
-  pub fills-right : (r : CodeLiteral) → x ≡ None → y ≡ Some r → displayFills (fillOf x) (fillOf y) ≡ filledBytes rightWord (literalOf r)
-  fills-right r ex ey = rw (ex, ey) (filled-bytes " fill_right" (literalOf r))
+  right-mark : (b : Bool) → values .«has_right» ≡ b → isPresent r ≡ b
+  right-mark b e = sym (ap (λ (v : FillValues). v .«has_right») is) ∙ e
 
-  pub fills-left : (l : CodeLiteral) → x ≡ Some l → y ≡ None → displayFills (fillOf x) (fillOf y) ≡ filledBytes leftWord (literalOf l)
-  fills-left l ex ey = rw (ex, ey) (filled-bytes " fill_left" (literalOf l))
+  pub fills-none : values .«has_left» ≡ false → values .«has_right» ≡ false → displayFills l r ≡ []
+  fills-none e f = none-there l r (left-mark false e) (right-mark false f)
+    where
+      none-there : (l r : Option Literal) → isPresent l ≡ false → isPresent r ≡ false → displayFills l r ≡ []
+      none-there none none e f = refl
+      none-there (some x) r e f = cc
+      none-there none (some y) e f = cc
+
+  pub fills-right : values .«has_left» ≡ false → values .«has_right» ≡ true → displayFills l r ≡ filledBytes rightWord (fillDigits r)
+  fills-right e f = right-there l r (left-mark false e) (right-mark true f)
+    where
+      right-there : (l r : Option Literal) → isPresent l ≡ false → isPresent r ≡ true → displayFills l r ≡ filledBytes rightWord (fillDigits r)
+      right-there none (some y) e f = filled-bytes " fill_right" y
+      right-there none none e f = cc
+      right-there (some x) r e f = cc
+
+  pub fills-left : values .«has_left» ≡ true → values .«has_right» ≡ false → displayFills l r ≡ filledBytes leftWord (fillDigits l)
+  fills-left e f = left-there l r (left-mark true e) (right-mark false f)
+    where
+      left-there : (l r : Option Literal) → isPresent l ≡ true → isPresent r ≡ false → displayFills l r ≡ filledBytes leftWord (fillDigits l)
+      left-there (some x) none e f = filled-bytes " fill_left" x
+      left-there (some x) (some y) e f = cc
+      left-there none r e f = cc
 
   -- same is what `same_fills` answered
-  pub fills-both : (l r : CodeLiteral) (values : FillValues) (same : Bool) → x ≡ Some l → y ≡ Some r → values ≡ fillValues (fillOf x) (fillOf y)
-      → FillExact (fillOf x) → FillExact (fillOf y) → same ≡ sameFills values
-      → displayFills (fillOf x) (fillOf y) ≡ bothFills same (literalOf l) (literalOf r)
+  pub fills-both : (same : Bool) → values .«has_left» ≡ true → values .«has_right» ≡ true → FillExact l → FillExact r → same ≡ sameFills values
+      → displayFills l r ≡ bothFills same (fillDigits l) (fillDigits r)
   unfolding bothFills
-  fills-both l r values same ex ey is hx hy answered =
-      let kx : FillExact (some (literalOf l)) = subst (λ (f : Fill). FillExact (fillOf f)) ex hx in
-      let ky : FillExact (some (literalOf r)) = subst (λ (f : Fill). FillExact (fillOf f)) ey hy in
-      let values-are : values ≡ fillValues (some (literalOf l)) (some (literalOf r)) = is ∙ rw (ex, ey) in
-      let compared : same ≡ equalAsFloats (literalOf r) (literalOf l) =
-      answered ∙ ap sameFills values-are ∙ float-equal (literalOf l) (literalOf r) kx ky ∙ equal-turned (literalOf l) (literalOf r) in
-      rw (ex, ey, compared)
+  fills-both same e f hl hr answered = both-there l r (left-mark true e) (right-mark true f) hl hr (answered ∙ ap sameFills is)
+    where
+      both-there : (l r : Option Literal) → isPresent l ≡ true → isPresent r ≡ true → FillExact l → FillExact r → same ≡ sameFills (fillValues l r)
+          → displayFills l r ≡ bothFills same (fillDigits l) (fillDigits r)
+      both-there (some x) (some y) e f hl hr answered =
+          let compared : same ≡ equalAsFloats y x = answered ∙ float-equal x y hl hr ∙ equal-turned x y in
+          rw compared
+      both-there (some x) none e f hl hr answered = cc
+      both-there none r e f hl hr answered = cc

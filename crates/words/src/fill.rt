@@ -16,7 +16,7 @@ ghost use Rattle.records.specs.Answers.{literalOf, fillOf};
 ghost use Rattle.float.specs.Fills.{fillValues, FillExact};
 ghost use Rattle.util.specs.Numeral.{displayFill};
 ghost use Rattle.text.specs.Display.{displayFills};
-ghost use Rattle.words.specs.Labelled.{filledBytes, bothFills};
+ghost use Rattle.words.specs.Labelled.{fillDigits, filledBytes, bothFills};
 
 // The length with a word of so many bytes.
 fn filled_len(word: usize, literal: Literal) -> usize
@@ -57,20 +57,31 @@ fn put_both(same: bool, left: Literal, right: Literal, out: &mut [u8], at: usize
     put_filled(b" fill_right", right, out, next)
 }
 
+// The digits of a fill, and those of 0 where there is none, which nobody prints.
+fn digits_of(fill: Fill) -> Literal
+    ensures { λ r. ⌜ literalOf r ≡ fillDigits (fillOf fill) ⌝ }
+{
+    match fill {
+        Fill::None => Literal::Whole(0),
+        Fill::Some(literal) => literal,
+    }
+}
+
+// The marks of the values say which fills are there, the numbers whether they are equal; the digits are the literals'.
 pub fn fills_len(values: FillValues, lhs: Fill, rhs: Fill) -> usize
     requires { ⌜ (values ≡ fillValues (fillOf lhs) (fillOf rhs)) × FillExact (fillOf lhs) × FillExact (fillOf rhs) ⌝ }
     ensures { λ r. ⌜ (r ≡ length (displayFills (fillOf lhs) (fillOf rhs))) × (r ≤ 70) ⌝ }
 {
-    match lhs {
-        Fill::None => match rhs {
-            Fill::None => 0,
-            Fill::Some(right) => filled_len(11, right),
-        },
-        Fill::Some(left) => match rhs {
-            Fill::None => filled_len(10, left),
-            Fill::Some(right) => both_len(same_fills(values), left, right),
-        },
+    if values.has_left {
+        if values.has_right {
+            return both_len(same_fills(values), digits_of(lhs), digits_of(rhs));
+        }
+        return filled_len(10, digits_of(lhs));
     }
+    if values.has_right {
+        return filled_len(11, digits_of(rhs));
+    }
+    0
 }
 
 pub fn put_fills(values: FillValues, lhs: Fill, rhs: Fill, out: &mut [u8], at: usize) -> usize
@@ -78,14 +89,14 @@ pub fn put_fills(values: FillValues, lhs: Fill, rhs: Fill, out: &mut [u8], at: u
     requires { ⌜ at + length (displayFills (fillOf lhs) (fillOf rhs)) ≤ length (now out) ⌝ }
     ensures { λ r. ⌜ Wrote (now (out .entry)) (now (out .exit)) at (displayFills (fillOf lhs) (fillOf rhs)) r ⌝ }
 {
-    match lhs {
-        Fill::None => match rhs {
-            Fill::None => at,
-            Fill::Some(right) => put_filled(b" fill_right", right, out, at),
-        },
-        Fill::Some(left) => match rhs {
-            Fill::None => put_filled(b" fill_left", left, out, at),
-            Fill::Some(right) => put_both(same_fills(values), left, right, out, at),
-        },
+    if values.has_left {
+        if values.has_right {
+            return put_both(same_fills(values), digits_of(lhs), digits_of(rhs), out, at);
+        }
+        return put_filled(b" fill_left", digits_of(lhs), out, at);
     }
+    if values.has_right {
+        return put_filled(b" fill_right", digits_of(rhs), out, at);
+    }
+    at
 }

@@ -1,4 +1,4 @@
--- `heads::fill::both_len` meets its contract: one fill, or each. Assumes nothing.
+-- `words::fill::both_len` meets its contract: one fill, or each. Assumes nothing.
 use borrow.Author.Needs.{needs}
 use native.Mathlib.Omega.{arith}
 use mathlib.Core.Path.{ap}

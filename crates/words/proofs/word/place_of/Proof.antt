@@ -1,4 +1,4 @@
--- `heads::word::place_of` meets its contract. Assumes nothing.
+-- `words::word::place_of` meets its contract. Assumes nothing.
 use borrow.Author.Needs.{needs}
 use native.Mathlib.Omega.{arith}
 use Rattle.words.proofs.WordLaws.{place-zero, place-past, place-code}

@@ -1,4 +1,4 @@
--- `heads::word::word_len` meets its contract. Assumes nothing.
+-- `words::word::word_len` meets its contract. Assumes nothing.
 use borrow.Author.Needs.{needs}
 use native.Mathlib.Omega.{arith}
 use mathlib.Core.Path.{ap}
