@@ -1,25 +1,33 @@
-//! Links the library's archive, where a feature says that one of its calls is there.
+//! Links the library's archive where the feature `library` asks for it: the file that `SANDZGULI_ARCHIVE` names, or the
+//! one that `rt staticlib sandzguli` writes in this repository.
 
-use std::env;
-use std::path::PathBuf;
+use std::path::{self, PathBuf};
+use std::{env, fs, process};
 
 const VARIABLE: &str = "SANDZGULI_ARCHIVE";
-const CALLS: [&str; 5] = ["CHECK", "JOINT_LABEL", "COPY", "CANONICAL", "SPLIT"];
+const DEFAULT: &str = "../../target/staticlib/libsandzguli.a";
 
 fn main() {
     println!("cargo:rerun-if-env-changed={VARIABLE}");
-    let is_linked = CALLS
-        .iter()
-        .any(|call| env::var_os(format!("CARGO_FEATURE_{call}")).is_some());
-    if !is_linked {
+    if env::var_os("CARGO_FEATURE_LIBRARY").is_none() {
         return;
     }
-    let path = env::var(VARIABLE).unwrap_or_else(|_| panic!("{VARIABLE} is the archive's path"));
-    let archive = PathBuf::from(&path)
-        .canonicalize()
-        .unwrap_or_else(|error| panic!("{path}: {error}"));
-    let folder = archive.parent().expect("a file is in a folder");
+    let archive = env::var_os(VARIABLE).map_or(DEFAULT.into(), PathBuf::from);
+    let archive = path::absolute(&archive).unwrap_or(archive);
     println!("cargo:rerun-if-changed={}", archive.display());
+    match fs::read(&archive) {
+        Ok(bytes) => link(&bytes),
+        Err(error) => {
+            eprintln!("{VARIABLE} must name the library's archive, but {archive:?} cannot be read: {error}.");
+            process::exit(1);
+        }
+    }
+}
+
+/// A copy under the name that the linker looks for, whatever the archive's own name is.
+fn link(archive: &[u8]) {
+    let folder = PathBuf::from(env::var_os("OUT_DIR").expect("cargo names a folder"));
+    fs::write(folder.join("libsandzguli.a"), archive).expect("the folder is cargo's own");
     println!("cargo:rustc-link-search=native={}", folder.display());
     println!("cargo:rustc-link-lib=static=sandzguli");
 }

@@ -8,6 +8,7 @@ pub mod answer;
 pub mod chosen;
 pub mod copy;
 pub mod coverage;
+pub mod failing;
 pub mod generate;
 pub mod hex;
 pub mod kept;

@@ -3,10 +3,11 @@
 // At most one byte more than a page may have is read: what is written depends on no more (`output-first`, crate program).
 use program::put_sheet;
 
-// A count of bytes says neither that the input has ended nor that it failed; another read does.
+// A short count says neither that the input has ended nor that a read failed. Only an input that has ended answers 0 to
+// another read: after a read that failed once the next gives the bytes that are missing.
 fn input_failed() -> bool {
     let mut more = [0u8; 1];
-    libc::read(0, &mut more) < 0
+    libc::read(0, &mut more) != 0
 }
 
 fn main() {

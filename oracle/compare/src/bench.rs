@@ -44,45 +44,31 @@ pub fn print(library: &Library) {
         println!("{words}: {records} records, {} bytes", bytes / count);
         print_calls(library, &subject);
     }
-    for (name, call) in [("canonical", library.canonical), ("split", library.split)] {
-        if let Some(call) = call {
-            print_nested(name, call);
-        }
-    }
+    print_nested("canonical", library.canonical);
+    print_nested("split", library.split);
 }
 
 fn print_calls(library: &Library, subject: &Subject) {
-    let mut checked = None;
-    if let Some(call) = library.check {
-        let (floor, rust) = subject.beside(|| subject.skipped(), || subject.built());
-        print_row("ends of records", floor, Some(rust));
-        let (ours, rust) = subject.beside(|| subject.asked(call), || subject.built());
-        print_row("check, constructors", ours, Some(rust));
-        let rust = || subject.built_from_records(|record| Ready::from(record));
-        let (ours, rust) = subject.beside(|| subject.asked(call), rust);
-        print_row("check, from records", ours, Some(rust));
-        let rust = || subject.built_from_records(Ready::compiled);
-        let (ours, rust) = subject.beside(|| subject.asked(call), rust);
-        print_row("check, compiling", ours, Some(rust));
-        checked = Some(ours);
-    }
-    if let Some(call) = library.copy {
-        let (ours, _) = subject.beside(|| subject.written(call), || 0.0);
-        print_row("copy", ours, None);
-        if let Some(checked) = checked {
-            println!("    copy, times check         {:>7.2}", ours / checked);
-        }
-    }
-    if let Some(call) = library.canonical {
-        let rust = || subject.printed(Expr::to_string);
-        let (ours, rust) = subject.beside(|| subject.written(call), rust);
-        print_row("canonical, Display", ours, Some(rust));
-    }
-    if let Some(call) = library.split {
-        let rust = || subject.printed(Expr::prettify);
-        let (ours, rust) = subject.beside(|| subject.written(call), rust);
-        print_row("split, prettify", ours, Some(rust));
-    }
+    let (floor, rust) = subject.beside(|| subject.skipped(), || subject.built());
+    print_row("ends of records", floor, Some(rust));
+    let checked = || subject.asked(library.check);
+    let (ours, rust) = subject.beside(checked, || subject.built());
+    print_row("check, constructors", ours, Some(rust));
+    let rust = || subject.built_from_records(|record| Ready::from(record));
+    let (ours, rust) = subject.beside(checked, rust);
+    print_row("check, from records", ours, Some(rust));
+    let rust = || subject.built_from_records(Ready::compiled);
+    let (checked, rust) = subject.beside(checked, rust);
+    print_row("check, compiling", checked, Some(rust));
+    let (copied, _) = subject.beside(|| subject.written(library.copy), || 0.0);
+    print_row("copy", copied, None);
+    println!("    copy, times check         {:>7.2}", copied / checked);
+    let rust = || subject.printed(Expr::to_string);
+    let (ours, rust) = subject.beside(|| subject.written(library.canonical), rust);
+    print_row("canonical, Display", ours, Some(rust));
+    let rust = || subject.printed(Expr::prettify);
+    let (ours, rust) = subject.beside(|| subject.written(library.split), rust);
+    print_row("split, prettify", ours, Some(rust));
 }
 
 fn print_row(words: &str, ours: f64, rust: Option<f64>) {

@@ -1,4 +1,4 @@
-//! One page: every call that there is, on pages and buffers against both guards, with buffers of several lengths.
+//! One page: every call, on pages and buffers against both guards, with buffers of several lengths.
 //! What a call answers is compared as a word, what it writes as bytes, and so are all bytes that it must leave alone.
 
 use crate::library::{Asks, Library, Writes};
@@ -80,14 +80,7 @@ impl Judge {
         self.writes("split", split, lent, answer, &answer.split)
     }
 
-    fn asks(
-        &mut self,
-        name: &str,
-        call: Option<Asks>,
-        lent: Lent,
-        expected: u64,
-    ) -> Result<(), String> {
-        let Some(call) = call else { return Ok(()) };
+    fn asks(&mut self, name: &str, call: Asks, lent: Lent, expected: u64) -> Result<(), String> {
         self.calls += 1;
         // SAFETY: so many bytes lie there.
         let word = unsafe { call(lent.page, lent.length) };
@@ -101,12 +94,11 @@ impl Judge {
     fn writes(
         &mut self,
         name: &str,
-        call: Option<Writes>,
+        call: Writes,
         lent: Lent,
         answer: &Answer,
         wanted: &[u8],
     ) -> Result<(), String> {
-        let Some(call) = call else { return Ok(()) };
         for length in self.lengths(wanted.len()) {
             self.write(call, lent, answer, wanted, length)
                 .map_err(|words| format!("{name}, {:?}, {length} bytes lent: {words}", lent.end))?;

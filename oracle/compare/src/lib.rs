@@ -1,12 +1,14 @@
-//! The library held against the oracle, call by call, and timed beside the Rust.
+//! The library held against the oracle, call by call, timed beside the Rust, and its instructions counted.
 //!
-//! `library` is the library's face, `memory` lends it pages and buffers between guards, `judge` compares what it answers
-//! and what it writes, `run` goes over generated pages in several threads, `resume` over many of them with stops, `bench`
-//! measures, with `ends` as its floor.
+//! `library` is the library's face, `memory` lends it pages and buffers between guards, `judge` compares what it
+//! answers and what it writes, `run` goes over generated pages in several threads, `resume` over many of them with
+//! stops, `bench` measures, with `ends` as its floor, `instructions` counts on fixed pages, with `callgrind`.
 
 pub mod bench;
+pub mod callgrind;
 mod clock;
 mod ends;
+pub mod instructions;
 pub mod judge;
 pub mod library;
 pub mod memory;

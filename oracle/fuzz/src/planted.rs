@@ -1,6 +1,6 @@
 //! The library with a fault that only a few pages show, those with a second offset on an expression. `PLANTED` names it.
 
-use compare::library::{Asks, Library};
+use compare::library::Library;
 use std::env;
 
 const OFFSET_TWICE: u64 = 12;
@@ -9,19 +9,15 @@ pub fn library() -> Library {
     let whole = Library::linked();
     match env::var("PLANTED").as_deref() {
         Ok("number") => Library {
-            check: Some(misnumbering),
+            check: misnumbering,
             ..whole
         },
         Ok("straying") => Library {
-            check: Some(straying),
+            check: straying,
             ..whole
         },
         other => panic!("PLANTED is {other:?}"),
     }
-}
-
-fn linked() -> Asks {
-    Library::linked().check.expect("the call is linked")
 }
 
 fn is_offset_twice(word: u64) -> bool {
@@ -31,14 +27,14 @@ fn is_offset_twice(word: u64) -> bool {
 /// Answers 13 for 12.
 unsafe extern "C" fn misnumbering(page: *const u8, length: usize) -> u64 {
     // SAFETY: the caller's page.
-    let word = unsafe { linked()(page, length) };
+    let word = unsafe { (Library::linked().check)(page, length) };
     word + u64::from(is_offset_twice(word)) * 65_536
 }
 
 /// Reads a byte behind the page.
 unsafe extern "C" fn straying(page: *const u8, length: usize) -> u64 {
     // SAFETY: the caller's page.
-    let word = unsafe { linked()(page, length) };
+    let word = unsafe { (Library::linked().check)(page, length) };
     if is_offset_twice(word) {
         // SAFETY: none; this is the fault.
         unsafe { page.add(length).read_volatile() };

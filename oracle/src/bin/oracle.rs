@@ -8,18 +8,21 @@
 //!     oracle write              writes what the program `sheet` must write for the page on standard input
 //!     oracle compare-program PROGRAM [WORDS]
 //!                               runs the program on the kept list and compares what it writes
+//!     oracle compare-failing PROGRAM [WORDS]
+//!                               the same for a few pages, while one read after another fails (with strace)
 //!     oracle compare-reading SEED ROUNDS PROGRAM
 //!                               sends generated pages through the reading program and compares its lines
 
 use oracle::answer::{self, Outcome};
-use oracle::{hex, kept, program, reading, run};
+use oracle::{failing, hex, kept, program, reading, run};
 use std::io::{stdin, stdout, BufReader, BufWriter, Read, Write};
 use std::path::Path;
 use std::process::{Command, ExitCode};
 
 const USAGE: &str =
     "usage: oracle answer HEX | run SEED ROUNDS | keep | kept-pages FOLDER | show | write
-       | compare-reading SEED ROUNDS PROGRAM | compare-program PROGRAM [WORDS]";
+       | compare-reading SEED ROUNDS PROGRAM | compare-program PROGRAM [WORDS]
+       | compare-failing PROGRAM [WORDS]";
 
 fn main() -> ExitCode {
     let arguments: Vec<String> = std::env::args().skip(1).collect();
@@ -32,6 +35,7 @@ fn main() -> ExitCode {
         ["show"] => show_records(),
         ["write"] => write(),
         ["compare-program", program, words @ ..] => compare_program(program, words),
+        ["compare-failing", program, words @ ..] => compare_failing(program, words),
         ["compare-reading", seed, rounds, program] => compare_reading(seed, rounds, program),
         _ => Err(USAGE.into()),
     };
@@ -112,9 +116,10 @@ fn show_records() -> Result<(), String> {
 }
 
 fn write() -> Result<(), String> {
-    let mut page = Vec::new();
+    // With room for every piece that is sent: what a read leaves of a packet is lost.
+    let mut page = Vec::with_capacity(1 << 16);
     let read = stdin().lock().read_to_end(&mut page);
-    read.map_err(|error| error.to_string())?;
+    read.map_err(|error| format!("the input cannot be read: {error}"))?;
     let output = program::output(&page).map_err(|failure| failure.0)?;
     let written = stdout().lock().write_all(&output);
     written.map_err(|error| error.to_string())
@@ -123,5 +128,14 @@ fn write() -> Result<(), String> {
 fn compare_program(program: &str, words: &[&str]) -> Result<(), String> {
     let pages = program::compare(program, words)?;
     println!("{pages} pages: no difference");
+    Ok(())
+}
+
+fn compare_failing(program: &str, words: &[&str]) -> Result<(), String> {
+    let tally = failing::compare(program, words)?;
+    println!(
+        "{} pages, {} runs, {} of an input that cannot be read: no difference",
+        tally.pages, tally.runs, tally.unreadable
+    );
     Ok(())
 }

@@ -34,7 +34,7 @@ fn every_row_has_the_oracles_answer() {
     for row in &rows {
         assert!(is_told(&row.page, row.port), "{}: {}", row.number, row.port);
     }
-    assert!(rows.len() > 65, "{} rows", rows.len());
+    assert!(rows.len() > 75, "{} rows", rows.len());
 }
 
 #[test]

@@ -21,7 +21,6 @@ fn main() -> ExitCode {
     let words: Vec<&str> = arguments.iter().map(String::as_str).collect();
     let library = Library::linked();
     let result = match words.as_slice() {
-        _ if library.calls().is_empty() => Err("built without the library's calls".into()),
         ["fixed"] => run::fixed(library),
         ["seeds", first, last, threads] => seeds(library, first, last, threads, None),
         ["seeds", first, last, threads, state] => {
@@ -31,7 +30,7 @@ fn main() -> ExitCode {
     };
     match result {
         Ok(tally) => {
-            report(&library, &tally);
+            report(&tally);
             ExitCode::SUCCESS
         }
         Err(words) => {
@@ -65,12 +64,10 @@ fn seeds(
     Ok(tally)
 }
 
-fn report(library: &Library, tally: &Tally) {
+fn report(tally: &Tally) {
     print!("{}", tally.coverage);
     println!(
-        "{}: {} pages, {} calls, no difference",
-        library.calls().join(", "),
-        tally.coverage.pages,
-        tally.calls
+        "{} pages, {} calls, no difference",
+        tally.coverage.pages, tally.calls
     );
 }

@@ -1,10 +1,8 @@
 //! The comparison passes a library that answers by the oracle, and finds every planted fault.
 
-mod standin;
-
+use crate::standin::{self, straying};
 use compare::library::Library;
 use compare::run;
-use standin::straying;
 use std::env;
 use std::process::{Command, Output};
 
@@ -23,16 +21,6 @@ fn the_oracle_agrees_with_itself() {
 }
 
 #[test]
-fn calls_that_are_absent_are_not_compared() {
-    let library = Library {
-        check: standin::whole().check,
-        ..Library::default()
-    };
-    let tally = compared(library).expect("no difference");
-    assert_eq!(tally.calls, 2 * tally.coverage.pages);
-}
-
-#[test]
 fn planted_faults_are_found() {
     for (words, blamed, library) in standin::faulty() {
         let found = compared(library).err();
@@ -45,7 +33,7 @@ fn planted_faults_are_found() {
 /// Starts this program again, with the one test that runs a straying library.
 fn started_with(library: &str) -> Output {
     Command::new(env::current_exe().expect("this program has a path"))
-        .args(["--exact", "a_straying_library_runs", "--nocapture"])
+        .args(["--exact", "planted::a_straying_library_runs", "--nocapture"])
         .env(STRAYS, library)
         .output()
         .expect("this program starts")

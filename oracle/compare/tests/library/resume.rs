@@ -1,5 +1,6 @@
 //! A run that was stopped goes on where it was, and counts what a run without a stop counts.
 
+use crate::standin;
 use compare::library::Library;
 use compare::resume::Run;
 use oracle::answer;
@@ -25,8 +26,8 @@ extern "C" fn check(page: *const u8, length: usize) -> u64 {
 fn run(last: u64) -> Run {
     Run {
         library: Library {
-            check: Some(check),
-            ..Library::default()
+            check,
+            ..standin::whole()
         },
         seeds: 1..=last,
         threads: 2,
@@ -48,7 +49,7 @@ fn a_stopped_run_goes_on() {
     assert!(fs::read_to_string(&whole).is_ok_and(|lines| lines.contains("\n7 ")));
 
     let stopped = state("stopped");
-    CALLS_LEFT.store(expected.calls - 10, Ordering::Relaxed);
+    CALLS_LEFT.store(2 * expected.coverage.pages - 10, Ordering::Relaxed);
     assert!(run(6).resume(&stopped).is_err());
     assert!(fs::read_to_string(&stopped).is_ok_and(|lines| lines.contains("\n5 ")));
 

@@ -7,19 +7,19 @@ pub fn library(name: &str) -> Library {
     let whole = whole();
     match name {
         "reads behind the page" => Library {
-            check: Some(reads_behind),
+            check: reads_behind,
             ..whole
         },
         "reads before the page" => Library {
-            check: Some(reads_before),
+            check: reads_before,
             ..whole
         },
         "writes behind the buffer" => Library {
-            copy: Some(writes_behind),
+            copy: writes_behind,
             ..whole
         },
         "writes to the page" => Library {
-            copy: Some(writes_page),
+            copy: writes_page,
             ..whole
         },
         _ => panic!("no such library"),

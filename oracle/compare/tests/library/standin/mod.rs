@@ -7,11 +7,11 @@ use oracle::answer::{self, Answer, Outcome};
 
 pub fn whole() -> Library {
     Library {
-        check: Some(check),
-        joint_label: Some(joint_label),
-        copy: Some(copy),
-        canonical: Some(canonical),
-        split: Some(split),
+        check,
+        joint_label,
+        copy,
+        canonical,
+        split,
     }
 }
 
@@ -20,17 +20,17 @@ pub fn whole() -> Library {
 pub fn faulty() -> Vec<(&'static str, &'static str, Library)> {
     let whole = whole();
     vec![
-        ("a record index one off", "check,", Library { check: Some(check_late), ..whole }),
-        ("7 and 8 swapped", "check,", Library { check: Some(check_swapped), ..whole }),
-        ("a label that starts one early", "joint_label,", Library { joint_label: Some(label_early), ..whole }),
-        ("a label where there is none", "joint_label,", Library { joint_label: Some(label_always), ..whole }),
-        ("5 with room for exactly the text", "copy,", Library { copy: Some(copy_stingy), ..whole }),
-        ("5 where the page is refused", "copy,", Library { copy: Some(copy_hasty), ..whole }),
-        ("one byte behind the text", "beside the text", Library { canonical: Some(canonical_more), ..whole }),
-        ("a length and no text", "byte 0 of the text", Library { canonical: Some(canonical_idle), ..whole }),
-        ("the last byte another", "of the text is another", Library { split: Some(split_wrong), ..whole }),
-        ("a part of the text, then 5", "beside the text", Library { split: Some(split_partial), ..whole }),
-        ("5 with the index of the copy", "copy,", Library { copy: Some(copy_miscounting), ..whole }),
+        ("a record index one off", "check,", Library { check: check_late, ..whole }),
+        ("7 and 8 swapped", "check,", Library { check: check_swapped, ..whole }),
+        ("a label that starts one early", "joint_label,", Library { joint_label: label_early, ..whole }),
+        ("a label where there is none", "joint_label,", Library { joint_label: label_always, ..whole }),
+        ("5 with room for exactly the text", "copy,", Library { copy: copy_stingy, ..whole }),
+        ("5 where the page is refused", "copy,", Library { copy: copy_hasty, ..whole }),
+        ("one byte behind the text", "beside the text", Library { canonical: canonical_more, ..whole }),
+        ("a length and no text", "byte 0 of the text", Library { canonical: canonical_idle, ..whole }),
+        ("the last byte another", "of the text is another", Library { split: split_wrong, ..whole }),
+        ("a part of the text, then 5", "beside the text", Library { split: split_partial, ..whole }),
+        ("5 with the index of the copy", "copy,", Library { copy: copy_miscounting, ..whole }),
     ]
 }
 

@@ -1,0 +1,92 @@
+//! Counts the instructions of the library's calls with valgrind.
+//!
+//!     instructions               prints the tables, and fails where a figure is more than 1 % above docs/SPEED.md
+//!     instructions CALL RECORDS  what valgrind runs: the call on each page of so many records, once
+
+use compare::instructions;
+use compare::library::Library;
+use std::arch::global_asm;
+use std::process::ExitCode;
+use std::{env, fs};
+
+const DOCUMENT: &str = concat!(env!("CARGO_MANIFEST_DIR"), "/../../docs/SPEED.md");
+const USAGE: &str = "usage: instructions [CALL RECORDS]";
+
+/// Room for every text of the pages.
+const BUFFER_BYTES: usize = 1 << 16;
+
+// The `memcpy` and `memset` of this program and of the library in it, with one instruction for each byte. How many more
+// they have stands in `callgrind`.
+global_asm!(
+    ".globl memcpy",
+    ".type memcpy, @function",
+    "memcpy:",
+    "mov rax, rdi",
+    "mov rcx, rdx",
+    "rep movsb",
+    "ret",
+    ".size memcpy, . - memcpy",
+    ".globl memset",
+    ".type memset, @function",
+    "memset:",
+    "mov r8, rdi",
+    "mov eax, esi",
+    "mov rcx, rdx",
+    "rep stosb",
+    "mov rax, r8",
+    "ret",
+    ".size memset, . - memset",
+);
+
+fn main() -> ExitCode {
+    let arguments: Vec<String> = env::args().skip(1).collect();
+    let words: Vec<&str> = arguments.iter().map(String::as_str).collect();
+    let result = match words.as_slice() {
+        [] => compare(),
+        [call, records] => run(call, records),
+        _ => Err(USAGE.into()),
+    };
+    match result {
+        Ok(()) => ExitCode::SUCCESS,
+        Err(words) => {
+            eprintln!("{words}");
+            ExitCode::FAILURE
+        }
+    }
+}
+
+fn compare() -> Result<(), String> {
+    let program = env::current_exe().map_err(|error| error.to_string())?;
+    let columns = instructions::count(&program)?;
+    print!("{}", instructions::tables(&columns));
+    let document = fs::read_to_string(DOCUMENT).map_err(|error| format!("{DOCUMENT}: {error}"))?;
+    let excesses = instructions::excesses(&columns, &document)?;
+    if !excesses.is_empty() {
+        return Err(excesses.join("\n"));
+    }
+    println!("no figure is more than 1 % above docs/SPEED.md");
+    Ok(())
+}
+
+fn run(call: &str, records: &str) -> Result<(), String> {
+    let library = Library::linked();
+    let mut buffer = vec![0; BUFFER_BYTES];
+    for page in instructions::pages(records).ok_or(USAGE)? {
+        let (start, length) = (page.as_ptr(), page.len());
+        let (out, room) = (buffer.as_mut_ptr(), buffer.len());
+        // SAFETY: the page is a slice, and so is the buffer.
+        let word = unsafe {
+            match call {
+                "check" => (library.check)(start, length),
+                "copy" => (library.copy)(start, length, out, room),
+                "canonical" => (library.canonical)(start, length, out, room),
+                "split" => (library.split)(start, length, out, room),
+                _ => return Err(USAGE.into()),
+            }
+        };
+        if word >> 63 == 1 {
+            return Err(format!("{call}, {records} records: a page is refused"));
+        }
+    }
+    Ok(())
+}

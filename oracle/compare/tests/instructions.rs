@@ -1,0 +1,142 @@
+//! Callgrind's counts are read as it writes them; a figure above the newest row is found; the pages have the records
+//! that they are said to have.
+
+use compare::callgrind::{parse, Profile};
+use compare::instructions::{self, Columns};
+use oracle::answer::{self, Outcome};
+
+/// In callgrind's form: 16 calls of a function that calls another and `memcpy`; the other calls `memset` and one that
+/// recurses.
+const WRITTEN: &str = "# callgrind format
+version: 1
+creator: callgrind-3.19.0
+cmd:  program split 5
+desc: Trigger: Program termination
+
+positions: line
+events: Ir
+summary: 9010
+
+ob=/lib/x86_64-linux-gnu/libc.so.6
+fl=./csu/../csu/libc-start.c
+fn=(below main)
+cob=/program
+cfi=???
+cfn=program::main
+calls=1 0 
+58 9010
+
+ob=/program
+fl=???
+fn=program::main
+cfn=sandzguli_split
+calls=16 0 
+0 9010
+
+fn=sandzguli_split
+0 100
+cfn=memcpy
+calls=16 0 
+0 4160
+0 20
+cfn=checking::walk::walk
+calls=16 0 
+0 4730
+
+fn=checking::walk::walk
+0 304
+cfn=memset
+calls=8 0 
+0 4144
+0 52
+cfn=page::number::read_up_to
+calls=8 0 
+0 230
+
+fn=page::number::read_up_to
+0 80
+cfn=page::number::read_up_to'2
+calls=3 0 
+0 150
+
+fn=page::number::read_up_to'2
+0 150
+
+fn=memcpy
+0 4160
+
+fn=memset
+0 4144
+
+totals: 9010
+";
+
+#[test]
+fn counts_are_read() {
+    let profile = parse(WRITTEN, "/program").expect("counts");
+    let expected = Profile {
+        instructions: 100 + 20 + 304 + 52 + 80 + 150,
+        calls: 16 + 8,
+        bytes: 16 * 256 + 8 * 512,
+    };
+    assert_eq!(profile, expected);
+}
+
+#[test]
+fn other_words_are_faults() {
+    let elsewhere = WRITTEN.replace("fn=memset\n0", "ob=/lib/libc.so.6\nfn=memset\n0");
+    let words = parse(&elsewhere, "/program").expect_err("memset is of another object");
+    assert!(words.starts_with("memset of /lib/libc.so.6"), "{words}");
+    for (line, other) in [
+        ("0 304", "0 305"),
+        ("0 304", "0 many"),
+        ("calls=8 ", "calls=many "),
+        ("totals: 9010", ""),
+    ] {
+        let altered = WRITTEN.replace(line, other);
+        assert!(parse(&altered, "/program").is_err(), "{other}");
+    }
+    assert!(parse("totals: 0", "/program").is_err());
+}
+
+fn columns(figures: [u64; 2]) -> Columns {
+    let profile = |instructions| Profile {
+        instructions,
+        calls: 10,
+        bytes: 20_480,
+    };
+    let [check, split] = figures.map(profile);
+    vec![("check, 5".into(), check), ("split, 250".into(), split)]
+}
+
+#[test]
+fn figures_above_the_newest_row_are_found() {
+    let document = instructions::tables(&columns([1_000, 2_000_000]));
+    let newer = document.replace(
+        "| 2,000,000 |",
+        "| 2,000,000 |\n| newer | 1,000 | 3,000,000 |",
+    );
+    let found = |figures, document: &str| instructions::excesses(&columns(figures), document);
+    assert_eq!(found([1_010, 2_020_000], &document), Ok(vec![]));
+    assert_eq!(
+        found([1_011, 2_020_001], &document).map(|lines| lines.len()),
+        Ok(2)
+    );
+    let line = "Instructions, split, 250 records: 3,030,001, more than 1 % above 3,000,000";
+    assert_eq!(found([900, 3_030_001], &newer), Ok(vec![line.to_string()]));
+    assert!(found([1, 1], &document.replace("split, 250", "split, 40")).is_err());
+    assert!(found([1, 1], &document.replace("1,000", "many")).is_err());
+}
+
+#[test]
+fn pages_have_their_records() {
+    for records in [5, 40, 250] {
+        let pages = instructions::pages(&records.to_string()).expect("pages of this size");
+        assert_eq!(pages.len(), 10);
+        for page in pages {
+            let answer = answer::answer(&page).expect("the Rust is foreseen");
+            assert!(matches!(answer.outcome, Outcome::Accepted(_)));
+            assert_eq!(answer.records, records);
+        }
+    }
+}

@@ -1,0 +1,5 @@
+//! The comparison itself, with stand-ins for the library.
+
+mod planted;
+mod resume;
+mod standin;
