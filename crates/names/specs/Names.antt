@@ -15,7 +15,7 @@ refusalNames =
     ""
     ∷ "record cut short, bad number or code"
     ∷ "operands missing, or not one expression at the end"
-    ∷ "a limit passed: page, records, text, list, count or time"
+    ∷ "a limit passed (page, records, text, list, count or time)"
     ∷ "text not allowed, or not a name"
     ∷ "the lent buffer is too short"
     ∷ "unary on a string literal or range selector"

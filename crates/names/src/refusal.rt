@@ -3,10 +3,10 @@ use crate::table::write_name;
 ghost use Rattle.names.specs.Names.{refusalName};
 ghost use Rattle.names.specs.Written.{nameWritten, DoesName};
 
-const LETTERS: [u8; 1228] = *b"\
+const LETTERS: [u8; 1229] = *b"\
     record cut short, bad number or code\
     operands missing, or not one expression at the end\
-    a limit passed: page, records, text, list, count or time\
+    a limit passed (page, records, text, list, count or time)\
     text not allowed, or not a name\
     the lent buffer is too short\
     unary on a string literal or range selector\
@@ -44,38 +44,38 @@ const STARTS: [u16; 36] = [
     0,
     36,
     86,
-    142,
-    173,
-    201,
-    244,
-    262,
-    275,
-    307,
-    320,
-    355,
-    373,
-    413,
-    437,
-    493,
-    521,
-    544,
-    577,
-    605,
-    641,
-    684,
-    714,
-    754,
-    783,
-    845,
-    892,
-    936,
-    1000,
-    1032,
-    1070,
-    1106,
-    1135,
-    1169,
-    1228,
+    143,
+    174,
+    202,
+    245,
+    263,
+    276,
+    308,
+    321,
+    356,
+    374,
+    414,
+    438,
+    494,
+    522,
+    545,
+    578,
+    606,
+    642,
+    685,
+    715,
+    755,
+    784,
+    846,
+    893,
+    937,
+    1001,
+    1033,
+    1071,
+    1107,
+    1136,
+    1170,
+    1229,
 ];
 
 pub fn refusal_name(number: u64, out: &mut [u8]) -> u64

@@ -1,0 +1,169 @@
+//! `STACK_BYTES` holds what every call uses: the frames of the archive's functions, added up along the deepest chain of calls.
+//!
+//! Frames and calls are read from the machine code (objdump). How deep functions nest that call themselves or each other is
+//! not seen there, but proved, by what falls from call to call:
+//! - `OVER_RECORDS`: pairs of functions that go from a record to earlier ones. A chain of calls has each function of a pair
+//!   once for each record at most, all pairs together; only where it passes on to another pair a record counts for both.
+//! - `OTHERS`: so many calls at most, by the groups of a number, its digits, and the levels of a text.
+//!
+//! Assumed is what memcpy and memset use.
+
+mod frame;
+mod listing;
+
+use frame::{frame, Frame};
+use listing::{functions, list};
+use sandzguli::{RECORDS, STACK_BYTES};
+use std::collections::{BTreeMap, BTreeSet};
+
+const OVER_RECORDS: [&str; 5] = [
+    "canonical::text_len",
+    "canonical::write_text",
+    "measure::measure",
+    "split::length::split_len",
+    "split::write::write_split",
+];
+
+const OTHERS: [(&str, usize); 3] = [
+    ("page::number::read_up_to", 8),
+    ("util::decimal::put_decimal", 20),
+    ("indented::put_spaces", 257),
+];
+
+const LIBC: [&str; 2] = ["memcpy", "memset"];
+
+/// With the dynamic linker's work at the first call.
+const LIBC_BYTES: usize = 8192;
+
+/// What the last function of a chain may use below the end of the stack.
+const RED_ZONE: usize = 128;
+
+struct Code {
+    frames: BTreeMap<String, Frame>,
+}
+
+impl Code {
+    fn new(listing: &str) -> Self {
+        let frames = functions(listing);
+        let frames = frames.into_iter().map(|(name, code)| (name, frame(&code)));
+        Self {
+            frames: frames.collect(),
+        }
+    }
+
+    /// The functions that a function calls, and those that they call.
+    fn reached(&self, function: &str) -> BTreeSet<&str> {
+        let mut reached = BTreeSet::new();
+        let mut left = vec![function];
+        while let Some(function) = left.pop() {
+            let frame = self.frames.get(function);
+            for callee in frame.iter().flat_map(|frame| &frame.callees) {
+                if reached.insert(callee.as_str()) {
+                    left.push(callee);
+                }
+            }
+        }
+        reached
+    }
+
+    /// The function and all that it calls and that call it; how many times they nest, and whether that goes over records.
+    fn circle<'a>(&'a self, function: &'a str) -> (BTreeSet<&'a str>, usize, bool) {
+        let reached = self.reached(function);
+        if !reached.contains(function) {
+            return ([function].into(), 1, false);
+        }
+        let calls_it = |callee: &&str| self.reached(callee).contains(function);
+        let circle: BTreeSet<_> = reached.into_iter().filter(calls_it).collect();
+        if OVER_RECORDS.iter().any(|name| circle.contains(name)) {
+            return (circle, 1, true);
+        }
+        let other = OTHERS.iter().find(|(name, _)| circle.contains(name));
+        let times = other
+            .unwrap_or_else(|| panic!("how deep does {function} nest?"))
+            .1;
+        (circle, times, false)
+    }
+
+    /// Bytes of the deepest chain of calls from a function on, behind pairs over records of which the widest has so many. One
+    /// round of each pair is counted where the chain comes to it, all others as rounds of the widest.
+    fn deepest(&self, function: &str, widest: usize) -> usize {
+        let rounds = |widest| (RECORDS - 1) * widest;
+        if LIBC.contains(&function) {
+            return LIBC_BYTES + rounds(widest);
+        }
+        let (circle, times, is_over_records) = self.circle(function);
+        let frames = circle.iter().map(|name| &self.frames[*name]);
+        let own = times * frames.clone().map(|frame| frame.bytes).sum::<usize>();
+        let widest = if is_over_records {
+            widest.max(own)
+        } else {
+            widest
+        };
+        let callees = frames.flat_map(|frame| &frame.callees);
+        let exits: BTreeSet<_> = callees
+            .filter(|name| !circle.contains(name.as_str()))
+            .collect();
+        let below = exits.into_iter().map(|name| self.deepest(name, widest));
+        own + below.max().unwrap_or(rounds(widest))
+    }
+}
+
+#[test]
+fn no_call_uses_more_stack_than_is_said() {
+    let code = Code::new(&list(concat!(env!("OUT_DIR"), "/libsandzguli.a")));
+    let calls = code
+        .frames
+        .keys()
+        .filter(|name| name.starts_with("sandzguli_"));
+    let sums = calls.map(|call| (call.as_str(), code.deepest(call, 0) + RED_ZONE));
+    let sums: BTreeMap<_, _> = sums.collect();
+    for (call, bytes) in &sums {
+        println!("{call:<24}{bytes:>8} bytes");
+        assert!(*bytes <= STACK_BYTES, "{call} may use {bytes} bytes");
+    }
+    // The texts go over all records, so that their sums are large; a listing that is not read has none.
+    assert!(sums["sandzguli_canonical"] > 100 * RECORDS);
+    assert!(sums["sandzguli_split"] > sums["sandzguli_canonical"]);
+}
+
+/// A function that calls itself over records, and another such one behind it.
+const MADE: &str = "
+0000000000000000 <sandzguli_made>:
+   0:	sub    $0x18,%rsp
+   4:	call   9 <sandzguli_made+0x9>
+			5: R_X86_64_PLT32	.text.measure::measure-0x4
+   9:	add    $0x18,%rsp
+   d:	ret
+
+0000000000000000 <measure::measure>:
+   0:	push   %rbx
+   1:	test   %edi,%edi
+   3:	je     c <measure::measure+0xc>
+   5:	call   0 <measure::measure>
+   a:	pop    %rbx
+   b:	ret
+   c:	pop    %rbx
+   d:	jmp    12 <measure::measure+0x12>
+			e: R_X86_64_PLT32	.text.canonical::text_len-0x4
+
+0000000000000000 <canonical::text_len>:
+   0:	sub    $0x28,%rsp
+   4:	call   0 <canonical::text_len>
+   9:	add    $0x28,%rsp
+   d:	ret
+";
+
+#[test]
+fn a_made_listing_is_added_up() {
+    let code = Code::new(MADE);
+    let bytes = |function: &str| code.frames[function].bytes;
+    assert_eq!(
+        (
+            bytes("sandzguli_made"),
+            bytes("measure::measure"),
+            bytes("canonical::text_len")
+        ),
+        (32, 16, 48)
+    );
+    assert_eq!(code.deepest("sandzguli_made", 0), 32 + 16 + 48 + 255 * 48);
+}
