@@ -62,8 +62,8 @@ fn owned_text(call: Writes, page: &[u8], first_room: usize) -> Result<String, Re
     Ok(String::from_utf8(text).expect("a text has bytes below 128"))
 }
 
-/// Room for the canonical text of a page: 4 bytes for each of its bytes and 128 for each record (proved: `display-room`), and
-/// no page has more records than bytes.
+/// Room for the canonical text of a page: 4 bytes for each of its bytes and 128 for each record (proved:
+/// `display-room`), and no page has more records than bytes.
 fn canonical_room(page: &[u8]) -> usize {
     page.len().saturating_mul(132).min(CANONICAL_BYTES)
 }

@@ -1,7 +1,7 @@
 //! PromQL queries as byte pages, checked and printed.
 //!
-//! A page holds a query as records in postfix order: operands first, then what takes them. [`page::Page`] makes one from records
-//! and reads one back; the functions below take any byte string.
+//! A page holds a query as records in postfix order: operands first, then what takes them. [`page::Page`] makes one
+//! from records and reads one back; the functions below take any byte string.
 //!
 //! ```
 //! use sandzguli::page::{Code, Function, LabelModifier, Matcher, Page, Record};
@@ -35,9 +35,9 @@
 //! assert_eq!(refusal.to_string(), "refused 6 at 1: unary on a string literal or range selector");
 //! ```
 //!
-//! The calls are those of the proved library `libsandzguli.a`, which keep nothing between them and allocate nothing: any
-//! thread may call at any time. The functions that answer with an owned value allocate it. The texts recurse over the
-//! records of a page; no call uses more than [`STACK_BYTES`] of stack.
+//! The calls are those of the proved library `libsandzguli.a`, which keep nothing between them and allocate nothing:
+//! any thread may call at any time. The functions that answer with an owned value allocate it. The texts recurse over
+//! the records of a page; no call uses more than [`STACK_BYTES`] of stack.
 
 mod call;
 mod kind;

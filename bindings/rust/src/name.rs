@@ -41,7 +41,8 @@ pub fn kind_name(number: u64) -> Option<String> {
     owned(sandzguli_kind_name, number)
 }
 
-/// [`kind_name`] into a lent buffer: the count of bytes written, 0 where the number has no name. A refusal changes no byte.
+/// [`kind_name`] into a lent buffer: the count of bytes written, 0 where the number has no name. A refusal changes no
+/// byte.
 ///
 /// ```
 /// let mut out = *b"        ";
@@ -53,8 +54,8 @@ pub fn kind_name_into(number: u64, out: &mut [u8]) -> Result<usize, Refusal> {
     written(sandzguli_kind_name, number, out)
 }
 
-/// The archive's name of a refusal, by its number. [`Rule::name`](crate::Rule::name) has the same without a call, for the rules
-/// that this binding knows.
+/// The archive's name of a refusal, by its number. [`Rule::name`](crate::Rule::name) has the same without a call, for
+/// the rules that this binding knows.
 ///
 /// ```
 /// assert_eq!(sandzguli::refusal_name(8).as_deref(), Some("range after @"));
@@ -64,7 +65,8 @@ pub fn refusal_name(number: u64) -> Option<String> {
     owned(sandzguli_refusal_name, number)
 }
 
-/// [`refusal_name`] into a lent buffer: the count of bytes written, 0 where the number has no name. A refusal changes no byte.
+/// [`refusal_name`] into a lent buffer: the count of bytes written, 0 where the number has no name. A refusal changes
+/// no byte.
 ///
 /// ```
 /// let mut out = [0; sandzguli::NAME_BYTES];

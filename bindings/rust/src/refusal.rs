@@ -54,15 +54,15 @@ impl fmt::Display for Refusal {
 
 impl Error for Refusal {}
 
-/// The rules, each with its number, its case and its name.
+/// The rules, each with its number, its case and its name, and what else is to be said of it.
 macro_rules! rules {
-    ($($number:literal $rule:ident $name:literal,)*) => {
+    ($($(#[$words:meta])* $number:literal $rule:ident $name:literal,)*) => {
         /// What a page breaks: the rows of the refusal table (docs/REFUSALS.md), in its order.
         #[derive(Debug, Clone, Copy, PartialEq, Eq, Hash)]
         #[non_exhaustive]
         pub enum Rule {
-            $(#[doc = $name] $rule,)*
-            /// A number above these, which only an archive that is newer than this binding answers.
+            $(#[doc = $name] $(#[doc = ""] #[$words])* $rule,)*
+            /// A number that none of these has: that of an archive which is newer than this binding.
             Unknown(u8),
         }
 
@@ -119,6 +119,7 @@ rules! {
     16 AggregatorAsOperator "binary code is an aggregator",
     17 BoolWithoutComparison "bool without comparison",
     18 ScalarsCompared "two scalars compared without bool",
+    /// [`joint_label`](crate::joint_label) finds it.
     19 LabelInBothLists "a label in both on and group",
     20 SetOfScalar "a side of a set operator is a scalar",
     21 SetGrouped "set operator between vectors has a grouping",

@@ -15,11 +15,11 @@ pub const CANONICAL_BYTES: usize = 65536;
 /// The longest name of a kind or a refusal, in bytes (proved).
 pub const NAME_BYTES: usize = 128;
 
-/// No call of the library uses more stack, in bytes: the frames of its functions, added up along the deepest chain of calls,
-/// are less.
+/// No call of the library uses more stack, in bytes: the frames of its functions, added up along the deepest chain of
+/// calls, are less.
 ///
-/// A thread that `std::thread::spawn` starts has 2 MiB, where nothing else was asked for. One with less needs so much beside
-/// what it uses itself:
+/// A thread that `std::thread::spawn` starts has 2 MiB, where nothing else was asked for. One with less needs so much
+/// beside what it uses itself:
 ///
 /// ```
 /// use std::thread::Builder;

@@ -5,6 +5,7 @@ use sandzguli::{Kind, Rule};
 
 const LIBRARY: &str = include_str!("../../../crates/judge/src/refusal.rt");
 const HEADER: &str = include_str!("../../../include/sandzguli.h");
+const NAMES: &str = include_str!("../../../crates/names/specs/Table.antt");
 const CODES: &str = include_str!("../../../crates/records/specs/Code.antt");
 
 /// `TwoWords` as `SANDZGULI_TWO_WORDS`.
@@ -91,7 +92,7 @@ fn the_header_has_the_same_kinds_and_refusals() {
 }
 
 #[test]
-fn the_header_has_the_same_sizes() {
+fn header_and_definitions_have_the_same_sizes() {
     let sizes = [
         ("PAGE_BYTES", sandzguli::PAGE_BYTES),
         ("RECORDS", sandzguli::RECORDS),
@@ -103,6 +104,8 @@ fn the_header_has_the_same_sizes() {
     for (name, size) in sizes {
         assert_eq!(defined(name), size as u64, "{name}");
     }
+    let proved = format!("\nlongestName = {}\n", sandzguli::NAME_BYTES);
+    assert!(NAMES.contains(&proved));
 }
 
 #[test]

@@ -1,4 +1,5 @@
-//! docs/REFUSALS.md tells the truth: every row has its rule's number, case and name, and the library refuses its page so.
+//! docs/REFUSALS.md tells the truth: every row has its rule's number, case and name, and the library refuses its page
+//! so.
 
 use sandzguli::{Refusal, Rule};
 

@@ -1,4 +1,5 @@
--- Names in one run of letters: where each lies, and that a run of any names with their starts holds those names. Assumes nothing.
+-- Names in one run of letters: where each lies, and that a run of any names with their starts holds those names.
+-- Assumes nothing.
 use Prim.Native.Nat.{ℕ, zero, suc, _+_, _-_, _≤_, _<_}
 use Prim.Native.String.{String}
 use native.Mathlib.Nat.{not-suc-le-zero, le-of-suc-le-suc, zero-sub}

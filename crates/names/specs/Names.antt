@@ -1,4 +1,5 @@
--- The names of kinds and refusals, for people who repair a page: document 01's words ('Refused when'), made to stand alone.
+-- The names of kinds and refusals, for people who repair a page: document 01's words ('Refused when'), made to stand
+-- alone.
 use Prim.Native.Nat.{ℕ}
 use Prim.Native.String.{String}
 use mathlib.Core.List.{List, [], _∷_}

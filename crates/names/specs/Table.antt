@@ -1,4 +1,5 @@
--- Names as they lie in two arrays: the letters of all in one run, and where each begins; behind the last stands the end.
+-- Names as they lie in two arrays: the letters of all in one run, and where each begins; behind the last stands the
+-- end.
 use Prim.Native.Nat.{ℕ, _+_, _-_}
 use mathlib.Core.Bool.{Bool, true, false, _&&_}
 use mathlib.Core.List.{List, [], _∷_}

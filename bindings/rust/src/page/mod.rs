@@ -1,7 +1,7 @@
 //! Pages: records as values, written to bytes and read back.
 //!
-//! A record takes its operands from a stack and puts one expression back; the deepest operand is the left one or the first
-//! argument. A page is one expression in the end.
+//! A record takes its operands from a stack and puts one expression back; the deepest operand is the left one or the
+//! first argument. A page is one expression in the end.
 //!
 //! ```
 //! use sandzguli::page::{Code, LabelModifier, Literal, Page, Record};
@@ -75,8 +75,8 @@ impl Page {
         bytes
     }
 
-    /// The records of a page, read as the library reads them. Only what cannot be read is refused, with 1, 3 or 4: whether
-    /// the records are a query is for [`check`](crate::check) to say.
+    /// The records of a page, read as the library reads them. Only what cannot be read is refused, with 1, 3 or 4:
+    /// whether the records are a query is for [`check`](crate::check) to say.
     ///
     /// ```
     /// use sandzguli::page::{Page, Record};

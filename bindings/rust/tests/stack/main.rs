@@ -1,9 +1,11 @@
-//! `STACK_BYTES` holds what every call uses: the frames of the archive's functions, added up along the deepest chain of calls.
+//! `STACK_BYTES` holds what every call uses: the frames of the archive's functions, added up along the deepest chain of
+//! calls.
 //!
-//! Frames and calls are read from the machine code (objdump). How deep functions nest that call themselves or each other is
-//! not seen there, but proved, by what falls from call to call:
-//! - `OVER_RECORDS`: pairs of functions that go from a record to earlier ones. A chain of calls has each function of a pair
-//!   once for each record at most, all pairs together; only where it passes on to another pair a record counts for both.
+//! Frames and calls are read from the machine code (objdump). How deep functions nest that call themselves or each
+//! other is not seen there, but proved, by what falls from call to call:
+//! - `OVER_RECORDS`: pairs of functions that go from a record to earlier ones. A chain of calls has each function of a
+//!   pair once for each record at most, all pairs together; only where it passes on to another pair a record counts for
+//!   both.
 //! - `OTHERS`: so many calls at most, by the groups of a number, its digits, and the levels of a text.
 //!
 //! Assumed is what memcpy and memset use.
@@ -66,7 +68,8 @@ impl Code {
         reached
     }
 
-    /// The function and all that it calls and that call it; how many times they nest, and whether that goes over records.
+    /// The function and all that it calls and that call it; how many times they nest, and whether that goes over
+    /// records.
     fn circle<'a>(&'a self, function: &'a str) -> (BTreeSet<&'a str>, usize, bool) {
         let reached = self.reached(function);
         if !reached.contains(function) {
@@ -84,8 +87,8 @@ impl Code {
         (circle, times, false)
     }
 
-    /// Bytes of the deepest chain of calls from a function on, behind pairs over records of which the widest has so many. One
-    /// round of each pair is counted where the chain comes to it, all others as rounds of the widest.
+    /// Bytes of the deepest chain of calls from a function on, behind pairs over records of which the widest has so
+    /// many. One round of each pair is counted where the chain comes to it, all others as rounds of the widest.
     fn deepest(&self, function: &str, widest: usize) -> usize {
         let rounds = |widest| (RECORDS - 1) * widest;
         if LIBC.contains(&function) {

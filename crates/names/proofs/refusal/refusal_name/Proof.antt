@@ -1,4 +1,5 @@
--- `names::refusal::refusal_name` meets its contract: the arrays hold the names of the definition, by computation. Assumes nothing.
+-- `names::refusal::refusal_name` meets its contract: the arrays hold the names of the definition, by computation.
+-- Assumes nothing.
 use denote.Ref.{now}
 use borrow.Author.Needs.{needs}
 use Rattle.names.specs.Names.{refusalNames, refusalName}

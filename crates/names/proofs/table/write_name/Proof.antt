@@ -1,5 +1,5 @@
--- `names::table::write_name` meets its contract: a name of the table lies within the letters, and each of the three ends has its law.
--- Assumes nothing.
+-- `names::table::write_name` meets its contract: a name of the table lies within the letters, and each of the three
+-- ends has its law. Assumes nothing.
 use Prim.Native.Nat.{ℕ, _-_}
 use native.Mathlib.Omega.{arith}
 use mathlib.Core.List.{List}
