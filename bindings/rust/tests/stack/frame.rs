@@ -96,6 +96,13 @@ fn depths(code: &[Instruction]) -> Vec<Option<isize>> {
     depths
 }
 
+/// Every function that is called has a name: none is called by its address.
+fn callees(code: &[Instruction]) -> BTreeSet<String> {
+    let is_known = |each: &Instruction| each.name != "call" || each.callee.is_some();
+    assert!(code.iter().all(is_known), "a call without a name");
+    code.iter().filter_map(|each| each.callee.clone()).collect()
+}
+
 pub fn frame(code: &[Instruction]) -> Frame {
     let depths = depths(code);
     let below = |(instruction, depth): (&Instruction, &Option<isize>)| {
@@ -104,6 +111,6 @@ pub fn frame(code: &[Instruction]) -> Frame {
     let deepest = code.iter().zip(&depths).filter_map(below).max();
     Frame {
         bytes: deepest.unwrap_or(RETURN_ADDRESS) as usize,
-        callees: code.iter().filter_map(|each| each.callee.clone()).collect(),
+        callees: callees(code),
     }
 }

@@ -40,6 +40,14 @@ const LIBC_BYTES: usize = 8192;
 /// What the last function of a chain may use below the end of the stack.
 const RED_ZONE: usize = 128;
 
+/// A function and all that it calls and that call it.
+struct Circle<'a> {
+    functions: BTreeSet<&'a str>,
+    /// How many times they nest; once here where that goes over records.
+    times: usize,
+    is_over_records: bool,
+}
+
 struct Code {
     frames: BTreeMap<String, Frame>,
 }
@@ -68,23 +76,29 @@ impl Code {
         reached
     }
 
-    /// The function and all that it calls and that call it; how many times they nest, and whether that goes over
-    /// records.
-    fn circle<'a>(&'a self, function: &'a str) -> (BTreeSet<&'a str>, usize, bool) {
+    fn circle<'a>(&'a self, function: &'a str) -> Circle<'a> {
         let reached = self.reached(function);
-        if !reached.contains(function) {
-            return ([function].into(), 1, false);
-        }
+        let nests = reached.contains(function);
         let calls_it = |callee: &&str| self.reached(callee).contains(function);
-        let circle: BTreeSet<_> = reached.into_iter().filter(calls_it).collect();
-        if OVER_RECORDS.iter().any(|name| circle.contains(name)) {
-            return (circle, 1, true);
+        let mut functions: BTreeSet<_> = reached.into_iter().filter(calls_it).collect();
+        functions.insert(function);
+        let is_over_records = OVER_RECORDS.iter().any(|name| functions.contains(name));
+        let other = OTHERS.iter().find(|(name, _)| functions.contains(name));
+        let times = match other {
+            Some((_, times)) => *times,
+            None if is_over_records || !nests => 1,
+            None => panic!("how deep does {function} nest?"),
+        };
+        Circle {
+            functions,
+            times,
+            is_over_records,
         }
-        let other = OTHERS.iter().find(|(name, _)| circle.contains(name));
-        let times = other
-            .unwrap_or_else(|| panic!("how deep does {function} nest?"))
-            .1;
-        (circle, times, false)
+    }
+
+    fn frame_of(&self, function: &str) -> &Frame {
+        let frame = self.frames.get(function);
+        frame.unwrap_or_else(|| panic!("how much does {function} use?"))
     }
 
     /// Bytes of the deepest chain of calls from a function on, behind pairs over records of which the widest has so
@@ -94,20 +108,15 @@ impl Code {
         if LIBC.contains(&function) {
             return LIBC_BYTES + rounds(widest);
         }
-        let (circle, times, is_over_records) = self.circle(function);
-        let frames = circle.iter().map(|name| &self.frames[*name]);
-        let own = times * frames.clone().map(|frame| frame.bytes).sum::<usize>();
-        let widest = if is_over_records {
-            widest.max(own)
-        } else {
-            widest
-        };
-        let callees = frames.flat_map(|frame| &frame.callees);
-        let exits: BTreeSet<_> = callees
-            .filter(|name| !circle.contains(name.as_str()))
-            .collect();
-        let below = exits.into_iter().map(|name| self.deepest(name, widest));
-        own + below.max().unwrap_or(rounds(widest))
+        let circle = self.circle(function);
+        let frames = circle.functions.iter().map(|name| self.frame_of(name));
+        let own = circle.times * frames.clone().map(|frame| frame.bytes).sum::<usize>();
+        let widest = widest.max(if circle.is_over_records { own } else { 0 });
+        let callees: BTreeSet<_> = frames.flat_map(|frame| &frame.callees).collect();
+        let is_exit = |name: &&String| !circle.functions.contains(name.as_str());
+        let exits = callees.into_iter().filter(is_exit);
+        let below = exits.map(|name| self.deepest(name, widest)).max();
+        own + below.unwrap_or(rounds(widest))
     }
 }
 
