@@ -1,27 +1,32 @@
 /* Sandzguli: PromQL queries as byte pages, checked and printed.
  *
- * A page holds a query as records in postfix order. Four calls take any byte string as a page and need no check before them:
- * check, copy, canonical text, split text. Each answers with one word: the kind of the query and the count of bytes written, or
- * one of 34 refusals and the index of its record, counted from 0. A fifth call finds the label of refusal 19. The helpers at
- * the end take a word apart. docs/REFUSALS.md has an example page for each refusal.
+ * A page holds a query as records in postfix order. Four calls take any byte string as a page and need no check before
+ * them: check, copy, canonical text, split text. Each answers with one word: the kind of the query and the count of
+ * bytes written, or why the page is refused and the index of the record that breaks the rule, counted from 0. A fifth
+ * call finds the label of refusal 19. Names of kinds and refusals, and the version, need no page. docs/REFUSALS.md has
+ * an example page for each refusal.
  *
  * The page is only read. It may be at any address; NULL is allowed where its length is 0.
  *
- * The buffer `out` is lent for the call. An accepted call writes the bytes that it reports, from the start of `out`, and leaves
- * the rest of `out` as it was; no terminating zero is written. A refused call changes no byte of it. NULL is allowed where its
- * length is 0. `page` and `out` must not overlap.
+ * The buffer `out` is lent for the call. An accepted call writes the bytes that it reports, from the start of `out`,
+ * and leaves the rest of `out` as it was; no terminating zero is written. A refused call changes no byte of it. NULL is
+ * allowed where its length is 0.
  *
- * Refusal 5 (output too short) is tested last: only a page that check accepts is refused with it, with the number of its records
- * as index, and a longer buffer then lets the call pass. All calls otherwise agree on a page's kind, or refusal and record.
+ * `page` and `out` must not overlap. Where they do, the answer means nothing, and memory beyond the end of `out` may be
+ * written: the library is proved and compiled on the word that they do not.
  *
- * How long a buffer must be: SANDZGULI_COPY_BYTES hold every copy and SANDZGULI_CANONICAL_BYTES every canonical text (both
- * proved). Canonical text is written without being measured first where the buffer has 4 bytes for each byte of the page and 128
- * for each record. Split texts have no proved bound: above 65,536 bytes they are rare (the longest that was built has 156,571).
- * Where a split text may be longer than the buffer, lend more after refusal 5, as examples/c/print_query.c does.
+ * Refusal 5 (the lent buffer is too short) is tested last: of pages only those that check accepts are refused with it,
+ * with the number of their records as index, and a longer buffer then lets the call pass. All calls otherwise agree on
+ * a page's kind, or refusal and record.
  *
- * Calls keep nothing between them, allocate nothing and use no global state: any thread may call at any time, with a page that
- * no one writes to meanwhile. Both texts recurse over the records of a page, at most 256 deep: the most stack that was measured
- * is 177,255 bytes (docs/SPEED.md has each call's). Give a thread that prints a stack of 512 KiB or more.
+ * How long a buffer must be: SANDZGULI_COPY_BYTES hold every copy, SANDZGULI_CANONICAL_BYTES every canonical text and
+ * SANDZGULI_NAME_BYTES every name (all proved). Canonical text is written without being measured first where the buffer
+ * has 4 bytes for each byte of the page and 128 for each record. Split texts have no proved bound: above 65,536 bytes
+ * they are rare (the longest that was built has 156,571). Where a split text may be longer than the buffer, lend more
+ * after refusal 5, as examples/c/print_query.c does.
+ *
+ * Calls keep nothing between them, allocate nothing and use no global state: any thread may call at any time, with a
+ * page that no one writes to meanwhile. Both texts recurse over the records of a page: see SANDZGULI_STACK_BYTES.
  */
 #ifndef SANDZGULI_H
 #define SANDZGULI_H
@@ -29,9 +34,20 @@
 #include <stddef.h>
 #include <stdint.h>
 
+#if SIZE_MAX != UINT64_MAX
+#error "sandzguli.h: the library takes lengths of 64 bits, and size_t has another size"
+#endif
+
 #ifdef __cplusplus
 extern "C" {
 #endif
+
+/* The version of this header. sandzguli_version tells that of the archive, as one number of the same form. */
+#define SANDZGULI_VERSION_MAJOR 0
+#define SANDZGULI_VERSION_MINOR 2
+#define SANDZGULI_VERSION_PATCH 0
+#define SANDZGULI_VERSION \
+    (SANDZGULI_VERSION_MAJOR * 65536 + SANDZGULI_VERSION_MINOR * 256 + SANDZGULI_VERSION_PATCH)
 
 /* The longest page that is read; a longer one is refused with 3 at 0. */
 #define SANDZGULI_PAGE_BYTES 8192
@@ -45,6 +61,23 @@ extern "C" {
 /* No canonical text is longer. */
 #define SANDZGULI_CANONICAL_BYTES 65536
 
+/* No name of a kind or a refusal is longer. */
+#define SANDZGULI_NAME_BYTES 128
+
+/* No call uses more stack: the frames of the archive's functions, added up along the deepest chain of calls, are less
+ * (docs/SPEED.md has each call's). Give a thread that calls the library so much beside what it uses itself. */
+#define SANDZGULI_STACK_BYTES 262144
+
+/* What a call answers, as one word. Accepted: 4 times the count of bytes written, plus the kind. Refused: bit 63 is 1,
+ * bits 16 to 23 hold the refusal, bits 0 to 15 the index of the record, and all others are 0. Read by
+ * sandzguli_is_refused, then by sandzguli_kind_of and sandzguli_written, or by sandzguli_refusal_of and
+ * sandzguli_record_of. */
+typedef uint64_t sandzguli_outcome;
+
+/* Where a label lies in a page, as one word: 256 times its first byte's place, plus its length. Read by
+ * sandzguli_label_start and sandzguli_label_length. */
+typedef uint64_t sandzguli_label;
+
 /* The kind of a query. */
 enum sandzguli_kind {
     SANDZGULI_VECTOR = 0,
@@ -53,13 +86,14 @@ enum sandzguli_kind {
     SANDZGULI_STRING = 3
 };
 
-/* Why a page is refused. */
+/* Why a page is refused, each with its name. An archive that is newer than this header may have more of them:
+ * sandzguli_refusal_name has their names. */
 enum sandzguli_refusal {
     SANDZGULI_BAD_FIELD = 1,                /* record cut short, bad number or code */
     SANDZGULI_OPERANDS_MISSING = 2,         /* operands missing, or not one expression at the end */
-    SANDZGULI_PAST_LIMIT = 3,               /* a limit passed */
-    SANDZGULI_BAD_TEXT = 4,                 /* text not allowed */
-    SANDZGULI_OUTPUT_TOO_SHORT = 5,         /* output too short; tested last */
+    SANDZGULI_PAST_LIMIT = 3,               /* a limit passed (page, records, text, list, count or time) */
+    SANDZGULI_BAD_TEXT = 4,                 /* text not allowed, or not a name */
+    SANDZGULI_OUTPUT_TOO_SHORT = 5,         /* the lent buffer is too short */
     SANDZGULI_UNARY_ON_LITERAL = 6,         /* unary on a string literal or range selector */
     SANDZGULI_RANGE_AFTER_OFFSET = 7,       /* range after offset */
     SANDZGULI_RANGE_AFTER_AT = 8,           /* range after @ */
@@ -73,73 +107,81 @@ enum sandzguli_refusal {
     SANDZGULI_AGGREGATOR_AS_OPERATOR = 16,  /* binary code is an aggregator */
     SANDZGULI_BOOL_WITHOUT_COMPARISON = 17, /* bool without comparison */
     SANDZGULI_SCALARS_COMPARED = 18,        /* two scalars compared without bool */
-    SANDZGULI_LABEL_IN_BOTH_LISTS = 19,     /* a label in both on and group: see sandzguli_joint_label */
-    SANDZGULI_SET_OF_SCALAR = 20,           /* set operator, a side scalar */
-    SANDZGULI_SET_GROUPED = 21,             /* set operator between vectors, grouped */
-    SANDZGULI_SIDE_KIND = 22,               /* a side string or matrix */
-    SANDZGULI_MATCHING_WITHOUT_VECTORS = 23, /* matching labels not empty, a side no vector */
+    SANDZGULI_LABEL_IN_BOTH_LISTS = 19,     /* a label in both on and group */
+    SANDZGULI_SET_OF_SCALAR = 20,           /* a side of a set operator is a scalar */
+    SANDZGULI_SET_GROUPED = 21,             /* set operator between vectors has a grouping */
+    SANDZGULI_SIDE_KIND = 22,               /* a side is a string or a matrix */
+    SANDZGULI_MATCHING_WITHOUT_VECTORS = 23, /* matching labels, but a side is no vector */
     SANDZGULI_OPERATOR_AS_AGGREGATOR = 24,  /* aggregate code is an operator */
-    SANDZGULI_AGGREGATE_KIND = 25,          /* aggregate operand or parameter kind */
-    SANDZGULI_FIXED_ARITY = 26,             /* fixed signature, other count */
-    SANDZGULI_TOO_FEW_ARGUMENTS = 27,       /* fewer than declared kinds less one (at least 0) */
-    SANDZGULI_TOO_MANY_ARGUMENTS = 28,      /* more than that plus the upper extra */
-    SANDZGULI_NO_DECLARED_KINDS = 29,       /* no declared kinds, yet arguments */
-    SANDZGULI_ARGUMENT_KIND = 30,           /* argument kind */
-    SANDZGULI_UNARY_KIND = 31,              /* other unary operand not scalar or vector */
-    SANDZGULI_SUBQUERY_KIND = 32,           /* subquery operand not vector */
+    SANDZGULI_AGGREGATE_KIND = 25,          /* aggregate operand is no vector, or parameter of the wrong kind */
+    SANDZGULI_FIXED_ARITY = 26,             /* fixed signature with another count of arguments */
+    SANDZGULI_TOO_FEW_ARGUMENTS = 27,       /* fewer arguments than declared kinds less one */
+    SANDZGULI_TOO_MANY_ARGUMENTS = 28,      /* more arguments than declared kinds less one plus the upper extra */
+    SANDZGULI_NO_DECLARED_KINDS = 29,       /* arguments, but no declared kinds */
+    SANDZGULI_ARGUMENT_KIND = 30,           /* argument of another kind than declared */
+    SANDZGULI_UNARY_KIND = 31,              /* unary operand is no scalar or vector */
+    SANDZGULI_SUBQUERY_KIND = 32,           /* subquery operand is no vector */
     SANDZGULI_NAME_TWICE = 33,              /* metric name and a __name__ matcher */
     SANDZGULI_EMPTY_SELECTOR = 34           /* no name, and no matcher or only ones that accept empty text */
 };
 
 /* The kind of the query, or why it is refused. Writes nothing; the count of bytes is 0. */
-uint64_t sandzguli_check(const uint8_t *page, size_t page_len);
+sandzguli_outcome sandzguli_check(const uint8_t *page, size_t page_len);
 
 /* The page of the checked query: numbers under unary records negated, set operators many-to-many. */
-uint64_t sandzguli_copy(const uint8_t *page, size_t page_len, uint8_t *out, size_t out_len);
+sandzguli_outcome sandzguli_copy(const uint8_t *page, size_t page_len, uint8_t *out, size_t out_len);
 
 /* The query on one line. */
-uint64_t sandzguli_canonical(const uint8_t *page, size_t page_len, uint8_t *out, size_t out_len);
+sandzguli_outcome sandzguli_canonical(const uint8_t *page, size_t page_len, uint8_t *out, size_t out_len);
 
 /* The query on several lines where it is longer than 100 bytes, two spaces a level; no line feed at the end. */
-uint64_t sandzguli_split(const uint8_t *page, size_t page_len, uint8_t *out, size_t out_len);
+sandzguli_outcome sandzguli_split(const uint8_t *page, size_t page_len, uint8_t *out, size_t out_len);
 
-/* Where the label of refusal 19 lies in the page: the first group label that is also in the on list. 0 where the page is not
- * refused with 19. A label may be empty, so that only check tells whether there is one. The word is read by sandzguli_label_start
- * and sandzguli_label_length, not by the helpers for outcomes. */
-uint64_t sandzguli_joint_label(const uint8_t *page, size_t page_len);
+/* Where the label of refusal 19 lies in the page: the first group label that is also in the on list. 0 where the page
+ * is not refused with 19. A label may be empty, so that only check tells whether there is one. */
+sandzguli_label sandzguli_joint_label(const uint8_t *page, size_t page_len);
 
-/* Whether the call refused the page: 1 or 0. The other helpers ask for the one case or the other. */
-static inline int sandzguli_is_refused(uint64_t word) {
-    return (int)(word >> 63);
+/* The name of a kind or of a refusal, in ASCII, for any number: `vector`, `a side is a string or a matrix`. Nothing is
+ * written, and the count of bytes is 0, where the number has no name. Refused with 5 at 0 where the name does not fit.
+ * The word has no kind. */
+sandzguli_outcome sandzguli_kind_name(uint64_t kind, uint8_t *out, size_t out_len);
+sandzguli_outcome sandzguli_refusal_name(uint64_t refusal, uint8_t *out, size_t out_len);
+
+/* The version of the archive: major * 65536 + minor * 256 + patch. */
+uint64_t sandzguli_version(void);
+
+/* Any outcome: whether the call refused, 1 or 0. The other helpers ask for the one case or the other. */
+static inline int sandzguli_is_refused(sandzguli_outcome outcome) {
+    return (int)(outcome >> 63);
 }
 
-/* Accepted: the kind. */
-static inline enum sandzguli_kind sandzguli_kind_of(uint64_t word) {
-    return (enum sandzguli_kind)(word & 3);
+/* An accepted outcome of a call on a page: the kind. */
+static inline enum sandzguli_kind sandzguli_kind_of(sandzguli_outcome outcome) {
+    return (enum sandzguli_kind)(outcome & 3);
 }
 
-/* Accepted: the count of bytes written. */
-static inline size_t sandzguli_written(uint64_t word) {
-    return (size_t)(word >> 2);
+/* An accepted outcome: the count of bytes written. */
+static inline size_t sandzguli_written(sandzguli_outcome outcome) {
+    return (size_t)(outcome >> 2);
 }
 
-/* Refused: why. */
-static inline enum sandzguli_refusal sandzguli_refusal_of(uint64_t word) {
-    return (enum sandzguli_refusal)((word >> 16) & 0xff);
+/* A refused outcome: why. */
+static inline enum sandzguli_refusal sandzguli_refusal_of(sandzguli_outcome outcome) {
+    return (enum sandzguli_refusal)((outcome >> 16) & 0xff);
 }
 
-/* Refused: the index of the record, at most SANDZGULI_RECORDS. */
-static inline size_t sandzguli_record_of(uint64_t word) {
-    return (size_t)(word & 0xffff);
+/* A refused outcome: the index of the record, at most SANDZGULI_RECORDS. */
+static inline size_t sandzguli_record_of(sandzguli_outcome outcome) {
+    return (size_t)(outcome & 0xffff);
 }
 
 /* The label of 19: its first byte in the page. */
-static inline size_t sandzguli_label_start(uint64_t label) {
+static inline size_t sandzguli_label_start(sandzguli_label label) {
     return (size_t)(label >> 8);
 }
 
 /* The label of 19: its length in bytes. */
-static inline size_t sandzguli_label_length(uint64_t label) {
+static inline size_t sandzguli_label_length(sandzguli_label label) {
     return (size_t)(label & 0xff);
 }
 

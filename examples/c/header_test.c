@@ -2,6 +2,7 @@
 #include "sandzguli.h"
 
 #include <stdio.h>
+#include <stdlib.h>
 #include <string.h>
 
 static int failures = 0;
@@ -13,8 +14,9 @@ static void expect(int is_met, const char *words) {
     }
 }
 
-static int is_refused_with(uint64_t word, enum sandzguli_refusal refusal, size_t record) {
-    return sandzguli_is_refused(word) && sandzguli_refusal_of(word) == refusal && sandzguli_record_of(word) == record;
+static int is_refused_with(sandzguli_outcome outcome, enum sandzguli_refusal refusal, size_t record) {
+    return sandzguli_is_refused(outcome) && sandzguli_refusal_of(outcome) == refusal
+        && sandzguli_record_of(outcome) == record;
 }
 
 /* The empty page, at NULL, with no buffer. */
@@ -30,14 +32,14 @@ static void test_null(void) {
 static void test_up(void) {
     const uint8_t up[] = {0x02, 0x02, 'u', 'p', 0x00};
     uint8_t out[4] = {'a', 'b', 'c', 'd'};
-    uint64_t word = sandzguli_check(up, sizeof up);
-    expect(!sandzguli_is_refused(word) && sandzguli_kind_of(word) == SANDZGULI_VECTOR, "up is a vector");
-    expect(sandzguli_written(word) == 0, "check writes nothing");
+    sandzguli_outcome outcome = sandzguli_check(up, sizeof up);
+    expect(!sandzguli_is_refused(outcome) && sandzguli_kind_of(outcome) == SANDZGULI_VECTOR, "up is a vector");
+    expect(sandzguli_written(outcome) == 0, "check writes nothing");
     expect(is_refused_with(sandzguli_canonical(up, sizeof up, NULL, 0), SANDZGULI_OUTPUT_TOO_SHORT, 1), "no room at NULL");
     expect(is_refused_with(sandzguli_split(up, sizeof up, out, 1), SANDZGULI_OUTPUT_TOO_SHORT, 1), "1 byte is too short");
     expect(memcmp(out, "abcd", 4) == 0, "a refusal changes no byte");
-    word = sandzguli_canonical(up, sizeof up, out, sizeof out);
-    expect(!sandzguli_is_refused(word) && sandzguli_written(word) == 2, "two bytes are written");
+    outcome = sandzguli_canonical(up, sizeof up, out, sizeof out);
+    expect(!sandzguli_is_refused(outcome) && sandzguli_written(outcome) == 2, "two bytes are written");
     expect(memcmp(out, "upcd", 4) == 0, "the rest is as it was");
 }
 
@@ -45,16 +47,16 @@ static void test_up(void) {
 static void test_copy(void) {
     const uint8_t minus[] = {0x00, 0x00, 0x05, 0x07};
     uint8_t out[SANDZGULI_COPY_BYTES];
-    uint64_t word = sandzguli_copy(minus, sizeof minus, out, sizeof out);
-    expect(!sandzguli_is_refused(word) && sandzguli_kind_of(word) == SANDZGULI_SCALAR, "-5 is a scalar");
-    expect(sandzguli_written(word) == 3 && memcmp(out, "\x00\x01\x05", 3) == 0, "the copy is 00 01 05");
+    sandzguli_outcome outcome = sandzguli_copy(minus, sizeof minus, out, sizeof out);
+    expect(!sandzguli_is_refused(outcome) && sandzguli_kind_of(outcome) == SANDZGULI_SCALAR, "-5 is a scalar");
+    expect(sandzguli_written(outcome) == 3 && memcmp(out, "\x00\x01\x05", 3) == 0, "the copy is 00 01 05");
 }
 
 /* `up + on (x) group_left (x) up`: the label is the byte at 21. */
 static void test_label(void) {
     const uint8_t page[] = {0x02, 0x02, 'u', 'p', 0x00, 0x02, 0x02, 'u', 'p', 0x00, 0x09, 0x01,
                             0x01, 0x00, 0x01, 0x01, 0x01, 'x', 0x01, 0x01, 0x01, 'x', 0x00, 0x00};
-    uint64_t label = sandzguli_joint_label(page, sizeof page);
+    sandzguli_label label = sandzguli_joint_label(page, sizeof page);
     expect(is_refused_with(sandzguli_check(page, sizeof page), SANDZGULI_LABEL_IN_BOTH_LISTS, 2), "refused 19 at 2");
     expect(sandzguli_label_start(label) == 21 && sandzguli_label_length(label) == 1, "the label is the byte at 21");
 }
@@ -65,11 +67,64 @@ static void test_longest_page(void) {
     expect(is_refused_with(sandzguli_check(page, sizeof page - 1), SANDZGULI_PAST_LIMIT, SANDZGULI_RECORDS), "257 records");
 }
 
+typedef sandzguli_outcome names(uint64_t number, uint8_t *out, size_t out_len);
+
+/* A name into memory of exactly its length, then of one byte less: 5 at 0, and no byte changes. */
+static void test_name(names *name_of, uint64_t number, const char *name) {
+    size_t length = strlen(name);
+    uint8_t *out = (uint8_t *)malloc(length);
+    expect(out != NULL, "there is memory");
+    memset(out, 'z', length);
+    expect(is_refused_with(name_of(number, out, length - 1), SANDZGULI_OUTPUT_TOO_SHORT, 0), "one byte less is too short");
+    expect(out[0] == 'z' && memcmp(out, out + 1, length - 1) == 0, "too short changes no byte");
+    expect(name_of(number, out, length) == length * 4, "the count of bytes, and no kind");
+    expect(memcmp(out, name, length) == 0, name);
+    free(out);
+}
+
+/* Nothing is written of a number without a name, and nothing needs to be lent. */
+static void test_no_name(names *name_of, uint64_t number) {
+    uint8_t out[SANDZGULI_NAME_BYTES] = {'z'};
+    expect(name_of(number, out, sizeof out) == 0 && out[0] == 'z', "a number without a name");
+    expect(name_of(number, NULL, 0) == 0, "a number without a name takes NULL");
+}
+
+static void test_names(void) {
+    test_name(sandzguli_kind_name, SANDZGULI_VECTOR, "vector");
+    test_name(sandzguli_kind_name, SANDZGULI_STRING, "string");
+    test_name(sandzguli_refusal_name, SANDZGULI_BAD_FIELD, "record cut short, bad number or code");
+    test_name(sandzguli_refusal_name, SANDZGULI_SIDE_KIND, "a side is a string or a matrix");
+    test_no_name(sandzguli_kind_name, 4);
+    test_no_name(sandzguli_refusal_name, 0);
+    test_no_name(sandzguli_refusal_name, 255);
+    test_no_name(sandzguli_refusal_name, UINT64_MAX);
+    expect(is_refused_with(sandzguli_refusal_name(1, NULL, 0), SANDZGULI_OUTPUT_TOO_SHORT, 0), "a name needs room");
+}
+
+/* Every name fits, and the bytes behind it stay as they were. */
+static void test_name_bytes(void) {
+    for (uint64_t number = 0; number < 256; number++) {
+        uint8_t out[SANDZGULI_NAME_BYTES + 1];
+        memset(out, 'Z', sizeof out);
+        size_t length = sandzguli_written(sandzguli_refusal_name(number, out, SANDZGULI_NAME_BYTES));
+        expect(length <= SANDZGULI_NAME_BYTES, "every name fits");
+        expect(memchr(out, 'Z', sizeof out) == out + length, "names are in lower case");
+        expect(out[SANDZGULI_NAME_BYTES] == 'Z', "the rest is as it was");
+    }
+}
+
+static void test_version(void) {
+    expect(sandzguli_version() == SANDZGULI_VERSION, "header and archive have one version");
+}
+
 int main(void) {
     test_null();
     test_up();
     test_copy();
     test_label();
     test_longest_page();
+    test_names();
+    test_name_bytes();
+    test_version();
     return failures != 0;
 }

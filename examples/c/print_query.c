@@ -10,50 +10,61 @@
 /* Room for the first try. */
 #define TEXT_ROOM 4096
 
-/* `refused N at R`, and for 19 the label that stands in both lists. */
-static void print_refusal(const uint8_t *page, size_t page_len, uint64_t word) {
-    printf("refused %d at %zu", (int)sandzguli_refusal_of(word), sandzguli_record_of(word));
-    if (sandzguli_refusal_of(word) == SANDZGULI_LABEL_IN_BOTH_LISTS) {
-        uint64_t label = sandzguli_joint_label(page, page_len);
-        printf(": label '");
+/* The name of a refusal. A newer archive may have one that is longer than the header says: then nothing. */
+static void print_name(enum sandzguli_refusal refusal) {
+    uint8_t name[SANDZGULI_NAME_BYTES];
+    sandzguli_outcome named = sandzguli_refusal_name(refusal, name, sizeof name);
+    if (!sandzguli_is_refused(named)) {
+        fwrite(name, 1, sandzguli_written(named), stdout);
+    }
+}
+
+/* `refused N at R` and what the page breaks; for 19 also the label that stands in both lists. */
+static void print_refusal(const uint8_t *page, size_t page_len, sandzguli_outcome outcome) {
+    enum sandzguli_refusal refusal = sandzguli_refusal_of(outcome);
+    printf("refused %d at %zu: ", (int)refusal, sandzguli_record_of(outcome));
+    print_name(refusal);
+    if (refusal == SANDZGULI_LABEL_IN_BOTH_LISTS) {
+        sandzguli_label label = sandzguli_joint_label(page, page_len);
+        printf(": '");
         fwrite(page + sandzguli_label_start(label), 1, sandzguli_label_length(label), stdout);
         printf("'");
     }
     printf("\n");
 }
 
-static int is_too_short(uint64_t word) {
-    return sandzguli_is_refused(word) && sandzguli_refusal_of(word) == SANDZGULI_OUTPUT_TOO_SHORT;
+static int is_too_short(sandzguli_outcome outcome) {
+    return sandzguli_is_refused(outcome) && sandzguli_refusal_of(outcome) == SANDZGULI_OUTPUT_TOO_SHORT;
 }
 
-/* Lends ever more room until the text fits. Answers the call's word; the caller frees the text. NULL: no memory is left. */
-static uint64_t split_with_room(const uint8_t *page, size_t page_len, uint8_t **text) {
+/* Lends ever more room until the text fits. Answers the call's outcome; the caller frees the text. NULL: no memory is left. */
+static sandzguli_outcome split_with_room(const uint8_t *page, size_t page_len, uint8_t **text) {
     size_t room = TEXT_ROOM;
-    uint64_t word = 0;
+    sandzguli_outcome outcome = 0;
     *text = malloc(room);
     while (*text != NULL) {
-        word = sandzguli_split(page, page_len, *text, room);
-        if (!is_too_short(word)) {
+        outcome = sandzguli_split(page, page_len, *text, room);
+        if (!is_too_short(outcome)) {
             break;
         }
         room *= 2;
         free(*text);
         *text = malloc(room);
     }
-    return word;
+    return outcome;
 }
 
 static int print_page(const uint8_t *page, size_t page_len) {
     uint8_t *text = NULL;
-    uint64_t word = split_with_room(page, page_len, &text);
+    sandzguli_outcome outcome = split_with_room(page, page_len, &text);
     if (text == NULL) {
         fprintf(stderr, "no memory is left\n");
         return EXIT_FAILURE;
     }
-    if (sandzguli_is_refused(word)) {
-        print_refusal(page, page_len, word);
+    if (sandzguli_is_refused(outcome)) {
+        print_refusal(page, page_len, outcome);
     } else {
-        fwrite(text, 1, sandzguli_written(word), stdout);
+        fwrite(text, 1, sandzguli_written(outcome), stdout);
         printf("\n");
     }
     free(text);

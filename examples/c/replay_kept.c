@@ -10,7 +10,7 @@
 /* How many calls were made. */
 static size_t calls = 0;
 
-typedef uint64_t writes(const uint8_t *page, size_t page_len, uint8_t *out, size_t out_len);
+typedef sandzguli_outcome writes(const uint8_t *page, size_t page_len, uint8_t *out, size_t out_len);
 
 static void expect(int is_met, const char *words, size_t index) {
     if (!is_met) {
@@ -27,20 +27,20 @@ static int is_filling(const uint8_t *bytes, size_t length) {
     return index == length;
 }
 
-/* A call that is lent a buffer of this length: its word, and what the buffer holds afterwards. */
+/* A call that is lent a buffer of this length: its outcome, and what the buffer holds afterwards. */
 static void replay_with(const struct entry *entry, writes *call, const struct part *text, size_t room, size_t index) {
     struct part out = new_part(room);
     memset(out.bytes, FILLING, room);
-    uint64_t word = call(entry->page.bytes, entry->page.length, out.bytes, room);
+    sandzguli_outcome outcome = call(entry->page.bytes, entry->page.length, out.bytes, room);
     calls += 1;
     if (sandzguli_is_refused(entry->word)) {
-        expect(word == entry->word, "the refusal of check", index);
+        expect(outcome == entry->word, "the refusal of check", index);
         expect(is_filling(out.bytes, room), "a refusal changes no byte", index);
     } else if (room < text->length) {
-        expect(sandzguli_refusal_of(word) == SANDZGULI_OUTPUT_TOO_SHORT, "too short", index);
+        expect(sandzguli_refusal_of(outcome) == SANDZGULI_OUTPUT_TOO_SHORT, "too short", index);
         expect(is_filling(out.bytes, room), "too short changes no byte", index);
     } else {
-        expect(word == text->length * 4 + entry->word, "kind and count of bytes", index);
+        expect(outcome == text->length * 4 + entry->word, "kind and count of bytes", index);
         expect(memcmp(out.bytes, text->bytes, text->length) == 0, "the bytes written", index);
         expect(is_filling(out.bytes + text->length, room - text->length), "the bytes behind", index);
     }

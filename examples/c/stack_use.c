@@ -1,5 +1,6 @@
-/* Measures how much stack each call uses: the most over the kept list (standard input) and over pages that nest as deep as 256
- * records can, around a name and around a selector with 16 matchers. A call runs in a thread whose stack was painted before; the paint that is gone afterwards was used. */
+/* Measures how much stack each call uses, and fails where one uses more than SANDZGULI_STACK_BYTES: the most over the
+ * kept list (standard input) and over pages that nest as deep as 256 records can, in every form around several leaves.
+ * A call runs in a thread whose stack was painted before; the paint that is gone afterwards was used. */
 #define _POSIX_C_SOURCE 200112L
 #include "kept_list.h"
 #include "sandzguli.h"
@@ -12,37 +13,44 @@
 #define PAINT 0xa5
 #define MOST_PAGES 8192
 
-typedef uint64_t call(const uint8_t *page, size_t page_len, uint8_t *out, size_t out_len);
+typedef sandzguli_outcome call(const uint8_t *page, size_t page_len, uint8_t *out, size_t out_len);
 
 static struct part pages[MOST_PAGES];
 static size_t page_count = 0;
 static uint8_t text[TEXT_BYTES];
 static _Alignas(4096) uint8_t stack[STACK_BYTES];
 
-static uint64_t nothing(const uint8_t *page, size_t page_len, uint8_t *out, size_t out_len) {
-    (void)page, (void)out;
-    return page_len + out_len;
-}
-
 /* Uses so many bytes of stack, to try the measurement. */
 #define KNOWN_BYTES 65536
 
-static uint64_t known(const uint8_t *page, size_t page_len, uint8_t *out, size_t out_len) {
+static sandzguli_outcome known(const uint8_t *page, size_t page_len, uint8_t *out, size_t out_len) {
     volatile uint8_t bytes[KNOWN_BYTES];
     for (size_t index = 0; index < sizeof bytes; index++) {
         bytes[index] = 0;
     }
-    return nothing(page, page_len, out, out_len) + bytes[page_len % sizeof bytes];
+    (void)page, (void)out;
+    return page_len + out_len + bytes[page_len % sizeof bytes];
 }
 
-static uint64_t check(const uint8_t *page, size_t page_len, uint8_t *out, size_t out_len) {
+static sandzguli_outcome check(const uint8_t *page, size_t page_len, uint8_t *out, size_t out_len) {
     (void)out, (void)out_len;
     return sandzguli_check(page, page_len);
 }
 
-static uint64_t joint_label(const uint8_t *page, size_t page_len, uint8_t *out, size_t out_len) {
+static sandzguli_outcome joint_label(const uint8_t *page, size_t page_len, uint8_t *out, size_t out_len) {
     (void)out, (void)out_len;
     return sandzguli_joint_label(page, page_len);
+}
+
+/* Any number, by the page's length: kinds and refusals, and numbers without a name. */
+static sandzguli_outcome kind_name(const uint8_t *page, size_t page_len, uint8_t *out, size_t out_len) {
+    (void)page;
+    return sandzguli_kind_name(page_len % 8, out, out_len);
+}
+
+static sandzguli_outcome refusal_name(const uint8_t *page, size_t page_len, uint8_t *out, size_t out_len) {
+    (void)page;
+    return sandzguli_refusal_name(page_len % 64, out, out_len);
 }
 
 static void expect(int is_met, const char *words) {
@@ -57,49 +65,77 @@ static void add_page(struct part page) {
     pages[page_count++] = page;
 }
 
+/* So many records, as bytes. */
+struct records {
+    const char *bytes;
+    size_t length;
+    size_t count;
+};
+
+#define RECORDS(count, bytes) {bytes, sizeof bytes - 1, count}
+#define UP "\x02\x02up\x00"
+#define FIVE_UPS UP UP UP UP UP
+#define FIFTEEN_UPS FIVE_UPS FIVE_UPS FIVE_UPS
+#define MATCHER "\x00\x02\"a\x03\\b\""
+#define FOUR_MATCHERS MATCHER MATCHER MATCHER MATCHER
+#define MATCHING "\x02\x02up\x10" FOUR_MATCHERS FOUR_MATCHERS FOUR_MATCHERS FOUR_MATCHERS
+/* @ 10^15 ms, offset -2^53 ms. */
+#define LONG_TIMES "\x05\x02\x80\x80\x9a\xa6\xea\xaf\xe3\x01\x06\x01\x80\x80\x80\x80\x80\x80\x80\x10"
+
+/* The innermost part: a name, or 16 matchers; then the longest numbers behind it. */
+static const struct records leaves[] = {
+    RECORDS(1, UP),
+    RECORDS(1, MATCHING),
+    RECORDS(3, UP LONG_TIMES),
+    RECORDS(3, MATCHING LONG_TIMES),
+};
+
+/* What stands before and behind the leaf, as often as there is room for. */
+static const struct {
+    struct records before;
+    struct records behind;
+} nests[] = {
+    {RECORDS(0, ""), RECORDS(1, "\x08")},                                                 /* parens */
+    {RECORDS(0, ""), RECORDS(1, "\x07")},                                                 /* unary */
+    {RECORDS(0, ""), RECORDS(2, "\x07\x08")},                                             /* unary in parens */
+    {RECORDS(0, ""), RECORDS(1, "\x0b\x02ln\x01\x00\x00\x00\x01")},                       /* a call */
+    {RECORDS(15, FIFTEEN_UPS), RECORDS(1, "\x0b\x01" "f\x01\x00\x01\x00\x10")},           /* 16 arguments, the last nests */
+    {RECORDS(0, ""), RECORDS(16, FIFTEEN_UPS "\x0b\x01" "f\x01\x00\x01\x00\x10")},        /* 16 arguments, the first nests */
+    {RECORDS(0, ""), RECORDS(2, "\x04\xe0\xa7\x12\x00\x0b\x01" "f\x01\x02\x00\x00\x01")}, /* a subquery in a call */
+    {RECORDS(0, ""), RECORDS(1, "\x0a\x1b\x01\x02\x03x y\x01z\x01")},                     /* an aggregate with labels */
+    {RECORDS(1, "\x00\x00\x05"), RECORDS(1, "\x0a\x1c\x02\x01\x01z\x02")},                /* with a parameter */
+    {RECORDS(0, ""), RECORDS(2, UP "\x09\x01\x00")},                                      /* an operator, leaning left */
+    {RECORDS(1, UP), RECORDS(1, "\x09\x01\x00")},                                         /* leaning right */
+    {RECORDS(0, ""), RECORDS(2, UP "\x09\x08\x01\x01\x01\x01\x01x\x01\x01\x03y z\x01\x00\x05\x01\x02")},
+    {RECORDS(1, UP), RECORDS(1, "\x09\x08\x01\x01\x02\x01\x01x\x02\x01\x03y z\x01\x00\x05\x01\x02")},
+};
+
 /* Bytes that are put together to a page. */
-static void append(struct part *page, const void *bytes, size_t length) {
-    page->bytes = realloc(page->bytes, page->length + length);
+static void append(struct part *page, const struct records *records, size_t times) {
+    page->bytes = realloc(page->bytes, page->length + records->length * times + 1);
     expect(page->bytes != NULL, "there is memory");
-    memcpy(page->bytes + page->length, bytes, length);
-    page->length += length;
+    for (size_t index = 0; index < times; index++) {
+        memcpy(page->bytes + page->length, records->bytes, records->length);
+        page->length += records->length;
+    }
 }
 
-/* A leaf so many times, then a record so many times, as an accepted page. */
-static void add_nested(const struct part *leaf, size_t leaves, const char *record, size_t record_len, size_t times) {
+static void add_nested(const struct records *before, const struct records *leaf, const struct records *behind) {
     struct part page = {NULL, 0};
-    for (size_t index = 0; index < leaves; index++) {
-        append(&page, leaf->bytes, leaf->length);
-    }
-    for (size_t index = 0; index < times; index++) {
-        append(&page, record, record_len);
-    }
+    size_t times = (SANDZGULI_RECORDS - leaf->count) / (before->count + behind->count);
+    append(&page, before, times);
+    append(&page, leaf, 1);
+    append(&page, behind, times);
     expect(!sandzguli_is_refused(sandzguli_check(page.bytes, page.length)), "a nested page is accepted");
     add_page(page);
 }
 
-/* Parens, unary records, calls, aggregates with labels; operators whose left or right side nests. */
-static void add_nested_in_all(const struct part *leaf) {
-    add_nested(leaf, 1, "\x08", 1, 255);
-    add_nested(leaf, 1, "\x07", 1, 255);
-    add_nested(leaf, 1, "\x0b\x02ln\x01\x00\x00\x00\x01", 9, 255);
-    add_nested(leaf, 1, "\x0a\x1b\x01\x02\x03x y\x01z\x01", 11, 255);
-    add_nested(leaf, 1, "\x02\x02up\x00\x09\x01\x00", 8, 127);
-}
-
 static void add_deepest(void) {
-    struct part up = {NULL, 0};
-    struct part matching = {NULL, 0};
-    append(&up, "\x02\x02up\x00", 5);
-    append(&matching, "\x02\x02up\x10", 5);
-    for (int index = 0; index < 16; index++) {
-        append(&matching, "\x00\x02\"a\x03\\b\"", 8);
+    for (size_t nest = 0; nest < sizeof nests / sizeof *nests; nest++) {
+        for (size_t leaf = 0; leaf < sizeof leaves / sizeof *leaves; leaf++) {
+            add_nested(&nests[nest].before, &leaves[leaf], &nests[nest].behind);
+        }
     }
-    add_nested_in_all(&up);
-    add_nested_in_all(&matching);
-    add_nested(&up, 128, "\x09\x01\x00", 3, 127);
-    free(up.bytes);
-    free(matching.bytes);
 }
 
 /* Where the stack of the thread's own function lies; what a call uses lies below it. */
@@ -133,23 +169,30 @@ static size_t used(call *each) {
     return start - (uintptr_t)(stack + untouched);
 }
 
-int main(void) {
-    const struct { const char *name; call *each; } calls[] = {
-        {"check", check}, {"joint_label", joint_label}, {"copy", sandzguli_copy},
-        {"canonical", sandzguli_canonical}, {"split", sandzguli_split},
-    };
+static void add_kept(void) {
     while (!is_at_end(stdin)) {
         struct entry entry = read_entry(stdin);
         add_page(entry.page);
         entry.page.bytes = NULL;
         free_entry(&entry);
     }
+}
+
+int main(void) {
+    const struct { const char *name; call *each; } calls[] = {
+        {"check", check}, {"joint_label", joint_label}, {"copy", sandzguli_copy},
+        {"canonical", sandzguli_canonical}, {"split", sandzguli_split},
+        {"kind_name", kind_name}, {"refusal_name", refusal_name},
+    };
+    add_kept();
     add_deepest();
     size_t measured = used(known);
     expect(measured >= KNOWN_BYTES && measured < KNOWN_BYTES + 1024, "a known use is measured");
     printf("%zu pages; a call that uses %d bytes: %zu\n", page_count, KNOWN_BYTES, measured);
     for (size_t index = 0; index < sizeof calls / sizeof *calls; index++) {
-        printf("%-12s%8zu bytes\n", calls[index].name, used(calls[index].each));
+        size_t bytes = used(calls[index].each);
+        printf("%-12s %8zu bytes\n", calls[index].name, bytes);
+        expect(bytes <= SANDZGULI_STACK_BYTES, "the header's bytes of stack are enough");
     }
     return 0;
 }

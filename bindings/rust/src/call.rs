@@ -1,6 +1,6 @@
 //! The library's calls as safe functions.
 
-use crate::{Kind, Refusal, Rule};
+use crate::{Kind, Refusal, Rule, CANONICAL_BYTES, COPY_BYTES};
 
 extern "C" {
     fn sandzguli_check(page: *const u8, page_len: usize) -> u64;
@@ -12,17 +12,12 @@ extern "C" {
 
 type Writes = unsafe extern "C" fn(*const u8, usize, *mut u8, usize) -> u64;
 
-/// The longest copy of an accepted page (proved: `copyPage-length`).
-const COPY_BYTES: usize = 8827;
-
-/// No canonical text of an accepted page is longer (proved: `canonical-room`).
-const CANONICAL_BYTES: usize = 65536;
-
 /// Room for the first try at a split text; most fit.
 const SPLIT_BYTES: usize = 4096;
 
 /// What an accepted call wrote.
 #[derive(Debug, Clone, Copy, PartialEq, Eq)]
+#[non_exhaustive]
 pub struct Written {
     /// The kind of the query.
     pub kind: Kind,
@@ -30,10 +25,10 @@ pub struct Written {
     pub bytes: usize,
 }
 
-/// The outcome that a word stands for.
-fn outcome(word: u64) -> Result<Written, Refusal> {
+/// The outcome that a word stands for. A number that is not known is one of a newer archive.
+pub(crate) fn outcome(word: u64) -> Result<Written, Refusal> {
     if word >> 63 == 1 {
-        let rule = Rule::of_number(word >> 16 & 0xff).expect("a refusal is in the table");
+        let rule = Rule::of_byte((word >> 16) as u8);
         let record = (word & 0xffff) as usize;
         return Err(Refusal { rule, record });
     }
@@ -67,8 +62,8 @@ fn owned_text(call: Writes, page: &[u8], first_room: usize) -> Result<String, Re
     Ok(String::from_utf8(text).expect("a text has bytes below 128"))
 }
 
-/// Room for the canonical text of a page: 4 bytes for each of its bytes and 128 for each record (proved: `display-room`), and
-/// no page has more records than bytes.
+/// Room for the canonical text of a page: 4 bytes for each of its bytes and 128 for each record (proved:
+/// `display-room`), and no page has more records than bytes.
 fn canonical_room(page: &[u8]) -> usize {
     page.len().saturating_mul(132).min(CANONICAL_BYTES)
 }
@@ -126,11 +121,11 @@ pub fn copy(page: &[u8]) -> Result<Vec<u8>, Refusal> {
 /// [`copy`] into a lent buffer. A refusal changes no byte of it, an accepted call only the bytes that it reports.
 ///
 /// ```
-/// use sandzguli::{Kind, Rule, Written};
+/// use sandzguli::{Kind, Rule};
 ///
 /// let mut out = [7; 4];
-/// let written = sandzguli::copy_into(b"\x00\x00\x05\x07", &mut out);
-/// assert_eq!(written, Ok(Written { kind: Kind::Scalar, bytes: 3 }));
+/// let written = sandzguli::copy_into(b"\x00\x00\x05\x07", &mut out).unwrap();
+/// assert_eq!((written.kind, written.bytes), (Kind::Scalar, 3));
 /// assert_eq!(out, [0, 1, 5, 7]);
 ///
 /// let refusal = sandzguli::copy_into(b"\x00\x00\x05\x07", &mut out[..2]).unwrap_err();
@@ -183,4 +178,27 @@ pub fn split(page: &[u8]) -> Result<String, Refusal> {
 /// ```
 pub fn split_into(page: &[u8], out: &mut [u8]) -> Result<Written, Refusal> {
     written(sandzguli_split, page, out)
+}
+
+#[cfg(test)]
+mod tests {
+    use super::*;
+
+    /// The word of a refusal that no archive of this version answers.
+    #[test]
+    fn an_unknown_number_is_a_refusal_too() {
+        let refusal = outcome(1 << 63 | 200 << 16 | 7).unwrap_err();
+        assert_eq!((refusal.rule, refusal.record), (Rule::Unknown(200), 7));
+        assert_eq!(refusal.number(), 200);
+        let words = "refused 200 at 7: a rule that this version does not know";
+        assert_eq!(refusal.to_string(), words);
+    }
+
+    #[test]
+    fn a_known_number_is_its_rule() {
+        for rule in Rule::ALL {
+            let refusal = outcome(1 << 63 | rule.number() << 16).unwrap_err();
+            assert_eq!(refusal, Refusal::new(*rule, 0));
+        }
+    }
 }

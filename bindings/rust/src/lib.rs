@@ -1,7 +1,7 @@
 //! PromQL queries as byte pages, checked and printed.
 //!
-//! A page holds a query as records in postfix order: operands first, then what takes them. [`page::Page`] makes one from records
-//! and reads one back; the functions below take any byte string.
+//! A page holds a query as records in postfix order: operands first, then what takes them. [`page::Page`] makes one
+//! from records and reads one back; the functions below take any byte string.
 //!
 //! ```
 //! use sandzguli::page::{Code, Function, LabelModifier, Matcher, Page, Record};
@@ -32,19 +32,24 @@
 //! let page = Page::from([Record::string("a"), Record::Unary]).to_bytes();
 //! let refusal = sandzguli::check(&page).unwrap_err();
 //! assert_eq!((refusal.rule, refusal.record), (Rule::UnaryOnLiteral, 1));
-//! assert_eq!(refusal.to_string(), "refused 6 at 1: unary on literal");
+//! assert_eq!(refusal.to_string(), "refused 6 at 1: unary on a string literal or range selector");
 //! ```
 //!
-//! The calls are those of the proved library `libsandzguli.a`, which keep nothing between them and allocate nothing: any
-//! thread may call at any time. The functions that answer with an owned value allocate it.
+//! The calls are those of the proved library `libsandzguli.a`, which keep nothing between them and allocate nothing:
+//! any thread may call at any time. The functions that answer with an owned value allocate it. The texts recurse over
+//! the records of a page; no call uses more than [`STACK_BYTES`] of stack.
 
 mod call;
 mod kind;
+mod name;
 pub mod page;
 mod refusal;
+mod size;
 
 pub use call::{
     canonical, canonical_into, check, copy, copy_into, joint_label, split, split_into, Written,
 };
 pub use kind::Kind;
+pub use name::{kind_name, kind_name_into, refusal_name, refusal_name_into, version};
 pub use refusal::{Refusal, Rule};
+pub use size::{CANONICAL_BYTES, COPY_BYTES, NAME_BYTES, PAGE_BYTES, RECORDS, STACK_BYTES};

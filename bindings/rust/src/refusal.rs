@@ -1,10 +1,12 @@
-//! The 34 refusals, named as in the library.
+//! The refusals, named as in the library.
 
+use crate::name::refusal_name;
 use std::error::Error;
 use std::fmt;
 
 /// Why a page is refused, and where.
 #[derive(Debug, Clone, Copy, PartialEq, Eq, Hash)]
+#[non_exhaustive]
 pub struct Refusal {
     /// The rule that the page breaks.
     pub rule: Rule,
@@ -13,51 +15,85 @@ pub struct Refusal {
 }
 
 impl Refusal {
-    /// The rule's number, from 1 to 34.
+    /// A refusal that no call gave, to compare with or to hand on.
+    pub const fn new(rule: Rule, record: usize) -> Self {
+        Self { rule, record }
+    }
+
+    /// The rule's number.
     pub fn number(self) -> u64 {
         self.rule.number()
     }
 
-    /// The rule's short name.
+    /// The rule's name.
     pub fn name(self) -> &'static str {
         self.rule.name()
     }
 }
 
-/// Number, record and name.
+/// Number, record and name. The name of a rule that this binding does not know is the archive's, if it has one.
 ///
 /// ```
 /// use sandzguli::{Refusal, Rule};
 ///
-/// let refusal = Refusal { rule: Rule::RangeAfterOffset, record: 2 };
-/// assert_eq!(refusal.to_string(), "refused 7 at 2: range after offset");
+/// let refusal = Refusal::new(Rule::SideKind, 2);
+/// assert_eq!(refusal.to_string(), "refused 22 at 2: a side is a string or a matrix");
 /// ```
 impl fmt::Display for Refusal {
     fn fmt(&self, f: &mut fmt::Formatter) -> fmt::Result {
         write!(f, "refused {} at {}: ", self.number(), self.record)?;
-        f.write_str(self.name())
+        match self.rule {
+            Rule::Unknown(number) => match refusal_name(number.into()) {
+                Some(name) => f.write_str(&name),
+                None => f.write_str(self.name()),
+            },
+            _ => f.write_str(self.name()),
+        }
     }
 }
 
 impl Error for Refusal {}
 
-/// The rules, each with its case and its short name, in the order of their numbers.
+/// The rules, each with its number, its case and its name, and what else is to be said of it.
 macro_rules! rules {
-    ($($(#[$words:meta])* $rule:ident $name:literal,)*) => {
-        /// What a page breaks: the rows of the refusal table, in its order.
+    ($($(#[$words:meta])* $number:literal $rule:ident $name:literal,)*) => {
+        /// What a page breaks: the rows of the refusal table (docs/REFUSALS.md), in its order.
         #[derive(Debug, Clone, Copy, PartialEq, Eq, Hash)]
+        #[non_exhaustive]
         pub enum Rule {
-            $($(#[$words])* $rule,)*
+            $(#[doc = $name] $(#[doc = ""] #[$words])* $rule,)*
+            /// A number that none of these has: that of an archive which is newer than this binding.
+            Unknown(u8),
         }
 
         impl Rule {
-            /// All rules, No. 1 to 34.
-            pub const ALL: [Rule; 34] = [$(Rule::$rule,)*];
+            /// All rules that are known, in the order of their numbers.
+            pub const ALL: &'static [Rule] = &[$(Rule::$rule,)*];
 
-            /// A few words for the rule.
+            /// The rule's number in the refusal table.
+            ///
+            /// ```
+            /// use sandzguli::Rule;
+            ///
+            /// assert_eq!(Rule::LabelInBothLists.number(), 19);
+            /// assert_eq!(Rule::Unknown(200).number(), 200);
+            /// ```
+            pub fn number(self) -> u64 {
+                match self {
+                    $(Rule::$rule => $number,)*
+                    Rule::Unknown(number) => number.into(),
+                }
+            }
+
+            /// What the page breaks, in a few words for those who repair it.
+            ///
+            /// ```
+            /// assert_eq!(sandzguli::Rule::ScalarsCompared.name(), "two scalars compared without bool");
+            /// ```
             pub fn name(self) -> &'static str {
                 match self {
                     $(Rule::$rule => $name,)*
+                    Rule::Unknown(_) => "a rule that this version does not know",
                 }
             }
         }
@@ -65,88 +101,59 @@ macro_rules! rules {
 }
 
 rules! {
-    /// Record cut short, bad number or code.
-    BadField "bad field",
-    /// Operands missing, or not one expression at the end.
-    OperandsMissing "operands missing",
-    /// A limit passed.
-    PastLimit "past limit",
-    /// Text not allowed.
-    BadText "bad text",
-    /// Output too short; tested last.
-    OutputTooShort "output too short",
-    /// Unary on a string literal or range selector.
-    UnaryOnLiteral "unary on literal",
-    /// Range after offset.
-    RangeAfterOffset "range after offset",
-    /// Range after @.
-    RangeAfterAt "range after at",
-    /// Range on anything but a selector.
-    RangeOnNoSelector "range on no selector",
-    /// @ set already.
-    AtTwice "at twice",
-    /// @ on no selector, range or subquery.
-    AtOnNoSelector "at on no selector",
-    /// Offset set already.
-    OffsetTwice "offset twice",
-    /// Offset on no selector, range or subquery.
-    OffsetOnNoSelector "offset on no selector",
-    /// Aggregate of 0 arguments.
-    AggregateOfNothing "aggregate of nothing",
-    /// Aggregate of another count than 1, or 2 with a parameter.
-    ArgumentCount "argument count",
-    /// Binary code is an aggregator.
-    AggregatorAsOperator "aggregator as operator",
-    /// Bool without comparison.
-    BoolWithoutComparison "bool without comparison",
-    /// Two scalars compared without bool.
-    ScalarsCompared "scalars compared",
-    /// A label in both on and group: see [`joint_label`](crate::joint_label).
-    LabelInBothLists "label in both lists",
-    /// Set operator, a side scalar.
-    SetOfScalar "set of scalar",
-    /// Set operator between vectors, grouped.
-    SetGrouped "set grouped",
-    /// A side string or matrix.
-    SideKind "side kind",
-    /// Matching labels not empty, a side no vector.
-    MatchingWithoutVectors "matching without vectors",
-    /// Aggregate code is an operator.
-    OperatorAsAggregator "operator as aggregator",
-    /// Aggregate operand or parameter kind.
-    AggregateKind "aggregate kind",
-    /// Fixed signature, other count.
-    FixedArity "fixed arity",
-    /// Fewer than declared kinds less one (at least 0).
-    TooFewArguments "too few arguments",
-    /// More than that plus the upper extra.
-    TooManyArguments "too many arguments",
-    /// No declared kinds, yet arguments.
-    NoDeclaredKinds "no declared kinds",
-    /// Argument kind.
-    ArgumentKind "argument kind",
-    /// Other unary operand not scalar or vector.
-    UnaryKind "unary kind",
-    /// Subquery operand not vector.
-    SubqueryKind "subquery kind",
-    /// Metric name and a `__name__` matcher.
-    NameTwice "name twice",
-    /// No name, and no matcher or only ones that accept empty text.
-    EmptySelector "empty selector",
+    1 BadField "record cut short, bad number or code",
+    2 OperandsMissing "operands missing, or not one expression at the end",
+    3 PastLimit "a limit passed (page, records, text, list, count or time)",
+    4 BadText "text not allowed, or not a name",
+    5 OutputTooShort "the lent buffer is too short",
+    6 UnaryOnLiteral "unary on a string literal or range selector",
+    7 RangeAfterOffset "range after offset",
+    8 RangeAfterAt "range after @",
+    9 RangeOnNoSelector "range on anything but a selector",
+    10 AtTwice "@ set already",
+    11 AtOnNoSelector "@ on no selector, range or subquery",
+    12 OffsetTwice "offset set already",
+    13 OffsetOnNoSelector "offset on no selector, range or subquery",
+    14 AggregateOfNothing "aggregate of 0 arguments",
+    15 ArgumentCount "aggregate of another count than 1, or 2 with a parameter",
+    16 AggregatorAsOperator "binary code is an aggregator",
+    17 BoolWithoutComparison "bool without comparison",
+    18 ScalarsCompared "two scalars compared without bool",
+    /// [`joint_label`](crate::joint_label) finds it.
+    19 LabelInBothLists "a label in both on and group",
+    20 SetOfScalar "a side of a set operator is a scalar",
+    21 SetGrouped "set operator between vectors has a grouping",
+    22 SideKind "a side is a string or a matrix",
+    23 MatchingWithoutVectors "matching labels, but a side is no vector",
+    24 OperatorAsAggregator "aggregate code is an operator",
+    25 AggregateKind "aggregate operand is no vector, or parameter of the wrong kind",
+    26 FixedArity "fixed signature with another count of arguments",
+    27 TooFewArguments "fewer arguments than declared kinds less one",
+    28 TooManyArguments "more arguments than declared kinds less one plus the upper extra",
+    29 NoDeclaredKinds "arguments, but no declared kinds",
+    30 ArgumentKind "argument of another kind than declared",
+    31 UnaryKind "unary operand is no scalar or vector",
+    32 SubqueryKind "subquery operand is no vector",
+    33 NameTwice "metric name and a __name__ matcher",
+    34 EmptySelector "no name, and no matcher or only ones that accept empty text",
 }
 
 impl Rule {
-    /// The rule's number in the refusal table.
+    /// The rule of a number, if it is known.
     ///
     /// ```
-    /// assert_eq!(sandzguli::Rule::LabelInBothLists.number(), 19);
+    /// use sandzguli::Rule;
+    ///
+    /// assert_eq!(Rule::of_number(22), Some(Rule::SideKind));
+    /// assert_eq!(Rule::of_number(0), None);
     /// ```
-    pub fn number(self) -> u64 {
-        self as u64 + 1
+    pub fn of_number(number: u64) -> Option<Self> {
+        let has_number = |rule: &Rule| rule.number() == number;
+        Self::ALL.iter().copied().find(has_number)
     }
 
-    /// The rule of a number from 1 to 34.
-    pub fn of_number(number: u64) -> Option<Self> {
-        Self::ALL.into_iter().find(|rule| rule.number() == number)
+    /// The rule of the number in a word.
+    pub(crate) fn of_byte(number: u8) -> Self {
+        Self::of_number(number.into()).unwrap_or(Self::Unknown(number))
     }
 }

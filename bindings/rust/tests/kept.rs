@@ -13,7 +13,7 @@ fn outcome(entry: &Entry) -> Result<Kind, Refusal> {
     }
     let rule = Rule::of_number(entry.word >> 16 & 0xff).expect("a rule");
     let record = (entry.word & 0xffff) as usize;
-    Err(Refusal { rule, record })
+    Err(Refusal::new(rule, record))
 }
 
 #[test]

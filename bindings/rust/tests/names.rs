@@ -1,57 +1,120 @@
-//! Numbers and names of refusals, kinds and codes are those of the library's sources and of the C header.
+//! Numbers, names and sizes are those of the library's sources, of its archive and of the C header.
 
 use sandzguli::page::Code;
 use sandzguli::{Kind, Rule};
 
 const LIBRARY: &str = include_str!("../../../crates/judge/src/refusal.rt");
 const HEADER: &str = include_str!("../../../include/sandzguli.h");
+const NAMES: &str = include_str!("../../../crates/names/specs/Table.antt");
 const CODES: &str = include_str!("../../../crates/records/specs/Code.antt");
 
-/// `two words` as `SANDZGULI_TWO_WORDS`.
-fn constant(words: &str) -> String {
-    format!("SANDZGULI_{}", words.replace(' ', "_").to_uppercase())
+/// `TwoWords` as `SANDZGULI_TWO_WORDS`.
+fn constant(case: &str) -> String {
+    let mut constant = "SANDZGULI".to_string();
+    for letter in case.chars() {
+        if letter.is_uppercase() {
+            constant.push('_');
+        }
+        constant.push(letter.to_ascii_uppercase());
+    }
+    constant
 }
 
-/// The constants of the header's enums with their numbers.
-fn constants() -> Vec<(&'static str, u64)> {
-    let constant = |line: &'static str| {
+/// A line of the header's enums: `NAME = NUMBER, /* words */`.
+#[derive(Debug, PartialEq)]
+struct Constant {
+    name: String,
+    number: u64,
+    words: String,
+}
+
+fn constants() -> Vec<Constant> {
+    let constant = |line: &str| {
         let (name, rest) = line.trim().split_once(" = ")?;
-        let digits = rest.split([',', ' ']).next()?;
-        Some((name, digits.parse().ok()?))
+        let (digits, comment) = rest.split_once(' ').unwrap_or((rest, ""));
+        let words = comment.trim().trim_start_matches("/* ");
+        Some(Constant {
+            name: name.into(),
+            number: digits.trim_end_matches(',').parse().ok()?,
+            words: words.trim_end_matches(" */").into(),
+        })
     };
     HEADER.lines().filter_map(constant).collect()
 }
 
-#[test]
-fn rules_have_the_librarys_names_and_numbers() {
-    for rule in Rule::ALL {
-        let line = format!("        Refusal::{rule:?} => {},\n", rule.number());
-        assert!(LIBRARY.contains(&line), "{line}");
-        assert_eq!(Rule::of_number(rule.number()), Some(rule));
-    }
-    assert_eq!(LIBRARY.matches("        Refusal::").count(), 34);
-    assert_eq!(Rule::of_number(0), None);
-    assert_eq!(Rule::of_number(35), None);
+/// The number that the header defines under a name.
+fn defined(name: &str) -> u64 {
+    let begins = format!("#define SANDZGULI_{name} ");
+    let number = HEADER.lines().find_map(|line| line.strip_prefix(&begins));
+    number.and_then(|digits| digits.parse().ok()).expect(name)
 }
 
 #[test]
-fn short_names_are_the_names_in_words() {
+fn rules_have_the_librarys_cases_and_numbers() {
     for rule in Rule::ALL {
-        let joined = rule.name().replace(' ', "");
-        assert_eq!(joined, format!("{rule:?}").to_lowercase());
+        let line = format!("        Refusal::{rule:?} => {},\n", rule.number());
+        assert!(LIBRARY.contains(&line), "{line}");
+        assert_eq!(Rule::of_number(rule.number()), Some(*rule));
+    }
+    let count = LIBRARY.matches("        Refusal::").count();
+    assert_eq!(Rule::ALL.len(), count);
+    let numbers: Vec<_> = Rule::ALL.iter().map(|rule| rule.number()).collect();
+    assert_eq!(numbers, (1..=count as u64).collect::<Vec<_>>());
+    assert_eq!(Rule::of_number(0), None);
+    assert_eq!(Rule::of_number(count as u64 + 1), None);
+}
+
+/// For every number that a word can hold, and some above.
+#[test]
+fn names_are_the_archives() {
+    for number in (0..=300).chain([u64::MAX]) {
+        let rule = Rule::of_number(number).map(Rule::name);
+        assert_eq!(sandzguli::refusal_name(number).as_deref(), rule);
+        let kind = Kind::of_number(number).map(|kind| kind.to_string());
+        assert_eq!(sandzguli::kind_name(number), kind);
     }
 }
 
 #[test]
 fn the_header_has_the_same_kinds_and_refusals() {
-    let kinds = Kind::ALL.map(|kind| (constant(&kind.to_string()), kind.number()));
-    let rules = Rule::ALL.map(|rule| (constant(rule.name()), rule.number()));
+    let kinds = Kind::ALL.map(|kind| Constant {
+        name: constant(&format!("{kind:?}")),
+        number: kind.number(),
+        words: String::new(),
+    });
+    let rules = Rule::ALL.iter().map(|rule| Constant {
+        name: constant(&format!("{rule:?}")),
+        number: rule.number(),
+        words: rule.name().into(),
+    });
     let expected: Vec<_> = kinds.into_iter().chain(rules).collect();
-    let found: Vec<_> = constants()
-        .into_iter()
-        .map(|(name, number)| (name.to_string(), number))
-        .collect();
-    assert_eq!(found, expected);
+    assert_eq!(constants(), expected);
+}
+
+#[test]
+fn header_and_definitions_have_the_same_sizes() {
+    let sizes = [
+        ("PAGE_BYTES", sandzguli::PAGE_BYTES),
+        ("RECORDS", sandzguli::RECORDS),
+        ("COPY_BYTES", sandzguli::COPY_BYTES),
+        ("CANONICAL_BYTES", sandzguli::CANONICAL_BYTES),
+        ("NAME_BYTES", sandzguli::NAME_BYTES),
+        ("STACK_BYTES", sandzguli::STACK_BYTES),
+    ];
+    for (name, size) in sizes {
+        assert_eq!(defined(name), size as u64, "{name}");
+    }
+    let proved = format!("\nlongestName = {}\n", sandzguli::NAME_BYTES);
+    assert!(NAMES.contains(&proved));
+}
+
+#[test]
+fn header_archive_and_binding_have_one_version() {
+    let header = ["MAJOR", "MINOR", "PATCH"].map(|part| defined(&format!("VERSION_{part}")));
+    let (major, minor, patch) = sandzguli::version();
+    assert_eq!(header, [major, minor, patch]);
+    let binding = env!("CARGO_PKG_VERSION");
+    assert_eq!(binding, format!("{major}.{minor}.{patch}"));
 }
 
 #[test]

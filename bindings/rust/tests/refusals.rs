@@ -1,4 +1,5 @@
-//! docs/REFUSALS.md tells the truth: every row has its rule's number and name, and the library refuses its page so.
+//! docs/REFUSALS.md tells the truth: every row has its rule's number, case and name, and the library refuses its page
+//! so.
 
 use sandzguli::{Refusal, Rule};
 
@@ -7,7 +8,10 @@ const DOCUMENT: &str = include_str!("../../../docs/REFUSALS.md");
 /// A row of the document's table.
 struct Row {
     rule: Rule,
-    name: &'static str,
+    /// The case in words.
+    case: &'static str,
+    /// When a page is refused so; `code` is marked.
+    name: String,
     page: Vec<u8>,
     record: usize,
 }
@@ -40,7 +44,8 @@ fn row(line: &'static str) -> Option<Row> {
     let record = cells[5].parse().expect("a record");
     Some(Row {
         rule,
-        name: cells[1],
+        case: cells[1],
+        name: cells[2].replace('`', ""),
         page,
         record,
     })
@@ -53,16 +58,15 @@ fn every_rule_has_its_row() {
     assert_eq!(rules, Rule::ALL);
     for row in rows {
         assert_eq!(row.name, row.rule.name());
+        let case = format!("{:?}", row.rule).to_lowercase();
+        assert_eq!(row.case.replace(' ', ""), case);
     }
 }
 
 #[test]
 fn every_page_is_refused_as_its_row_says() {
     for row in DOCUMENT.lines().filter_map(row) {
-        let refused = Err(Refusal {
-            rule: row.rule,
-            record: row.record,
-        });
+        let refused = Err(Refusal::new(row.rule, row.record));
         let mut out = [7; 1];
         assert_eq!(sandzguli::copy_into(&row.page, &mut out), refused);
         assert_eq!(sandzguli::canonical_into(&row.page, &mut out), refused);

@@ -5,11 +5,22 @@ use calls::canonical;
 use calls::copy;
 use calls::split;
 use checking::check;
+use names::kind::kind_name;
+use names::refusal::refusal_name;
 ghost use mathlib.Core.Path.{_≡_};
 ghost use Rattle.ast.specs.CheckPage.{check};
 ghost use Rattle.ast.specs.Part.{labelPart};
+ghost use Rattle.names.specs.Names.{kindName, refusalName};
+ghost use Rattle.names.specs.Written.{nameWritten, DoesName};
 ghost use Rattle.outcomes.specs.Calls.{copy, canonicalText, splitText};
+ghost use Rattle.sandzguli.specs.Version.{version};
 ghost use Rattle.sandzguli.specs.Words.{outcomeWord, labelWord, DoesWord};
+
+const MAJOR: u64 = 0;
+
+const MINOR: u64 = 2;
+
+const PATCH: u64 = 0;
 
 #[no_mangle]
 pub extern "C" fn sandzguli_check(page: &[u8]) -> u64
@@ -51,4 +62,25 @@ pub extern "C" fn sandzguli_split(page: &[u8], out: &mut [u8]) -> u64
     ensures { λ r. ⌜ DoesWord (splitText (now (page .entry)) (now (out .entry))) r (now (out .exit)) ⌝ }
 {
     outcome_word(split(page, out))
+}
+
+#[no_mangle]
+pub extern "C" fn sandzguli_version() -> u64
+    ensures { λ r. ⌜ r ≡ version ⌝ }
+{
+    MAJOR * 65536 + MINOR * 256 + PATCH
+}
+
+#[no_mangle]
+pub extern "C" fn sandzguli_kind_name(kind: u64, out: &mut [u8]) -> u64
+    ensures { λ r. ⌜ DoesName (nameWritten (kindName kind) (now (out .entry))) r (now (out .exit)) ⌝ }
+{
+    kind_name(kind, out)
+}
+
+#[no_mangle]
+pub extern "C" fn sandzguli_refusal_name(number: u64, out: &mut [u8]) -> u64
+    ensures { λ r. ⌜ DoesName (nameWritten (refusalName number) (now (out .entry))) r (now (out .exit)) ⌝ }
+{
+    refusal_name(number, out)
 }

@@ -5,10 +5,11 @@ use std::fmt;
 /// The codes, each with its case and its word, from 1 on.
 macro_rules! codes {
     ($($code:ident $word:literal,)*) => {
-        /// An operator (`Add` to `Atan2`) or an aggregator (`Avg` to `LimitRatio`). A page may hold either in both places;
-        /// check refuses an aggregator between two operands, and an operator as an aggregator.
+        /// An operator (`Add` to `Atan2`) or an aggregator (`Avg` to `LimitRatio`). A page may hold either in both
+        /// places; check refuses an aggregator between two operands, and an operator as an aggregator.
         #[derive(Debug, Clone, Copy, PartialEq, Eq, Hash)]
-        #[allow(missing_docs, reason = "each is named by its word")]
+        // Each is named by its word.
+        #[allow(missing_docs)]
         pub enum Code {
             $($code,)*
         }

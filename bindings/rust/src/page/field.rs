@@ -1,4 +1,5 @@
-//! Single fields: numbers in groups of seven bits, and texts. At one field 1 comes first, then 3, then 4; a text is one field.
+//! Single fields: numbers in groups of seven bits, and texts. At one field 1 comes first, then 3, then 4; a text is one
+//! field.
 
 use crate::Rule;
 

@@ -2,6 +2,7 @@
 
 /// A number literal or a fill value. Magnitudes go up to 2^53.
 #[derive(Debug, Clone, Copy, PartialEq, Eq, Hash)]
+#[non_exhaustive]
 pub enum Literal {
     /// A whole number from 0 on.
     Whole(u64),

@@ -1,7 +1,7 @@
 //! Pages: records as values, written to bytes and read back.
 //!
-//! A record takes its operands from a stack and puts one expression back; the deepest operand is the left one or the first
-//! argument. A page is one expression in the end.
+//! A record takes its operands from a stack and puts one expression back; the deepest operand is the left one or the
+//! first argument. A page is one expression in the end.
 //!
 //! ```
 //! use sandzguli::page::{Code, LabelModifier, Literal, Page, Record};
@@ -39,12 +39,6 @@ pub use time::{AtModifier, Offset};
 
 use crate::Refusal;
 
-/// The longest page, in bytes.
-pub const MAX_BYTES: usize = 8192;
-
-/// The most records of a page.
-pub const MAX_RECORDS: usize = 256;
-
 /// The records of a page, in postfix order.
 #[derive(Debug, Clone, PartialEq, Eq, Default)]
 pub struct Page {
@@ -81,8 +75,8 @@ impl Page {
         bytes
     }
 
-    /// The records of a page, read as the library reads them. Only what cannot be read is refused, with 1, 3 or 4: whether
-    /// the records are a query is for [`check`](crate::check) to say.
+    /// The records of a page, read as the library reads them. Only what cannot be read is refused, with 1, 3 or 4:
+    /// whether the records are a query is for [`check`](crate::check) to say.
     ///
     /// ```
     /// use sandzguli::page::{Page, Record};
@@ -109,6 +103,50 @@ impl<const COUNT: usize> From<[Record; COUNT]> for Page {
 impl From<Vec<Record>> for Page {
     fn from(records: Vec<Record>) -> Self {
         Self { records }
+    }
+}
+
+/// ```
+/// use sandzguli::page::{Page, Record};
+///
+/// let parens = std::iter::repeat(Record::Paren).take(2);
+/// let page: Page = std::iter::once(Record::selector("up", [])).chain(parens).collect();
+/// assert_eq!(sandzguli::canonical(&page.to_bytes()).unwrap(), "((up))");
+/// ```
+impl FromIterator<Record> for Page {
+    fn from_iter<T: IntoIterator<Item = Record>>(records: T) -> Self {
+        Self {
+            records: records.into_iter().collect(),
+        }
+    }
+}
+
+/// ```
+/// use sandzguli::page::{Code, Page, Record};
+///
+/// let mut page = Page::from([Record::whole(1)]);
+/// page.extend([Record::whole(2), Record::binary(Code::Add)]);
+/// assert_eq!(sandzguli::canonical(&page.to_bytes()).unwrap(), "1 + 2");
+/// ```
+impl Extend<Record> for Page {
+    fn extend<T: IntoIterator<Item = Record>>(&mut self, records: T) {
+        self.records.extend(records);
+    }
+}
+
+/// [`Page::read`].
+///
+/// ```
+/// use sandzguli::page::{Page, Record};
+///
+/// let page = Page::try_from([8, 7].as_slice()).unwrap();
+/// assert_eq!(page.records, [Record::Paren, Record::Unary]);
+/// ```
+impl TryFrom<&[u8]> for Page {
+    type Error = Refusal;
+
+    fn try_from(bytes: &[u8]) -> Result<Self, Refusal> {
+        Self::read(bytes)
     }
 }
 

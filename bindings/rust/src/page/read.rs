@@ -2,7 +2,7 @@
 
 use super::field::{ensure, Field, Reader};
 use super::*;
-use crate::{Kind, Rule};
+use crate::{Kind, Rule, PAGE_BYTES, RECORDS};
 
 /// The latest time of @, in milliseconds, and the highest upper extra.
 const MAX_TIME: u64 = 1_000_000_000_000_000;
@@ -155,20 +155,18 @@ impl Reader<'_> {
 
 /// All records of a page, or the first one that cannot be read.
 pub fn records(bytes: &[u8]) -> Result<Vec<Record>, Refusal> {
-    if bytes.len() > MAX_BYTES {
-        let rule = Rule::PastLimit;
-        return Err(Refusal { rule, record: 0 });
+    if bytes.len() > PAGE_BYTES {
+        return Err(Refusal::new(Rule::PastLimit, 0));
     }
     let mut reader = Reader { rest: bytes };
     let mut records = Vec::new();
     while !reader.rest.is_empty() {
         let record = records.len();
-        if record == MAX_RECORDS {
-            let rule = Rule::PastLimit;
-            return Err(Refusal { rule, record });
+        if record == RECORDS {
+            return Err(Refusal::new(Rule::PastLimit, record));
         }
         let read = reader.record();
-        records.push(read.map_err(|rule| Refusal { rule, record })?);
+        records.push(read.map_err(|rule| Refusal::new(rule, record))?);
     }
     Ok(records)
 }

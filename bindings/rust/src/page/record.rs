@@ -4,6 +4,7 @@ use super::{AtModifier, BinModifier, Code, Function, LabelModifier, Literal, Mat
 
 /// A record. All times are in milliseconds.
 #[derive(Debug, Clone, PartialEq, Eq, Hash)]
+#[non_exhaustive]
 pub enum Record {
     /// A number; takes no operand.
     Number(Literal),

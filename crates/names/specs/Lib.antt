@@ -1,0 +1,4 @@
+pub mod Examples
+pub mod Names
+pub mod Table
+pub mod Written
