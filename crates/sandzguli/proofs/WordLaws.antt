@@ -11,6 +11,8 @@ use Rattle.records.specs.Outcome.{Outcome, answer, refusal}
 use Rattle.ast.specs.CheckPage.{check}
 use Rattle.ast.specs.Table.{isInTable, isOfCheck, InTable}
 use Rattle.ast.proofs.WalkLaws.{check-in}
+use Rattle.outcomes.specs.Calls.{Called}
+use Rattle.outcomes.specs.Demand1.{Demand1}
 use Rattle.outcomes.proofs.CallsLaws.{isInTable-small, inTable-record}
 use Rattle.sandzguli.specs.Words.{FitsWord}
 
@@ -21,14 +23,18 @@ kindNumber-small matrix = omega arith
 kindNumber-small string = omega arith
 
 -- a refusal in the table fits its word
-pub inTable-fits : (page : List ℕ) (o : Outcome) → InTable isInTable page o → FitsWord o
+inTable-fits : (page : List ℕ) (o : Outcome) → InTable isInTable page o → FitsWord o
 inTable-fits page (answer k n) h = tt
 inTable-fits page (refusal n i) h = (isInTable-small n (h .0), within (inTable-record isInTable page n i h))
   where
     within : i ≤ recordLimit → i ≤ 65535
     within l = omega arith
 
--- and what the check answers is in the table
+-- so does what a call that writes answers
+pub demand1-fits : (page : List ℕ) (call : List ℕ → List ℕ → Called) → Demand1 page call → (buffer : List ℕ) → FitsWord (call page buffer .outcome)
+demand1-fits page call d buffer = inTable-fits page (call page buffer .outcome) (d .inTable buffer)
+
+-- and what the check answers
 pub check-fits : (page : List ℕ) → FitsWord (check page)
 check-fits page = inTable-fits page (check page) (all-but-five (check page) (check-in page))
   where
