@@ -1,22 +1,17 @@
 -- The three ends of a call that writes, for any text of the tree: refused by the check, too short a buffer, written. Assumes nothing.
-use Prim.Native.Nat.{ℕ, _+_}
+use Prim.Native.Nat.{ℕ}
 use mathlib.Core.Path.{_≡_, refl, ap, _∙_}
 use mathlib.Core.Bool.{true, false}
-use mathlib.Core.List.{List, _++_}
+use mathlib.Core.List.{List}
 use native.Mathlib.Nat.{zero-add}
-use lib.ListN.{length, drop}
+use lib.ListN.{length}
 use lib.Dec.{leb}
-use Rattle.base.specs.Splice.{splice, Wrote}
+use Rattle.base.specs.Splice.{Wrote, splice-start}
 use Rattle.records.specs.Kind.{Kind}
 use Rattle.records.specs.Outcome.{answer, refusal}
 use Rattle.ast.specs.Expr.{Expr, valueType}
 use Rattle.ast.specs.Walk.{Checked, accepted, refusedAt}
 use Rattle.outcomes.specs.Calls.{tooShort, writing, Does}
-
--- the start of a buffer written anew
-pub splice-start : (buffer text : List ℕ) → splice buffer 0 text ≡ text ++ drop (length text) buffer
-unfolding splice
-splice-start buffer text = ap (λ (k : ℕ). text ++ drop k buffer) (zero-add (length text))
 
 module _ (textOf : Expr → List ℕ) {checked : Checked Expr} {buffer : List ℕ} where
   pub does-refused : {k i : ℕ} → checked ≡ refusedAt k i → Does (writing textOf checked buffer) (refusal k i) buffer

@@ -1,12 +1,12 @@
 -- The three ends of a call that writes a name: no name, too short a buffer, written. Assumes nothing.
 use Prim.Native.Nat.{ℕ, _+_, _*_, _^_, _≤_, _<_}
 use mathlib.Core.Path.{_≡_, refl, ap, _∙_, subst}
-use mathlib.Core.List.{List, [], _++_}
+use mathlib.Core.List.{List, []}
 use native.Mathlib.Nat.{zero-add}
 use native.Mathlib.Omega.{arith}
 use borrow.Author.Tests.{le-leb, lt-leb}
-use lib.ListN.{length, drop}
-use Rattle.base.specs.Splice.{splice, Wrote}
+use lib.ListN.{length}
+use Rattle.base.specs.Splice.{Wrote, splice-start}
 use Rattle.names.specs.Written.{nameWritten, DoesName}
 
 -- the same name in other words
@@ -21,7 +21,6 @@ module _ (name buffer : List ℕ) where
   does-short h = rw (lt-leb (length name) (length buffer) h) (record { answers = refl; leaves = refl })
 
   pub does-write : {next : ℕ} {after : List ℕ} → length name ≤ length buffer → Wrote buffer after 0 name next → DoesName (nameWritten name buffer) (next * 4) after
-  unfolding splice
   does-write h w =
       rw (le-leb (length name) (length buffer) h)
-      (record { answers = ap (λ (n : ℕ). n * 4) (w .ends ∙ zero-add (length name)); leaves = w .holds ∙ ap (λ (n : ℕ). name ++ drop n buffer) (zero-add (length name)) })
+      (record { answers = ap (λ (n : ℕ). n * 4) (w .ends ∙ zero-add (length name)); leaves = w .holds ∙ splice-start buffer name })

@@ -11,7 +11,7 @@ use lib.ListN.{length, take, drop, length-append, length-drop, length-replicate,
 use lib.Seq.{take-append-seam, take-all, drop-append-le, length-take-le}
 use lib.Dec.{leb}
 use Rattle.base.specs.Cases.{by-lt}
-use Rattle.base.specs.Splice.{Wrote, wrote-length, join, cut, cut-last, begin, step, finish}
+use Rattle.base.specs.Splice.{Wrote, wrote-length, splice-start, join, cut, cut-last, begin, step, finish}
 use Rattle.page.specs.Bytes.{pick, bytes}
 use Rattle.page.specs.Limits.{recordLimit}
 use Rattle.records.specs.Kind.{Kind}
@@ -28,7 +28,6 @@ use Rattle.outcomes.specs.Calls.{Called, tooShort, written, writing, splitText,
 use Rattle.outcomes.specs.Output.{programBuffer, refusedLine, programLine, programOutput}
 use Rattle.outcomes.specs.Demand1.{Keeps}
 use Rattle.outcomes.proofs.CallsLaws.{isInTable-small, inTable-record, splitText-demand1}
-use Rattle.calls.proofs.DoesLaws.{splice-start}
 
 abbrev lineOf : Called → List ℕ
 lineOf c = programLine (c .outcome) (c .buffer)
