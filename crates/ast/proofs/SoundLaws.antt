@@ -20,7 +20,7 @@ use Rattle.ast.specs.Expr.{Expr, Aggregate, AggregateParam, Unary, Binar
 use Rattle.ast.specs.Construct.{newUnary, newMatrixSelector, rangeAfter, setAt, atExpr, setOffset, offsetExpr, newAggregate, newAggregateOf}
 use Rattle.ast.specs.CheckAst.{binaryRows, checkedModifier, aggregateRows, callRows, kindsOf, firstLiteral, unaryRows, subqueryRows, selectorRows, checkAst}
 use Rattle.ast.specs.CheckPage.{leafExpr, wrap, push, apply}
-use Rattle.ast.proofs.ExactLaws.{IsExactRecord}
+use Rattle.records.specs.Allowed.{IsAllowed}
 
 -- a tree that can stand on the stack
 abbrev pub Sound : Expr → Type 0
@@ -206,12 +206,12 @@ arguments-sound : (b : Bool) (made : Result Expr) (below : List Expr) → MadeEx
 arguments-sound true made below h k = push-sound made below h k
 arguments-sound false made below h k = tt
 
-leaf-exact : (l : Leaf) → IsExactRecord (leaf l) → HasExact (leafExpr l)
+leaf-exact : (l : Leaf) → IsAllowed (leaf l) → HasExact (leafExpr l)
 leaf-exact (number l) h = h
 leaf-exact (string t) h = tt
 leaf-exact (selector s) h = tt
 
-pub apply-sound : (r : Record) (stack : List Expr) → IsExactRecord r → AllSound stack → SoundStack (apply r stack)
+pub apply-sound : (r : Record) (stack : List Expr) → IsAllowed r → AllSound stack → SoundStack (apply r stack)
 unfolding apply
 apply-sound (leaf l) stack x h = push-sound (ok (leafExpr l)) stack (leaf-exact l x) h
 apply-sound (wrapper w) [] x h = tt

@@ -18,7 +18,8 @@ use Rattle.ast.specs.Walk as ast
 use Rattle.ast.specs.CheckPage.{apply, checkPage}
 use Rattle.ast.specs.Part.{fromRecord}
 use Rattle.ast.specs.Tables.{entries, stackAt}
-use Rattle.ast.proofs.ExactLaws.{IsExactRecord, readRecord-exact}
+use Rattle.records.specs.Allowed.{IsAllowed}
+use Rattle.records.proofs.AllowedLaws.{readRecord-gives}
 use Rattle.ast.proofs.SoundLaws.{AllSound, SoundStack, apply-sound}
 use Rattle.ast.proofs.TablesLaws.{stands-next}
 use Rattle.ast.proofs.WalkLaws.{onward, walk-append}
@@ -106,7 +107,7 @@ module _ {page : List ℕ} {at count : ℕ} {stack : List Expr} (progress : Prog
           progress-next = record {
             count-range = omega (arith, progress .count-range, few);
             at-range = inside;
-            sound = subst SoundStack applies (apply-sound r stack (of-got IsExactRecord (readRecord (drop at page)) read (readRecord-exact (drop at page))) (progress .sound));
+            sound = subst SoundStack applies (apply-sound r stack (of-got IsAllowed (readRecord (drop at page)) read (readRecord-gives .gives (drop at page))) (progress .sound));
             left = drop-next (readPage page .records) count one;
             rest = progress .rest ∙ rw fuel (from-next (256 - suc count) count stack (drop at page) after some-bytes read applies);
             walked = walked-next;
