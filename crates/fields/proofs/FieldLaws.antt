@@ -1,5 +1,5 @@
--- What is read behind the kind of a node's foot, field by field. The fields that are not asked for are not read: the record of the tables
--- has them (`readable`).
+-- What is read behind the kind of a node's foot, field by field. The fields that are not asked for are not read: the
+-- record of the tables has them (`readable`).
 use Prim.Native.Nat.{ℕ, suc, _+_, _<_}
 use native.Mathlib.Omega.{arith}
 use mathlib.Core.Path.{_≡_, refl, sym, ap, subst, _∙_}

@@ -19,7 +19,7 @@ use Rattle.records.specs.Answers.{matchersOn}
 use Rattle.reader.specs.declared.Selector.{Selector}
 use Rattle.text.specs.Seen.{Reads}
 
--- record i is a call, and this part of the page its function's name: the kinds that the function declares stand behind it
+-- record i is a call, and this part of the page its function's name: behind it stand the kinds that are declared
 pub record CallAt (page starts : List ℕ) (i : ℕ) (name : Span) : Type 0 where
   pub function : Function
   pub count : ℕ

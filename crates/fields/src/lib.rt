@@ -30,7 +30,7 @@ pub fn literal_of(page: &[u8], starts: &[u16], node: Node) -> records::Literal
     }
 }
 
-// A text that has no bytes, for a text that cannot be read: the records of a node can.
+// A text without bytes, for one that cannot be read: at a node there is none such.
 fn no_text() -> page::Span
     ensures { λ r. ⌜ r ≡ record { start = 0; end = 0 } ⌝ }
 {

@@ -1,5 +1,5 @@
--- The node of record i, from the record at its foot; and what is known of a node: its layout is that of what is read at its foot
--- (`layout-read`, and `number-layout` of a number with its signs).
+-- The node of record i, from the record at its foot; and what is known of a node: its layout is that of what is read at
+-- its foot (`layout-read`, and `number-layout` of a number with its signs).
 use Prim.Native.Nat.{ℕ, suc, _+_, _-_}
 use native.Mathlib.Omega.{arith}
 use mathlib.Core.Path.{_≡_, refl, sym, ap, _∙_}
@@ -92,7 +92,7 @@ module _ {page starts : List ℕ} {node : Node} (n : NodeAt page starts node) wh
       let same = foot-shape (n .known) (n .chain .sets) (node .foot) (n .foot) ∙ sym e in
       rw same at (shape-formed (layoutAt page node))
 
-  -- its layout is that of the record at its foot, where this is no sign of a number, under the range and times of the records above
+  -- its layout is that of the record at its foot, unless this is a sign, under what the records above set
   pub layout-read : {r : Option ℕ} {u : Times} → Sets page starts (node .top) (node .base) r u → {item : Record} → Reads page starts (node .base) item
       → isPart (kindOf item) || eqb (kindOf item) 7 ≡ false → layoutAt page node ≡ layoutBy item r u
   layout-read s {item} is plain =

@@ -1,5 +1,5 @@
--- A record ends one node only (`viewed-one`): its top is the record, its base the first record down from it that is no range, @ or offset,
--- its foot goes by the record there and its value, its count is that of the tree's operands.
+-- A record ends one node only (`viewed-one`): its top is the record, its base the first record down from it that is no
+-- part, its foot goes by the record there and its value, its count is that of the tree's operands.
 use Prim.Native.Nat.{ℕ, suc, _≤_, _<_}
 use native.Mathlib.Omega.{arith}
 use mathlib.Core.Path.{_≡_, refl, sym, ap, subst, _∙_}

@@ -66,7 +66,7 @@ pub record PartAt (page starts : List ℕ) (i : ℕ) : Type 0 where
   pub stands : KindAt page starts i kind
   pub part : isPart kind ≡ true
 
--- what the records above record j, up to record i, set: each is a range, an @ or an offset, and goes over those above it
+-- what the records above record j, up to record i, set: a range, an @ or an offset each, over what is set above it
 pub data Sets (page starts : List ℕ) (i : ℕ) : ℕ → Option ℕ → Times → Type 0 where
   setsNothing : Sets page starts i i none noTimes
   setsRange : {j r : ℕ} {n : Option ℕ} {u : Times} → Reads page starts j (wrapper (range r)) → Sets page starts i j n u → Sets page starts i (j - 1) (some r) u
@@ -90,7 +90,7 @@ pub record FootOf (page starts : List ℕ) (i j : ℕ) : Type 0 where
 
 -- ## Numbers
 
--- the number that record i ends: a number record's own, or behind a unary record that of the record before it, negated
+-- the number that record i ends: that of a number record, or under a unary record that of the record before it, negated
 pub data NumberAt (page starts : List ℕ) : ℕ → literal.Literal → Type 0 where
   bare : {i : ℕ} {l : literal.Literal} → Reads page starts i (leaf (number l)) → NumberAt page starts i l
   turned : {i : ℕ} {l : literal.Literal} → Reads page starts i (wrapper unary) → NumberAt page starts (i - 1) l → NumberAt page starts i (literal.negate l)

@@ -1,4 +1,5 @@
--- `fields::function_of` meets its contract: the name stands behind the kind, and the rest of the signature behind it. Assumes nothing.
+-- `fields::function_of` meets its contract: the name stands behind the kind, the rest of the signature behind it.
+-- Assumes nothing.
 use Rattle.fields.proofs.FieldLaws.{base-inside, function-reads, function-there}
 use borrow.Author.Needs.{needs}
 use Rattle.fields.proofs.function_of.Statement.{statement}

@@ -1,5 +1,5 @@
--- `view::literal::signed_literal` meets its contract. Invariant: value and number are those of record j, with the sign of the unary
--- records passed. The measure is j. Assumes nothing.
+-- `view::literal::signed_literal` meets its contract. Invariant: value and number are those of record j, with the sign
+-- of the unary records passed. The measure is j. Assumes nothing.
 use mathlib.Core.Path.{sym, subst}
 use native.Mathlib.Omega.{arith}
 use Rattle.view.specs.View.{NumberAt}
