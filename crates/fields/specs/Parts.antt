@@ -1,26 +1,15 @@
--- What is read of a node's records where they stand.
-use Prim.Native.Nat.{ℕ, _≤_}
-use mathlib.Core.Path.{_≡_}
+-- What the code's parts mean.
+use Prim.Native.Nat.{ℕ, _-_}
 use mathlib.Core.List.{List}
-use lib.ListN.{length, drop}
-use Rattle.page.specs.Limits.{pageLimit, countLimit}
-use Rattle.page.specs.Listed.{AllRead}
-use Rattle.page.specs.Answers.{Lies}
-use Rattle.records.specs.Matcher.{readMatcher}
-use Rattle.records.specs.Answers.{stepOf, matchersOn}
-use Rattle.reader.specs.declared.Selector.{Selector}
-use Rattle.ast.specs.Tables.{treeAt}
-use Rattle.text.specs.Chain.{settled}
+use Rattle.records.specs.Answers.{stepOf}
 use Rattle.text.specs.Answers.{timesOf}
+use Rattle.view.specs.View.{Sets}
 use Rattle.fields.specs.declared.parts.Parts.{Parts}
 
--- the tree of record i is that of record j with the parts of the records between them
-pub record Sets (page : List ℕ) (i j : ℕ) (parts : Parts) : Type 0 where
-  pub tree : treeAt page i ≡ settled (stepOf (parts .range)) (timesOf (parts .times)) (treeAt page j)
+-- the parts are what the records above record j, up to record i, set
+abbrev pub SetParts : List ℕ → List ℕ → ℕ → ℕ → Parts → Type 0
+SetParts page starts i j parts = Sets page starts i j (stepOf (parts .range)) (timesOf (parts .times))
 
--- a selector's name lies on the page, and its matchers can be read and are no more than a page allows
-pub record SelectorLies (page : List ℕ) (s : Selector) : Type 0 where
-  pub name : Lies page (s .name)
-  pub stored : AllRead readMatcher (s .count) (drop (s .matchers) page)
-  pub few : length (matchersOn page (s .matchers) (s .count)) ≤ countLimit
-  pub short : length page ≤ pageLimit
+-- record j sets its part over those that the records above it set
+abbrev pub SetsOver : List ℕ → List ℕ → ℕ → Parts → Parts → Type 0
+SetsOver page starts j above parts = (i : ℕ) → SetParts page starts i j above → SetParts page starts i (j - 1) parts

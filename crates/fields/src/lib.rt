@@ -10,22 +10,18 @@ ghost use mathlib.Core.Path.{_≡_};
 ghost use mathlib.Core.Bool.{false};
 ghost use Rattle.page.specs.Answers.{spanOn, Lies};
 ghost use Rattle.records.specs.Answers.{literalOf, stepOf, modifierOn, ModifierStored, labelModifierOn, LabelModifierStored};
-ghost use Rattle.records.specs.Record.{leaf, selector, wrapper, subquery};
+ghost use Rattle.records.specs.Record.{leaf, string, selector, wrapper, subquery, binary};
 ghost use Rattle.float.specs.Exact.{ModifierExact};
 ghost use Rattle.reader.specs.Answers.{selectorOn};
-ghost use Rattle.util.specs.Numeral.{displayLiteral};
-ghost use Rattle.util.specs.Escape.{quote};
-ghost use Rattle.text.specs.Display.{displayOperator, displayAggregator};
-ghost use Rattle.text.specs.Layout.{whole, enclosed, infixed};
 ghost use Rattle.text.specs.Seen.{Reads};
-ghost use Rattle.view.specs.View.{NodeAt, layoutAt};
-ghost use Rattle.fields.specs.Parts.{SelectorLies};
+ghost use Rattle.view.specs.View.{NumberAt, NodeAt};
+ghost use Rattle.fields.specs.Fields.{CallAt, AggregateAt, SelectorLies};
 
 // The number, with its sign.
 pub fn literal_of(page: &[u8], starts: &[u16], node: Node) -> records::Literal
     requires { ⌜ NodeAt (now page) (now starts) node ⌝ }
     requires { ⌜ node .foot ≡ Foot.Number ⌝ }
-    ensures { λ r. ⌜ layoutAt (now (page .entry)) node ≡ whole (displayLiteral (literalOf r)) ⌝ }
+    ensures { λ r. ⌜ NumberAt (now (page .entry)) (now (starts .entry)) (node .base) (literalOf r) ⌝ }
 {
     let base = node.base;
     match view::signed_literal(page, starts, base) {
@@ -34,15 +30,17 @@ pub fn literal_of(page: &[u8], starts: &[u16], node: Node) -> records::Literal
     }
 }
 
-// A text that has no bytes.
-fn no_text() -> page::Span {
+// A text without bytes, for one that cannot be read: at a node there is none such.
+fn no_text() -> page::Span
+    ensures { λ r. ⌜ r ≡ record { start = 0; end = 0 } ⌝ }
+{
     page::Span { start: 0, end: 0 }
 }
 
 pub fn string_of(page: &[u8], starts: &[u16], node: Node) -> page::Span
     requires { ⌜ NodeAt (now page) (now starts) node ⌝ }
     requires { ⌜ node .foot ≡ Foot.String ⌝ }
-    ensures { λ r. ⌜ layoutAt (now (page .entry)) node ≡ whole (quote (spanOn (now (page .entry)) r)) ⌝ }
+    ensures { λ r. ⌜ Reads (now (page .entry)) (now (starts .entry)) (node .base) (leaf (string (spanOn (now (page .entry)) r))) ⌝ }
     ensures { λ r. ⌜ Lies (now (page .entry)) r ⌝ }
 {
     let start = view::fields_start(starts, node.base);
@@ -56,7 +54,7 @@ pub fn string_of(page: &[u8], starts: &[u16], node: Node) -> page::Span
 pub fn function_of(page: &[u8], starts: &[u16], node: Node) -> page::Span
     requires { ⌜ NodeAt (now page) (now starts) node ⌝ }
     requires { ⌜ node .foot ≡ Foot.Call ⌝ }
-    ensures { λ r. ⌜ layoutAt (now (page .entry)) node ≡ enclosed (spanOn (now (page .entry)) r) ⌝ }
+    ensures { λ r. ⌜ CallAt (now (page .entry)) (now (starts .entry)) (node .base) r ⌝ }
     ensures { λ r. ⌜ Lies (now (page .entry)) r ⌝ }
 {
     let start = view::fields_start(starts, node.base);
@@ -84,6 +82,7 @@ pub fn selector_of(page: &[u8], starts: &[u16], node: Node) -> reader::Selector
     requires { ⌜ node .foot ≡ Foot.Selector ⌝ }
     ensures { λ r. ⌜ Reads (now (page .entry)) (now (starts .entry)) (node .base) (leaf (selector (selectorOn (now (page .entry)) r))) ⌝ }
     ensures { λ r. ⌜ SelectorLies (now (page .entry)) r ⌝ }
+    ensures { λ r. ⌜ (r .named ≡ false) × (r .empty ≡ false) ⌝ }
 {
     let start = view::fields_start(starts, node.base);
     match page::read_text(page, start, page::TextClass::MetricName) {
@@ -134,7 +133,7 @@ pub struct Operator {
 pub fn operator_of(page: &[u8], starts: &[u16], node: Node) -> Operator
     requires { ⌜ NodeAt (now page) (now starts) node ⌝ }
     requires { ⌜ node .foot ≡ Foot.Binary ⌝ }
-    ensures { λ r. ⌜ layoutAt (now (page .entry)) node ≡ infixed (displayOperator (r .code) (modifierOn (now (page .entry)) (r .modifier))) ⌝ }
+    ensures { λ r. ⌜ Reads (now (page .entry)) (now (starts .entry)) (node .base) (binary (r .code) (modifierOn (now (page .entry)) (r .modifier))) ⌝ }
     ensures { λ r. ⌜ ModifierStored (now (page .entry)) (r .modifier) ⌝ }
     ensures { λ r. ⌜ ModifierExact (modifierOn (now (page .entry)) (r .modifier)) ⌝ }
 {
@@ -166,7 +165,7 @@ pub struct Aggregator {
 pub fn aggregator_of(page: &[u8], starts: &[u16], node: Node) -> Aggregator
     requires { ⌜ NodeAt (now page) (now starts) node ⌝ }
     requires { ⌜ node .foot ≡ Foot.Aggregate ⌝ }
-    ensures { λ r. ⌜ layoutAt (now (page .entry)) node ≡ enclosed (displayAggregator (r .code) (labelModifierOn (now (page .entry)) (r .grouping))) ⌝ }
+    ensures { λ r. ⌜ AggregateAt (now (page .entry)) (now (starts .entry)) (node .base) (r .code) (labelModifierOn (now (page .entry)) (r .grouping)) ⌝ }
     ensures { λ r. ⌜ LabelModifierStored (now (page .entry)) (r .grouping) ⌝ }
 {
     let start = view::fields_start(starts, node.base);

@@ -6,13 +6,12 @@ use text::Times;
 use view::Node;
 ghost use mathlib.Core.Path.{_≡_};
 ghost use mathlib.Core.Option.{some};
-ghost use Prim.Native.Nat.{suc, _-_};
+ghost use Prim.Native.Nat.{suc};
 ghost use Rattle.records.specs.Answers.{stepOf, atModifierOf, offsetOf};
-ghost use Rattle.ast.specs.Tables.{treeAt};
-ghost use Rattle.text.specs.Chain.{withAt, withOffset, settled};
+ghost use Rattle.text.specs.Chain.{withAt, withOffset};
 ghost use Rattle.text.specs.Answers.{timesOf};
 ghost use Rattle.view.specs.View.{Starts, PartAt, NodeAt};
-ghost use Rattle.fields.specs.Parts.{Sets};
+ghost use Rattle.fields.specs.Parts.{SetParts, SetsOver};
 
 // What the records above a selector or a subquery have set. A subquery has no range of this kind.
 pub struct Parts {
@@ -66,7 +65,7 @@ fn with_offset(parts: Parts, o: records::Offset) -> Parts
 fn with_record(page: &[u8], starts: &[u16], j: usize, parts: Parts) -> Parts
     requires { ⌜ Starts (now page) (now starts) (suc j) ⌝ }
     requires { ⌜ PartAt (now page) (now starts) j ⌝ }
-    ensures { λ r. ⌜ settled (stepOf (parts .range)) (timesOf (parts .times)) (treeAt (now (page .entry)) j) ≡ settled (stepOf (r .range)) (timesOf (r .times)) (treeAt (now (page .entry)) (j - 1)) ⌝ }
+    ensures { λ r. ⌜ SetsOver (now (page .entry)) (now (starts .entry)) j parts r ⌝ }
 {
     let start = view::fields_start(starts, j);
     match view::kind_at(page, starts, j) {
@@ -101,7 +100,7 @@ fn no_parts() -> Parts
 // The parts of a node: what stands above its foot.
 pub fn parts_of(page: &[u8], starts: &[u16], node: Node) -> Parts
     requires { ⌜ NodeAt (now page) (now starts) node ⌝ }
-    ensures { λ r. ⌜ Sets (now (page .entry)) (node .top) (node .base) r ⌝ }
+    ensures { λ r. ⌜ SetParts (now (page .entry)) (now (starts .entry)) (node .top) (node .base) r ⌝ }
 {
     let base = node.base;
     let mut j = node.top;

@@ -30,7 +30,7 @@ ghost use Rattle.text.specs.Display.{displaySelector, displayTimes};
 ghost use Rattle.text.specs.Layout.{displayRange, head, operator, suffix};
 ghost use Rattle.text.specs.Answers.{timesOf};
 ghost use Rattle.view.specs.View.{NodeAt, layoutAt};
-ghost use Rattle.fields.specs.Parts.{SelectorLies};
+ghost use Rattle.fields.specs.Fields.{SelectorLies};
 
 // A selector with its range, @ and offset.
 fn selector_len(page: &[u8], selector: reader::Selector, parts: Parts, cap: usize) -> usize

@@ -1,18 +1,19 @@
 -- What the functions of this crate say of a page's records.
-use Prim.Native.Nat.{ℕ, suc, _≤_, _<_}
+use Prim.Native.Nat.{ℕ, suc, _-_}
 use mathlib.Core.Path.{_≡_}
 use mathlib.Core.Bool.{Bool, true, false, _||_}
 use mathlib.Core.List.{List}
 use mathlib.Core.Option.{Option, none, some}
 use lib.Dec.{eqb}
 use Rattle.records.specs.Literal as literal
-use Rattle.records.specs.Time.{Times}
+use Rattle.records.specs.Time.{Times, AtModifier, Offset}
 use Rattle.records.specs.Answers.{literalOf}
 use Rattle.records.specs.Record.{number, string, selector, range, subquery, at, offset, unary, paren, Record, leaf, wrapper, binary, aggregate, call, operands}
 use Rattle.ast.specs.Expr.{scalarValue}
+use Rattle.ast.specs.Construct.{noTimes}
 use Rattle.ast.specs.Tables.{Tables, treeAt}
 use Rattle.text.specs.Layout.{Layout, whole, negation, suffixed, enclosed, infixed, layoutOf}
-use Rattle.text.specs.Chain.{settled}
+use Rattle.text.specs.Chain.{withAt, withOffset}
 use Rattle.text.specs.Seen.{Reads, Seen}
 use Rattle.view.specs.declared.Foot.{Foot}
 use Rattle.view.specs.declared.Foot.the-variants as foot
@@ -65,13 +66,20 @@ pub record PartAt (page starts : List ℕ) (i : ℕ) : Type 0 where
   pub stands : KindAt page starts i kind
   pub part : isPart kind ≡ true
 
+-- what the records above record j, up to record i, set: a range, an @ or an offset each, over what is set above it
+pub data Sets (page starts : List ℕ) (i : ℕ) : ℕ → Option ℕ → Times → Type 0 where
+  setsNothing : Sets page starts i i none noTimes
+  setsRange : {j r : ℕ} {n : Option ℕ} {u : Times} → Reads page starts j (wrapper (range r)) → Sets page starts i j n u → Sets page starts i (j - 1) (some r) u
+  setsAt : {j : ℕ} {a : AtModifier} {n : Option ℕ} {u : Times} → Reads page starts j (wrapper (at a)) → Sets page starts i j n u
+      → Sets page starts i (j - 1) n (withAt a u)
+  setsOffset : {j : ℕ} {o : Offset} {n : Option ℕ} {u : Times} → Reads page starts j (wrapper (offset o)) → Sets page starts i j n u
+      → Sets page starts i (j - 1) n (withOffset o u)
+
 -- the records above record j, up to record i, are parts of one node with it
 pub record Chained (page starts : List ℕ) (i j : ℕ) : Type 0 where
-  pub low : j ≤ i
-  pub parts : (k : ℕ) → j < k → k ≤ i → PartAt page starts k
   pub range : Option ℕ
   pub times : Times
-  pub tree : treeAt page i ≡ settled range times (treeAt page j)
+  pub sets : Sets page starts i j range times
 
 -- the same, and record j is no part
 pub record FootOf (page starts : List ℕ) (i j : ℕ) : Type 0 where
@@ -82,15 +90,20 @@ pub record FootOf (page starts : List ℕ) (i j : ℕ) : Type 0 where
 
 -- ## Numbers
 
--- a bare number, or none
-abbrev pub signedOf : Signed → Option literal.Literal
-signedOf (sign.Number l) = some (literalOf l)
-signedOf sign.Other = none
+-- the number that record i ends: that of a number record, or under a unary record that of the record before it, negated
+pub data NumberAt (page starts : List ℕ) : ℕ → literal.Literal → Type 0 where
+  bare : {i : ℕ} {l : literal.Literal} → Reads page starts i (leaf (number l)) → NumberAt page starts i l
+  turned : {i : ℕ} {l : literal.Literal} → Reads page starts i (wrapper unary) → NumberAt page starts (i - 1) l → NumberAt page starts i (literal.negate l)
 
--- the tree that record i ends is a bare number
-pub record Valued (page : List ℕ) (i : ℕ) : Type 0 where
+-- the number that record i ends, or that the tree is no bare number
+abbrev pub SignedAt : List ℕ → List ℕ → ℕ → Signed → Type 0
+SignedAt page starts i (sign.Number l) = NumberAt page starts i (literalOf l)
+SignedAt page starts i sign.Other = scalarValue (treeAt page i) ≡ none
+
+-- record i ends a bare number
+pub record Valued (page starts : List ℕ) (i : ℕ) : Type 0 where
   pub value : literal.Literal
-  pub is : scalarValue (treeAt page i) ≡ some value
+  pub is : NumberAt page starts i value
 
 -- a minus that is no sign of a bare number
 pub record Minus (page starts : List ℕ) (i : ℕ) : Type 0 where
@@ -105,7 +118,7 @@ Unvalued page i mark = mark ≡ true → scalarValue (treeAt page i) ≡ none
 
 -- what stands at the foot of a node
 abbrev pub FootAt : List ℕ → List ℕ → ℕ → Foot → Type 0
-FootAt page starts i foot.Number = Valued page i
+FootAt page starts i foot.Number = Valued page starts i
 FootAt page starts i foot.String = KindAt page starts i 1
 FootAt page starts i foot.Selector = KindAt page starts i 2
 FootAt page starts i foot.Subquery = KindAt page starts i 4
@@ -124,7 +137,9 @@ pub record NodeAt (page starts : List ℕ) (node : Node) : Type 0 where
 abbrev pub layoutAt : List ℕ → Node → Layout
 layoutAt page node = layoutOf (treeAt page (node .top))
 
+-- the node that record i ends. There is one only (proofs/ViewedLaws)
 pub record Viewed (page starts : List ℕ) (i : ℕ) (node : Node) : Type 0 where
+  pub isTop : node .top ≡ i
   pub seen : Seen page i (layoutAt page node) (node .base) (node .count)
   pub stands : NodeAt page starts node
 

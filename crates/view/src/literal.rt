@@ -6,10 +6,8 @@ ghost use Prim.Native.Nat.{suc};
 ghost use Rattle.records.specs.Literal.{negate};
 ghost use Rattle.records.specs.Answers.{literalOf};
 ghost use Rattle.records.specs.Record.{leaf, number};
-ghost use Rattle.ast.specs.Expr.{scalarValue};
-ghost use Rattle.ast.specs.Tables.{treeAt};
 ghost use Rattle.text.specs.Seen.{Reads};
-ghost use Rattle.view.specs.View.{Starts, KindAt, signedOf};
+ghost use Rattle.view.specs.View.{Starts, KindAt, SignedAt};
 
 // A bare number with its sign, or anything else.
 pub enum Signed {
@@ -44,7 +42,7 @@ fn literal_at(page: &[u8], starts: &[u16], i: usize) -> records::Literal
 // The value of the tree that record i ends: a number with the sign of the unary records on it.
 pub fn signed_literal(page: &[u8], starts: &[u16], i: usize) -> Signed
     requires { ⌜ Starts (now page) (now starts) (suc i) ⌝ }
-    ensures { λ r. ⌜ signedOf r ≡ scalarValue (treeAt (now (page .entry)) i) ⌝ }
+    ensures { λ r. ⌜ SignedAt (now (page .entry)) (now (starts .entry)) i r ⌝ }
 {
     let mut j = i;
     let mut odd = false;

@@ -1,11 +1,11 @@
 -- `fields::aggregator_of` meets its contract, field by field. Assumes nothing.
-use Rattle.fields.proofs.FieldLaws.{aggregator-layout, aggregator-there, grouping-there}
+use Rattle.fields.proofs.FieldLaws.{base-inside, aggregator-reads, aggregator-there, grouping-there}
 use borrow.Author.Needs.{needs}
 use Rattle.fields.proofs.aggregator_of.Statement.{statement}
 use Rattle.fields.proofs.aggregator_of.Tie as tie
 
 fields-start-requires : tie.Need-fields-start-requires
-fields-start-requires c κs = search needs
+fields-start-requires c κs = base-inside (c .before .before .pre .0)
 
 read-code-requires : tie.Need-read-code-requires
 read-code-requires c κs = search needs
@@ -26,13 +26,30 @@ enum-told-2 : tie.Need-enum-told-2
 enum-told-2 c = search needs
 
 returns : tie.Need-returns
-returns c = (aggregator-layout (c .before .before .before .before .before .before .before .before .before .before .before .pre .0) (c .before .before .before .before .before .before .before .before .before .before .before .pre .1) (rw (c .before .before .before .before .before .code .given .1, c .before .before .before .before .before .before .before .before .fields-start .ensures) at (c .before .before .before .before .before .before .before .read-code .ensures)) (rw (c .before .grouping .given .1) at (c .before .before .before .read-label-modifier .ensures .0)), rw (c .before .grouping .given .1) at (c .before .before .before .read-label-modifier .ensures .1))
+returns c =
+    let at-grouping = c .before .before .before in
+    let at-code = at-grouping .before .before .before .before in
+    let at-start = at-code .before in
+    let p = at-start .before .before .before .pre in
+    let code = rw (at-grouping .before .before .code .given .1, at-start .fields-start .ensures) at (at-code .read-code .ensures) in
+    let reads = aggregator-reads (p .0) (p .1) code (rw (c .before .grouping .given .1) at (at-grouping .read-label-modifier .ensures .0)) in
+    (reads, rw (c .before .grouping .given .1) at (at-grouping .read-label-modifier .ensures .1))
 
 returns-2 : tie.Need-returns-2
-returns-2 c = absurd (grouping-there (c .before .before .before .before .before .before .before .before .before .before .pre .0) (c .before .before .before .before .before .before .before .before .before .before .pre .1) (rw (c .before .before .before .before .code .given .1, c .before .before .before .before .before .before .before .fields-start .ensures) at (c .before .before .before .before .before .before .read-code .ensures)) (rw (c .enum-told .given .1) at (c .before .before .read-label-modifier .ensures .0)))
+returns-2 c =
+    let at-grouping = c .before .before in
+    let at-code = at-grouping .before .before .before .before in
+    let at-start = at-code .before in
+    let p = at-start .before .before .before .pre in
+    let code = rw (at-grouping .before .before .code .given .1, at-start .fields-start .ensures) at (at-code .read-code .ensures) in
+    absurd (grouping-there (p .0) (p .1) code (rw (c .enum-told .given .1) at (at-grouping .read-label-modifier .ensures .0)))
 
 returns-3 : tie.Need-returns-3
-returns-3 c = absurd (aggregator-there (c .before .before .before .before .before .before .pre .0) (c .before .before .before .before .before .before .pre .1) (rw (c .enum-told2 .given .1, c .before .before .before .fields-start .ensures) at (c .before .before .read-code .ensures)))
+returns-3 c =
+    let at-code = c .before .before in
+    let at-start = at-code .before in
+    let p = at-start .before .before .before .pre in
+    absurd (aggregator-there (p .0) (p .1) (rw (c .enum-told2 .given .1, at-start .fields-start .ensures) at (at-code .read-code .ensures)))
 
 pub aggregator-of-spec : {M : Type 1} → statement M
 aggregator-of-spec =

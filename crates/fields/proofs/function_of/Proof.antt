@@ -1,11 +1,12 @@
--- `fields::function_of` meets its contract: the text stands behind the kind. Assumes nothing.
-use Rattle.fields.proofs.FieldLaws.{function-layout, function-there}
+-- `fields::function_of` meets its contract: the name stands behind the kind, the rest of the signature behind it.
+-- Assumes nothing.
+use Rattle.fields.proofs.FieldLaws.{base-inside, function-reads, function-there}
 use borrow.Author.Needs.{needs}
 use Rattle.fields.proofs.function_of.Statement.{statement}
 use Rattle.fields.proofs.function_of.Tie as tie
 
 fields-start-requires : tie.Need-fields-start-requires
-fields-start-requires c κs = search needs
+fields-start-requires c κs = base-inside (c .before .before .pre .0)
 
 read-text-requires : tie.Need-read-text-requires
 read-text-requires c κs = search needs
@@ -20,10 +21,19 @@ no-text-requires : tie.Need-no-text-requires
 no-text-requires c κs = search needs
 
 returns : tie.Need-returns
-returns c = (function-layout (c .before .before .before .before .before .before .before .pre .0) (c .before .before .before .before .before .before .before .pre .1) (rw (c .before .name .given .1, c .before .before .before .before .fields-start .ensures) at (c .before .before .before .read-text .ensures .0)), rw (c .before .name .given .1) at (c .before .before .before .read-text .ensures .1))
+returns c =
+    let at-text = c .before .before .before in
+    let at-start = at-text .before in
+    let p = at-start .before .before .before .pre in
+    let got = rw (c .before .name .given .1, at-start .fields-start .ensures) at (at-text .read-text .ensures .0) in
+    (function-reads (p .0) (p .1) _ got, rw (c .before .name .given .1) at (at-text .read-text .ensures .1))
 
 returns-2 : tie.Need-returns-2
-returns-2 c = absurd (function-there (c .before .before .before .before .before .before .before .pre .0) (c .before .before .before .before .before .before .before .pre .1) (rw (c .before .enum-told .given .1, c .before .before .before .before .fields-start .ensures) at (c .before .before .before .read-text .ensures .0)))
+returns-2 c =
+    let at-text = c .before .before .before in
+    let at-start = at-text .before in
+    let p = at-start .before .before .before .pre in
+    absurd (function-there (p .0) (p .1) (rw (c .before .enum-told .given .1, at-start .fields-start .ensures) at (at-text .read-text .ensures .0)))
 
 pub function-of-spec : {M : Type 1} → statement M
 function-of-spec =

@@ -1,5 +1,5 @@
--- `fields::literal_of` meets its contract: the value of the tree at the foot. Assumes nothing.
-use Rattle.fields.proofs.FieldLaws.{base-known, literal-layout, literal-there}
+-- `fields::literal_of` meets its contract: at the foot there is a number. Assumes nothing.
+use Rattle.fields.proofs.FieldLaws.{base-known, literal-there}
 use borrow.Author.Needs.{needs}
 use Rattle.fields.proofs.literal_of.Statement.{statement}
 use Rattle.fields.proofs.literal_of.Tie as tie
@@ -14,10 +14,13 @@ enum-told : tie.Need-enum-told
 enum-told c = search needs
 
 returns : tie.Need-returns
-returns c = literal-layout (c .before .before .before .before .before .before .pre .0) (rw (c .before .l .given .1) at (c .before .before .before .signed-literal .ensures))
+returns c = rw (c .before .l .given .1) at (c .before .before .before .signed-literal .ensures)
 
 returns-2 : tie.Need-returns-2
-returns-2 c = absurd (literal-there (c .before .before .before .before .before .pre .0) (c .before .before .before .before .before .pre .1) (rw (c .enum-told .given .1) at (c .before .before .signed-literal .ensures)))
+returns-2 c =
+    let at-signed = c .before .before in
+    let p = at-signed .before .before .before .pre in
+    absurd (literal-there (p .0) (p .1) (rw (c .enum-told .given .1) at (at-signed .signed-literal .ensures)))
 
 pub literal-of-spec : {M : Type 1} → statement M
 literal-of-spec =

@@ -1,11 +1,11 @@
 -- `fields::operator_of` meets its contract, field by field. Assumes nothing.
-use Rattle.fields.proofs.FieldLaws.{operator-layout, operator-there, modifier-there}
+use Rattle.fields.proofs.FieldLaws.{base-inside, reads-exact, operator-reads, operator-there, modifier-there}
 use borrow.Author.Needs.{needs}
 use Rattle.fields.proofs.operator_of.Statement.{statement}
 use Rattle.fields.proofs.operator_of.Tie as tie
 
 fields-start-requires : tie.Need-fields-start-requires
-fields-start-requires c κs = search needs
+fields-start-requires c κs = base-inside (c .before .before .pre .0)
 
 read-code-requires : tie.Need-read-code-requires
 read-code-requires c κs = search needs
@@ -27,14 +27,29 @@ enum-told-2 c = search needs
 
 returns : tie.Need-returns
 returns c =
-    let known = operator-layout (c .before .before .before .before .before .before .before .before .before .before .before .pre .0) (c .before .before .before .before .before .before .before .before .before .before .before .pre .1) (rw (c .before .before .before .before .before .code .given .1, c .before .before .before .before .before .before .before .before .fields-start .ensures) at (c .before .before .before .before .before .before .before .read-code .ensures)) (rw (c .before .modifier .given .1) at (c .before .before .before .read-modifier .ensures .0)) in
-    (known .0, (rw (c .before .modifier .given .1) at (c .before .before .before .read-modifier .ensures .1), known .1))
+    let at-modifier = c .before .before .before in
+    let at-code = at-modifier .before .before .before .before in
+    let at-start = at-code .before in
+    let p = at-start .before .before .before .pre in
+    let code = rw (at-modifier .before .before .code .given .1, at-start .fields-start .ensures) at (at-code .read-code .ensures) in
+    let reads = operator-reads (p .0) (p .1) code (rw (c .before .modifier .given .1) at (at-modifier .read-modifier .ensures .0)) in
+    (reads, (rw (c .before .modifier .given .1) at (at-modifier .read-modifier .ensures .1), reads-exact reads))
 
 returns-2 : tie.Need-returns-2
-returns-2 c = absurd (modifier-there (c .before .before .before .before .before .before .before .before .before .before .pre .0) (c .before .before .before .before .before .before .before .before .before .before .pre .1) (rw (c .before .before .before .before .code .given .1, c .before .before .before .before .before .before .before .fields-start .ensures) at (c .before .before .before .before .before .before .read-code .ensures)) (rw (c .enum-told .given .1) at (c .before .before .read-modifier .ensures .0)))
+returns-2 c =
+    let at-modifier = c .before .before in
+    let at-code = at-modifier .before .before .before .before in
+    let at-start = at-code .before in
+    let p = at-start .before .before .before .pre in
+    let code = rw (at-modifier .before .before .code .given .1, at-start .fields-start .ensures) at (at-code .read-code .ensures) in
+    absurd (modifier-there (p .0) (p .1) code (rw (c .enum-told .given .1) at (at-modifier .read-modifier .ensures .0)))
 
 returns-3 : tie.Need-returns-3
-returns-3 c = absurd (operator-there (c .before .before .before .before .before .before .pre .0) (c .before .before .before .before .before .before .pre .1) (rw (c .enum-told2 .given .1, c .before .before .before .fields-start .ensures) at (c .before .before .read-code .ensures)))
+returns-3 c =
+    let at-code = c .before .before in
+    let at-start = at-code .before in
+    let p = at-start .before .before .before .pre in
+    absurd (operator-there (p .0) (p .1) (rw (c .enum-told2 .given .1, at-start .fields-start .ensures) at (at-code .read-code .ensures)))
 
 pub operator-of-spec : {M : Type 1} → statement M
 operator-of-spec =

@@ -1,13 +1,14 @@
 -- `fields::selector_of` meets its contract: the name, then the count of the matchers; they stand behind it. Assumes nothing.
+use mathlib.Core.Path.{refl}
 use Rattle.text.proofs.EntryLaws.{page-short}
 use Rattle.text.proofs.SoundLaws.{allowed}
-use Rattle.fields.proofs.FieldLaws.{selector-reads, name-there, matchers-there}
+use Rattle.fields.proofs.FieldLaws.{base-inside, selector-reads, name-there, matchers-there}
 use borrow.Author.Needs.{needs}
 use Rattle.fields.proofs.selector_of.Statement.{statement}
 use Rattle.fields.proofs.selector_of.Tie as tie
 
 fields-start-requires : tie.Need-fields-start-requires
-fields-start-requires c κs = search needs
+fields-start-requires c κs = base-inside (c .before .before .pre .0)
 
 read-text-requires : tie.Need-read-text-requires
 read-text-requires c κs = search needs
@@ -40,13 +41,31 @@ selector-requires-3 : tie.Need-selector-requires-3
 selector-requires-3 c κs = search needs
 
 returns : tie.Need-returns
-returns c = let r = selector-reads (c .before .before .before .before .before .before .before .before .before .before .before .before .pre .0) (c .before .before .before .before .before .before .before .before .before .before .before .before .pre .1) (rw (c .before .before .before .before .before .before .name .given .1, c .before .before .before .before .before .before .before .before .before .fields-start .ensures) at (c .before .before .before .before .before .before .before .before .read-text .ensures .0)) (rw (c .before .before .count .given .1) at (c .before .before .before .before .read-count .ensures)) in rw (c .selector .ensures) (r .0, record { name = rw (c .before .before .before .before .before .before .name .given .1) at (c .before .before .before .before .before .before .before .before .read-text .ensures .1); stored = r .1; few = allowed _ (r .0 .reads) .1 .0; short = page-short (c .before .before .before .before .before .before .before .before .before .before .before .before .pre .0 .known .tables) })
+returns c =
+    let at-count = c .before .before .before .before in
+    let at-name = at-count .before .before .before .before in
+    let at-start = at-name .before in
+    let p = at-start .before .before .before .pre in
+    let name = rw (at-count .before .before .name .given .1, at-start .fields-start .ensures) at (at-name .read-text .ensures .0) in
+    let r = selector-reads (p .0) (p .1) name (rw (c .before .before .count .given .1) at (at-count .read-count .ensures)) in
+    let lies = rw (at-count .before .before .name .given .1) at (at-name .read-text .ensures .1) in
+    rw (c .selector .ensures) (r .0, (record { name = lies; stored = r .1; few = allowed _ (r .0 .reads) .1 .0; short = page-short (p .0 .known .tables) }, (refl, refl)))
 
 returns-2 : tie.Need-returns-2
-returns-2 c = absurd (matchers-there (c .before .before .before .before .before .before .before .before .before .before .before .pre .0) (c .before .before .before .before .before .before .before .before .before .before .before .pre .1) (rw (c .before .before .before .before .before .name .given .1, c .before .before .before .before .before .before .before .before .fields-start .ensures) at (c .before .before .before .before .before .before .before .read-text .ensures .0)) (rw (c .before .enum-told .given .1) at (c .before .before .before .read-count .ensures)))
+returns-2 c =
+    let at-count = c .before .before .before in
+    let at-name = at-count .before .before .before .before in
+    let at-start = at-name .before in
+    let p = at-start .before .before .before .pre in
+    let name = rw (at-count .before .before .name .given .1, at-start .fields-start .ensures) at (at-name .read-text .ensures .0) in
+    absurd (matchers-there (p .0) (p .1) name (rw (c .before .enum-told .given .1) at (at-count .read-count .ensures)))
 
 returns-3 : tie.Need-returns-3
-returns-3 c = absurd (name-there (c .before .before .before .before .before .before .before .before .pre .0) (c .before .before .before .before .before .before .before .before .pre .1) (rw (c .before .before .enum-told2 .given .1, c .before .before .before .before .before .fields-start .ensures) at (c .before .before .before .before .read-text .ensures .0)))
+returns-3 c =
+    let at-name = c .before .before .before .before in
+    let at-start = at-name .before in
+    let p = at-start .before .before .before .pre in
+    absurd (name-there (p .0) (p .1) (rw (c .before .before .enum-told2 .given .1, at-start .fields-start .ensures) at (at-name .read-text .ensures .0)))
 
 pub selector-of-spec : {M : Type 1} → statement M
 selector-of-spec =

@@ -1,11 +1,11 @@
 -- `fields::spacing_of` meets its contract, field by field. Assumes nothing.
-use Rattle.fields.proofs.FieldLaws.{spacing-reads, range-there, step-there}
+use Rattle.fields.proofs.FieldLaws.{base-inside, spacing-reads, range-there, step-there}
 use borrow.Author.Needs.{needs}
 use Rattle.fields.proofs.spacing_of.Statement.{statement}
 use Rattle.fields.proofs.spacing_of.Tie as tie
 
 fields-start-requires : tie.Need-fields-start-requires
-fields-start-requires c κs = search needs
+fields-start-requires c κs = base-inside (c .before .before .pre .0)
 
 read-number-requires : tie.Need-read-number-requires
 read-number-requires c κs = search needs
@@ -26,13 +26,29 @@ enum-told-2 : tie.Need-enum-told-2
 enum-told-2 c = search needs
 
 returns : tie.Need-returns
-returns c = spacing-reads (c .before .before .before .before .before .before .before .before .before .before .before .pre .0) (c .before .before .before .before .before .before .before .before .before .before .before .pre .1) (rw (c .before .before .before .before .before .range .given .1, c .before .before .before .before .before .before .before .before .fields-start .ensures) at (c .before .before .before .before .before .before .before .read-number .ensures .0)) (rw (c .before .step .given .1) at (c .before .before .before .read-step .ensures))
+returns c =
+    let at-step = c .before .before .before in
+    let at-range = at-step .before .before .before .before in
+    let at-start = at-range .before in
+    let p = at-start .before .before .before .pre in
+    let range = rw (at-step .before .before .range .given .1, at-start .fields-start .ensures) at (at-range .read-number .ensures .0) in
+    spacing-reads (p .0) (p .1) range (rw (c .before .step .given .1) at (at-step .read-step .ensures))
 
 returns-2 : tie.Need-returns-2
-returns-2 c = absurd (step-there (c .before .before .before .before .before .before .before .before .before .before .pre .0) (c .before .before .before .before .before .before .before .before .before .before .pre .1) (rw (c .before .before .before .before .range .given .1, c .before .before .before .before .before .before .before .fields-start .ensures) at (c .before .before .before .before .before .before .read-number .ensures .0)) (rw (c .enum-told .given .1) at (c .before .before .read-step .ensures)))
+returns-2 c =
+    let at-step = c .before .before in
+    let at-range = at-step .before .before .before .before in
+    let at-start = at-range .before in
+    let p = at-start .before .before .before .pre in
+    let range = rw (at-step .before .before .range .given .1, at-start .fields-start .ensures) at (at-range .read-number .ensures .0) in
+    absurd (step-there (p .0) (p .1) range (rw (c .enum-told .given .1) at (at-step .read-step .ensures)))
 
 returns-3 : tie.Need-returns-3
-returns-3 c = absurd (range-there (c .before .before .before .before .before .before .pre .0) (c .before .before .before .before .before .before .pre .1) (rw (c .enum-told2 .given .1, c .before .before .before .fields-start .ensures) at (c .before .before .read-number .ensures .0)))
+returns-3 c =
+    let at-range = c .before .before in
+    let at-start = at-range .before in
+    let p = at-start .before .before .before .pre in
+    absurd (range-there (p .0) (p .1) (rw (c .enum-told2 .given .1, at-start .fields-start .ensures) at (at-range .read-number .ensures .0)))
 
 pub spacing-of-spec : {M : Type 1} → statement M
 spacing-of-spec =

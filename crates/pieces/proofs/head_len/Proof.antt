@@ -1,10 +1,12 @@
 -- `pieces::head_len` meets its contract: by what stands at the node's foot. Assumes nothing.
 use Prim.Native.Nat.{min}
 use lib.ListN.{length}
-use mathlib.Core.Path.{ap, _∙_}
+use mathlib.Core.Path.{refl, ap, _∙_}
 use native.Mathlib.Omega.{arith}
 use Rattle.util.specs.Escape.{quote}
-use Rattle.fields.proofs.FieldLaws.{selector-layout, subquery-head, binary-head, minus-head, paren-head}
+use Rattle.text.specs.Layout.{enclosed}
+use Rattle.view.proofs.NodeLaws.{layout-read, number-layout}
+use Rattle.pieces.proofs.FormLaws.{subquery-head, binary-head, minus-head, paren-head}
 use borrow.Author.Needs.{needs}
 use Rattle.pieces.proofs.head_len.Statement.{statement}
 use Rattle.pieces.proofs.head_len.Tie as tie
@@ -82,13 +84,24 @@ capped-add-requires-3 : tie.Need-capped-add-requires-3
 capped-add-requires-3 c κs = search needs
 
 returns : tie.Need-returns
-returns c = rw (c .before .before .literal-of .ensures) (omega (arith, c .capped-add .ensures, c .before .numeral-len .ensures .literal))
+returns c =
+    let at-literal = c .before .before in
+    let node = at-literal .before .before .before .before .before .pre in
+    rw (number-layout node (at-literal .literal-of .ensures)) (omega (arith, c .capped-add .ensures, c .before .numeral-len .ensures .literal))
 
 returns-2 : tie.Need-returns-2
-returns-2 c = rw (c .before .before .string-of .ensures .0) (c .quoted-len .ensures ∙ ap (λ (x : _). min (length (quote x)) (c .before .before .before .before .before .before .before .args .cap)) (c .before .text-at .ensures))
+returns-2 c =
+    let at-string = c .before .before in
+    let start = at-string .before .before .before .before .before in
+    let node = start .pre in
+    rw (layout-read node (node .chain .sets) (at-string .string-of .ensures .0) refl)
+    (c .quoted-len .ensures ∙ ap (λ (x : _). min (length (quote x)) (start .args .cap)) (c .before .text-at .ensures))
 
 returns-3 : tie.Need-returns-3
-returns-3 c = rw (selector-layout (c .before .before .before .before .before .before .before .pre) (c .before .parts-of .ensures) (c .before .before .selector-of .ensures .0)) (c .selector-len .ensures)
+returns-3 c =
+    let at-selector = c .before .before in
+    let node = at-selector .before .before .before .before .before .pre in
+    rw (layout-read node (c .before .parts-of .ensures) (at-selector .selector-of .ensures .0) refl) (c .selector-len .ensures)
 
 returns-4 : tie.Need-returns-4
 returns-4 c = omega (arith, ap length (subquery-head (c .before .before .before .before .pre) (c .enum-told4 .given .1)))
@@ -103,10 +116,17 @@ returns-7 : tie.Need-returns-7
 returns-7 c = omega (arith, ap length (binary-head (c .before .before .before .before .pre) (c .enum-told7 .given .1)))
 
 returns-8 : tie.Need-returns-8
-returns-8 c = rw (c .before .aggregator-of .ensures .0) (c .aggregator-len .ensures)
+returns-8 c =
+    let at-aggregator = c .before in
+    let node = at-aggregator .before .before .before .before .before .pre in
+    rw (layout-read node (node .chain .sets) (at-aggregator .aggregator-of .ensures .0 .reads) refl) (c .aggregator-len .ensures)
 
 returns-9 : tie.Need-returns-9
-returns-9 c = rw (c .before .before .function-of .ensures .0) (omega (arith, c .capped-add3 .ensures, ap length (c .before .text-at2 .ensures)))
+returns-9 c =
+    let at-function = c .before .before in
+    let node = at-function .before .before .before .before .before .pre in
+    let own = at-function .function-of .ensures .0 in
+    rw (layout-read node (node .chain .sets) (own .reads) refl ∙ ap enclosed (own .named)) (omega (arith, c .capped-add3 .ensures, ap length (c .before .text-at2 .ensures)))
 
 pub head-len-spec : {M : Type 1} → statement M
 head-len-spec =

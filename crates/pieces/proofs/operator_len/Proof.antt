@@ -2,7 +2,8 @@
 use lib.ListN.{length}
 use mathlib.Core.Path.{refl, ap}
 use native.Mathlib.Omega.{arith}
-use Rattle.fields.proofs.FieldLaws.{no-operator}
+use Rattle.view.proofs.NodeLaws.{layout-read}
+use Rattle.pieces.proofs.FormLaws.{no-operator}
 use borrow.Author.Needs.{needs}
 use Rattle.pieces.proofs.operator_len.Statement.{statement}
 use Rattle.pieces.proofs.operator_len.Tie as tie
@@ -20,7 +21,10 @@ operator-len-requires : tie.Need-operator-len-requires
 operator-len-requires c κs = search needs
 
 returns-2 : tie.Need-returns-2
-returns-2 c = rw (c .before .operator-of .ensures .0) (c .operator-len .ensures)
+returns-2 c =
+    let at-operator = c .before in
+    let node = at-operator .before .before .before .before .before .pre in
+    rw (layout-read node (node .chain .sets) (at-operator .operator-of .ensures .0) refl) (c .operator-len .ensures)
 
 pub operator-len-spec : {M : Type 1} → statement M
 operator-len-spec =

@@ -1,8 +1,10 @@
 -- `pieces::put_head` meets its contract: by what stands at the node's foot. Assumes nothing.
-use mathlib.Core.Path.{sym, ap}
+use mathlib.Core.Path.{refl, sym, ap, _∙_}
 use Rattle.util.specs.Escape.{quote}
 use Rattle.text.proofs.WriteLaws.{wrote-nothing, wrote-as}
-use Rattle.fields.proofs.FieldLaws.{selector-layout, subquery-head, binary-head, minus-head, paren-head}
+use Rattle.text.specs.Layout.{enclosed}
+use Rattle.view.proofs.NodeLaws.{layout-read, number-layout}
+use Rattle.pieces.proofs.FormLaws.{subquery-head, binary-head, minus-head, paren-head}
 use borrow.Author.Needs.{needs}
 use Rattle.pieces.proofs.put_head.Statement.{statement}
 use Rattle.pieces.proofs.put_head.Tie as tie
@@ -14,7 +16,10 @@ literal-of-requires : tie.Need-literal-of-requires
 literal-of-requires c κs = search needs
 
 put-literal-requires : tie.Need-put-literal-requires
-put-literal-requires c κs = rw (c .before .literal-of .ensures) at (c .before .before .before .before .before .before .before .pre .1)
+put-literal-requires c κs =
+    let at-literal = c .before in
+    let p = at-literal .before .before .before .before .before .before .pre in
+    rw (number-layout (p .0) (at-literal .literal-of .ensures)) at (p .1)
 
 enum-told-2 : tie.Need-enum-told-2
 enum-told-2 c = search needs
@@ -26,7 +31,10 @@ text-at-requires : tie.Need-text-at-requires
 text-at-requires c κs = search needs
 
 put-quoted-requires : tie.Need-put-quoted-requires
-put-quoted-requires c κs = rw (c .before .text-at .ensures) (rw (c .before .before .string-of .ensures .0) at (c .before .before .before .before .before .before .before .before .pre .1))
+put-quoted-requires c κs =
+    let at-string = c .before .before in
+    let p = at-string .before .before .before .before .before .before .pre in
+    rw (c .before .text-at .ensures) (rw (layout-read (p .0) (p .0 .chain .sets) (at-string .string-of .ensures .0) refl) at (p .1))
 
 enum-told-3 : tie.Need-enum-told-3
 enum-told-3 c = search needs
@@ -38,7 +46,11 @@ parts-of-requires : tie.Need-parts-of-requires
 parts-of-requires c κs = search needs
 
 put-selector-requires : tie.Need-put-selector-requires
-put-selector-requires c κs = (c .before .before .selector-of .ensures .1, rw (selector-layout (c .before .before .before .before .before .before .before .before .pre .0) (c .before .parts-of .ensures) (c .before .before .selector-of .ensures .0)) at (c .before .before .before .before .before .before .before .before .pre .1))
+put-selector-requires c κs =
+    let at-selector = c .before .before in
+    let p = at-selector .before .before .before .before .before .before .pre in
+    let own = at-selector .selector-of .ensures in
+    (own .1 .0, rw (layout-read (p .0) (c .before .parts-of .ensures) (own .0) refl) at (p .1))
 
 enum-told-4 : tie.Need-enum-told-4
 enum-told-4 c = search needs
@@ -47,7 +59,9 @@ enum-told-5 : tie.Need-enum-told-5
 enum-told-5 c = search needs
 
 put-byte-requires : tie.Need-put-byte-requires
-put-byte-requires c κs = rw (minus-head (c .before .before .before .before .before .before .pre .0) (c .before .enum-told5 .given .1)) at (c .before .before .before .before .before .before .pre .1)
+put-byte-requires c κs =
+    let p = c .before .before .before .before .before .before .pre in
+    rw (minus-head (p .0) (c .before .enum-told5 .given .1)) at (p .1)
 
 enum-told-6 : tie.Need-enum-told-6
 enum-told-6 c = search needs
@@ -62,7 +76,11 @@ aggregator-of-requires : tie.Need-aggregator-of-requires
 aggregator-of-requires c κs = search needs
 
 put-aggregator-requires : tie.Need-put-aggregator-requires
-put-aggregator-requires c κs = (c .before .aggregator-of .ensures .1, rw (c .before .aggregator-of .ensures .0) at (c .before .before .before .before .before .before .before .pre .1))
+put-aggregator-requires c κs =
+    let at-aggregator = c .before in
+    let p = at-aggregator .before .before .before .before .before .before .pre in
+    let own = at-aggregator .aggregator-of .ensures in
+    (own .1, rw (layout-read (p .0) (p .0 .chain .sets) (own .0 .reads) refl) at (p .1))
 
 enum-told-9 : tie.Need-enum-told-9
 enum-told-9 c = search needs
@@ -74,25 +92,40 @@ text-at-requires-2 : tie.Need-text-at-requires-2
 text-at-requires-2 c κs = search needs
 
 put-bytes-requires : tie.Need-put-bytes-requires
-put-bytes-requires c κs = rw (c .before .text-at2 .ensures) (rw (c .before .before .function-of .ensures .0) at (c .before .before .before .before .before .before .before .before .pre .1))
+put-bytes-requires c κs =
+    let at-function = c .before .before in
+    let p = at-function .before .before .before .before .before .before .pre in
+    let own = at-function .function-of .ensures .0 in
+    rw (c .before .text-at2 .ensures) (rw (layout-read (p .0) (p .0 .chain .sets) (own .reads) refl ∙ ap enclosed (own .named)) at (p .1))
 
 same-length : tie.Need-same-length
 same-length c = search needs
 
 returns : tie.Need-returns
-returns c = rw (c .before .before .before .before .literal-of .ensures) (c .before .before .put-literal .ensures)
+returns c =
+    let at-literal = c .before .before .before .before in
+    let p = at-literal .before .before .before .before .before .before .pre in
+    rw (number-layout (p .0) (at-literal .literal-of .ensures)) (c .before .before .put-literal .ensures)
 
 same-length-2 : tie.Need-same-length-2
 same-length-2 c = search needs
 
 returns-2 : tie.Need-returns-2
-returns-2 c = rw (c .before .before .before .before .before .string-of .ensures .0) (wrote-as (ap quote (sym (c .before .before .before .before .text-at .ensures))) (c .before .before .put-quoted .ensures))
+returns-2 c =
+    let at-string = c .before .before .before .before .before in
+    let p = at-string .before .before .before .before .before .before .pre in
+    rw (layout-read (p .0) (p .0 .chain .sets) (at-string .string-of .ensures .0) refl)
+    (wrote-as (ap quote (sym (c .before .before .before .before .text-at .ensures))) (c .before .before .put-quoted .ensures))
 
 same-length-3 : tie.Need-same-length-3
 same-length-3 c = search needs
 
 returns-3 : tie.Need-returns-3
-returns-3 c = rw (selector-layout (c .before .before .before .before .before .before .before .before .before .before .before .pre .0) (c .before .before .before .before .parts-of .ensures) (c .before .before .before .before .before .selector-of .ensures .0)) (c .before .before .put-selector .ensures)
+returns-3 c =
+    let at-parts = c .before .before .before .before in
+    let at-selector = at-parts .before in
+    let p = at-selector .before .before .before .before .before .before .pre in
+    rw (layout-read (p .0) (at-parts .parts-of .ensures) (at-selector .selector-of .ensures .0) refl) (c .before .before .put-selector .ensures)
 
 returns-4 : tie.Need-returns-4
 returns-4 c = wrote-nothing _ _ (subquery-head (c .before .before .before .before .before .pre .0) (c .enum-told4 .given .1))
@@ -101,7 +134,10 @@ same-length-4 : tie.Need-same-length-4
 same-length-4 c = search needs
 
 returns-5 : tie.Need-returns-5
-returns-5 c = rw (minus-head (c .before .before .before .before .before .before .before .before .before .pre .0) (c .before .before .before .before .enum-told5 .given .1)) (c .before .before .put-byte .ensures)
+returns-5 c =
+    let at-foot = c .before .before .before .before in
+    let p = at-foot .before .before .before .before .before .pre in
+    rw (minus-head (p .0) (at-foot .enum-told5 .given .1)) (c .before .before .put-byte .ensures)
 
 returns-6 : tie.Need-returns-6
 returns-6 c = wrote-nothing _ _ (paren-head (c .before .before .before .before .before .pre .0) (c .enum-told6 .given .1))
@@ -113,13 +149,21 @@ same-length-5 : tie.Need-same-length-5
 same-length-5 c = search needs
 
 returns-8 : tie.Need-returns-8
-returns-8 c = rw (c .before .before .before .before .aggregator-of .ensures .0) (c .before .before .put-aggregator .ensures)
+returns-8 c =
+    let at-aggregator = c .before .before .before .before in
+    let p = at-aggregator .before .before .before .before .before .before .pre in
+    rw (layout-read (p .0) (p .0 .chain .sets) (at-aggregator .aggregator-of .ensures .0 .reads) refl) (c .before .before .put-aggregator .ensures)
 
 same-length-6 : tie.Need-same-length-6
 same-length-6 c = search needs
 
 returns-9 : tie.Need-returns-9
-returns-9 c = rw (c .before .before .before .before .before .function-of .ensures .0) (wrote-as (sym (c .before .before .before .before .text-at2 .ensures)) (c .before .before .put-bytes .ensures))
+returns-9 c =
+    let at-function = c .before .before .before .before .before in
+    let p = at-function .before .before .before .before .before .before .pre in
+    let own = at-function .function-of .ensures .0 in
+    rw (layout-read (p .0) (p .0 .chain .sets) (own .reads) refl ∙ ap enclosed (own .named))
+    (wrote-as (sym (c .before .before .before .before .text-at2 .ensures)) (c .before .before .put-bytes .ensures))
 
 pub put-head-spec : {M : Type 1} → statement M
 put-head-spec =

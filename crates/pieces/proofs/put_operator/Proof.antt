@@ -1,7 +1,8 @@
 -- `pieces::put_operator` meets its contract: only a binary node has an operator. Assumes nothing.
 use mathlib.Core.Path.{refl}
 use Rattle.text.proofs.WriteLaws.{wrote-nothing}
-use Rattle.fields.proofs.FieldLaws.{no-operator}
+use Rattle.view.proofs.NodeLaws.{layout-read}
+use Rattle.pieces.proofs.FormLaws.{no-operator}
 use borrow.Author.Needs.{needs}
 use Rattle.pieces.proofs.put_operator.Statement.{statement}
 use Rattle.pieces.proofs.put_operator.Tie as tie
@@ -16,13 +17,20 @@ operator-of-requires : tie.Need-operator-of-requires
 operator-of-requires c κs = search needs
 
 put-operator-requires : tie.Need-put-operator-requires
-put-operator-requires c κs = (c .before .operator-of .ensures .1 .0, (c .before .operator-of .ensures .1 .1, rw (c .before .operator-of .ensures .0) at (c .before .before .before .before .before .before .before .pre .1)))
+put-operator-requires c κs =
+    let at-operator = c .before in
+    let p = at-operator .before .before .before .before .before .before .pre in
+    let own = at-operator .operator-of .ensures in
+    (own .1 .0, (own .1 .1, rw (layout-read (p .0) (p .0 .chain .sets) (own .0) refl) at (p .1)))
 
 same-length : tie.Need-same-length
 same-length c = search needs
 
 returns-2 : tie.Need-returns-2
-returns-2 c = rw (c .before .before .before .before .operator-of .ensures .0) (c .before .before .put-operator .ensures)
+returns-2 c =
+    let at-operator = c .before .before .before .before in
+    let p = at-operator .before .before .before .before .before .before .pre in
+    rw (layout-read (p .0) (p .0 .chain .sets) (at-operator .operator-of .ensures .0) refl) (c .before .before .put-operator .ensures)
 
 pub put-operator-spec : {M : Type 1} → statement M
 put-operator-spec =

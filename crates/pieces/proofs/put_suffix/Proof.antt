@@ -1,7 +1,8 @@
 -- `pieces::put_suffix` meets its contract: only a subquery has a suffix. Assumes nothing.
 use mathlib.Core.Path.{refl}
 use Rattle.text.proofs.WriteLaws.{wrote-nothing}
-use Rattle.fields.proofs.FieldLaws.{suffix-layout, no-suffix}
+use Rattle.view.proofs.NodeLaws.{layout-read}
+use Rattle.pieces.proofs.FormLaws.{no-suffix}
 use borrow.Author.Needs.{needs}
 use Rattle.pieces.proofs.put_suffix.Statement.{statement}
 use Rattle.pieces.proofs.put_suffix.Tie as tie
@@ -19,13 +20,21 @@ parts-of-requires : tie.Need-parts-of-requires
 parts-of-requires c κs = search needs
 
 put-subquery-requires : tie.Need-put-subquery-requires
-put-subquery-requires c κs = rw (suffix-layout (c .before .before .before .before .before .before .before .before .before .pre .0) (c .before .before .parts-of .ensures) (c .before .before .before .spacing-of .ensures)) at (c .before .before .before .before .before .before .before .before .before .pre .1)
+put-subquery-requires c κs =
+    let at-parts = c .before .before in
+    let at-spacing = at-parts .before in
+    let p = at-spacing .before .before .before .before .before .before .pre in
+    rw (layout-read (p .0) (at-parts .parts-of .ensures) (at-spacing .spacing-of .ensures) refl) at (p .1)
 
 same-length : tie.Need-same-length
 same-length c = search needs
 
 returns-2 : tie.Need-returns-2
-returns-2 c = rw (suffix-layout (c .before .before .before .before .before .before .before .before .before .before .before .before .pre .0) (c .before .before .before .before .before .parts-of .ensures) (c .before .before .before .before .before .before .spacing-of .ensures)) (c .before .before .put-subquery .ensures)
+returns-2 c =
+    let at-parts = c .before .before .before .before .before in
+    let at-spacing = at-parts .before in
+    let p = at-spacing .before .before .before .before .before .before .pre in
+    rw (layout-read (p .0) (at-parts .parts-of .ensures) (at-spacing .spacing-of .ensures) refl) (c .before .before .put-subquery .ensures)
 
 pub put-suffix-spec : {M : Type 1} → statement M
 put-suffix-spec =

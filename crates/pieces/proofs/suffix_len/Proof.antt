@@ -2,7 +2,8 @@
 use lib.ListN.{length}
 use mathlib.Core.Path.{refl, ap}
 use native.Mathlib.Omega.{arith}
-use Rattle.fields.proofs.FieldLaws.{suffix-layout, no-suffix}
+use Rattle.view.proofs.NodeLaws.{layout-read}
+use Rattle.pieces.proofs.FormLaws.{no-suffix}
 use borrow.Author.Needs.{needs}
 use Rattle.pieces.proofs.suffix_len.Statement.{statement}
 use Rattle.pieces.proofs.suffix_len.Tie as tie
@@ -26,7 +27,11 @@ capped-add-requires : tie.Need-capped-add-requires
 capped-add-requires c κs = search needs
 
 returns-2 : tie.Need-returns-2
-returns-2 c = rw (suffix-layout (c .before .before .before .before .before .before .before .before .before .pre) (c .before .before .before .parts-of .ensures) (c .before .before .before .before .spacing-of .ensures)) (omega (arith, c .capped-add .ensures, c .before .subquery-len .ensures))
+returns-2 c =
+    let at-parts = c .before .before .before in
+    let at-spacing = at-parts .before in
+    let node = at-spacing .before .before .before .before .before .pre in
+    rw (layout-read node (at-parts .parts-of .ensures) (at-spacing .spacing-of .ensures) refl) (omega (arith, c .capped-add .ensures, c .before .subquery-len .ensures))
 
 pub suffix-len-spec : {M : Type 1} → statement M
 suffix-len-spec =

@@ -1,6 +1,6 @@
 -- `view::unary_view` meets its contract: the value of the tree says whether the minus is a number's sign. Assumes nothing.
-use mathlib.Core.Path.{sym}
-use Rattle.view.proofs.NodeLaws.{chained-here, view-unary, view-valued, unvalued-below}
+use Rattle.view.proofs.ChainedLaws.{chained-here}
+use Rattle.view.proofs.NodeLaws.{view-unary, view-valued, unvalued-below}
 use borrow.Author.Needs.{needs}
 use Rattle.view.proofs.unary_view.Statement.{statement}
 use Rattle.view.proofs.unary_view.Tie as tie
@@ -9,10 +9,13 @@ node-of-requires : tie.Need-node-of-requires
 node-of-requires c κs = search needs
 
 returns : tie.Need-returns
-returns c = let p = c .before .before .before .before .pre in rw (c .node-of .ensures) (view-unary (p .0) (p .1 .0 .chain) (p .1 .1 .0) (unvalued-below (p .0) (p .1 .0 .chain) (rw (c .before .if1 .taken) at (p .1 .1 .1))))
+returns c =
+    let p = c .before .before .before .before .pre in
+    let unvalued = unvalued-below (p .0) (p .1 .0 .chain) (rw (c .before .if1 .taken) at (p .1 .1 .1)) in
+    rw (c .node-of .ensures) (view-unary (p .0) (p .1 .0 .chain) (p .1 .1 .0) unvalued)
 
 signed-literal-requires : tie.Need-signed-literal-requires
-signed-literal-requires c κs = chained-here (c .before .before .before .pre .0) (c .before .before .before .pre .1 .0 .chain)
+signed-literal-requires c κs = let p = c .before .before .before .pre in chained-here (p .0) (p .1 .0 .chain)
 
 enum-told : tie.Need-enum-told
 enum-told c = search needs
@@ -27,10 +30,18 @@ node-of-requires-3 : tie.Need-node-of-requires-3
 node-of-requires-3 c κs = search needs
 
 returns-2 : tie.Need-returns-2
-returns-2 c = let p = c .before .before .before .before .before .before .before .pre in rw (c .node-of2 .ensures) (view-valued (p .0) (p .1 .0 .chain) (record { value = _; is = sym (rw (c .before .enum-told .given .1) at (c .before .before .before .signed-literal .ensures)) }))
+returns-2 c =
+    let at-signed = c .before .before .before in
+    let p = at-signed .before .before .before .before .pre in
+    let number = rw (c .before .enum-told .given .1) at (at-signed .signed-literal .ensures) in
+    rw (c .node-of2 .ensures) (view-valued (p .0) (p .1 .0 .chain) (record { value = _; is = number }))
 
 returns-3 : tie.Need-returns-3
-returns-3 c = let p = c .before .before .before .before .before .before .before .pre in rw (c .node-of3 .ensures) (view-unary (p .0) (p .1 .0 .chain) (p .1 .1 .0) (sym (rw (c .before .enum-told2 .given .1) at (c .before .before .before .signed-literal .ensures))))
+returns-3 c =
+    let at-signed = c .before .before .before in
+    let p = at-signed .before .before .before .before .pre in
+    let unvalued = rw (c .before .enum-told2 .given .1) at (at-signed .signed-literal .ensures) in
+    rw (c .node-of3 .ensures) (view-unary (p .0) (p .1 .0 .chain) (p .1 .1 .0) unvalued)
 
 pub unary-view-spec : {M : Type 1} → statement M
 unary-view-spec =

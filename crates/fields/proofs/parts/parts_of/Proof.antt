@@ -2,15 +2,17 @@
 -- is j. Assumes nothing.
 use Prim.Native.Nat.{_≤_}
 use native.Mathlib.Omega.{arith}
-use mathlib.Core.Path.{refl, _∙_}
+use mathlib.Core.Path.{refl}
+use Rattle.view.specs.View.{setsNothing}
 use Rattle.view.proofs.ViewLaws.{starts-fewer}
-use Rattle.fields.specs.Parts.{Sets}
-use Rattle.fields.proofs.FieldLaws.{sets-start, sets-as}
+use Rattle.view.proofs.ChainedLaws.{sets-low, sets-part}
+use Rattle.fields.specs.Parts.{SetParts}
+use Rattle.fields.proofs.PartLaws.{sets-as}
 use Rattle.fields.proofs.parts.parts_of.Statement.{statement}
 use Rattle.fields.proofs.parts.parts_of.Tie as tie
 
 abbrev Inv-loop : tie.InvT-loop
-Inv-loop page starts base j₀ parts₀ j parts = (base ≤ j) × (j ≤ j₀) × Sets page j₀ j parts
+Inv-loop page starts base j₀ parts₀ j parts = (base ≤ j) × (j ≤ j₀) × SetParts page starts j₀ j parts
 
 abbrev μ-loop : tie.MeasureT-loop
 μ-loop page starts base j₀ parts₀ j parts = j
@@ -19,10 +21,13 @@ no-parts-requires : tie.Need-no-parts-requires Inv-loop μ-loop
 no-parts-requires c κs = tt
 
 loop-holds : tie.Need-loop-holds Inv-loop μ-loop
-loop-holds c = (c .before .before .before .pre .chain .low, omega arith, rw (c .no-parts .ensures) (sets-start _ _ _ refl refl))
+loop-holds c = (sets-low (c .before .before .before .pre .chain .sets), omega arith, rw (c .no-parts .ensures) setsNothing)
 
 with-record-requires : tie.Need-with-record-requires Inv-loop μ-loop
-with-record-requires c κs = (starts-fewer (c .before .before .before .before .before .pre .known) (omega (arith, c .before .loop .inv .1)), c .before .before .before .before .before .pre .chain .parts _ (c .loop-test .taken) (c .before .loop .inv .1))
+with-record-requires c κs =
+    let at-loop = c .before in
+    let node = at-loop .before .before .before .before .pre in
+    (starts-fewer (node .known) (omega (arith, at-loop .loop .inv .1)), sets-part (node .chain .sets) (c .loop-test .taken) (at-loop .loop .inv .1))
 
 sub-j : tie.Need-sub-j Inv-loop μ-loop
 sub-j c = omega (arith, c .before .loop-test .taken)
@@ -31,10 +36,12 @@ loop-less : tie.Need-loop-less Inv-loop μ-loop
 loop-less c = omega (arith, c .before .loop-test .taken)
 
 loop-again : tie.Need-loop-again Inv-loop μ-loop
-loop-again c = (omega (arith, c .before .loop-test .taken), omega (arith, c .before .before .loop .inv .1), record { tree = c .before .before .loop .inv .2 .tree ∙ c .with-record .ensures })
+loop-again c =
+    let at-loop = c .before .before in
+    (omega (arith, c .before .loop-test .taken), omega (arith, at-loop .loop .inv .1), c .with-record .ensures _ (at-loop .loop .inv .2))
 
 returns : tie.Need-returns Inv-loop μ-loop
-returns c = sets-as (omega (arith, c .loop-test .left, c .before .loop .inv .0)) (c .before .loop .inv .2)
+returns c = sets-as (omega (arith, c .loop-test .left, c .before .loop .inv .0)) refl refl (c .before .loop .inv .2)
 
 pub parts-of-spec : {M : Type 1} → statement M
 parts-of-spec =

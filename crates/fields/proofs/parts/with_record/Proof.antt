@@ -1,12 +1,12 @@
 -- `fields::parts::with_record` meets its contract: by the part's kind. Assumes nothing.
-use mathlib.Core.Path.{refl, _∙_}
+use mathlib.Core.Path.{refl, sym}
 use native.Mathlib.Omega.{arith}
 use Rattle.page.specs.Read.{return}
 use Rattle.page.specs.Number.{readNumber}
 use Rattle.records.specs.Time.{readAtModifier, readOffset}
 use Rattle.records.specs.Record.{range, at, offset, wrapper}
 use Rattle.view.proofs.KindLaws.{no-field}
-use Rattle.fields.proofs.FieldLaws.{part-range, part-at, part-offset, last-part}
+use Rattle.fields.proofs.PartLaws.{sets-as, part-range, part-at, part-offset, last-part}
 use borrow.Author.Needs.{needs}
 use Rattle.fields.proofs.parts.with_record.Statement.{statement}
 use Rattle.fields.proofs.parts.with_record.Tie as tie
@@ -54,22 +54,58 @@ enum-told-3 : tie.Need-enum-told-3
 enum-told-3 c = search needs
 
 returns : tie.Need-returns
-returns c = part-range (c .before .before .before .before .before .before .before .before .before .before .pre .0) _ _ (rw (c .before .before .before .before .before .match .keys1) at (c .before .before .before .before .before .before .kind-at .ensures)) (rw (c .before .before .n .given .1, c .before .before .before .before .before .before .before .fields-start .ensures) at (c .before .before .before .before .read-number .ensures .0)) ∙ rw (c .with-range .ensures .0, c .with-range .ensures .1)
+returns c =
+    let at-number = c .before .before .before .before in
+    let at-kind = at-number .before .before in
+    let p = at-kind .before .before .before .before .pre in
+    let kind = rw (at-number .before .match .keys1) at (at-kind .kind-at .ensures) in
+    let field = rw (c .before .before .n .given .1, at-kind .before .fields-start .ensures) at (at-number .read-number .ensures .0) in
+    λ i above. sets-as refl (sym (c .with-range .ensures .0)) (sym (c .with-range .ensures .1)) (part-range (p .0) kind field above)
 
 returns-2 : tie.Need-returns-2
-returns-2 c = absurd (no-field (c .before .before .before .before .before .before .before .before .pre .0) (rw (c .before .before .before .match .keys1) at (c .before .before .before .before .kind-at .ensures)) readNumber (λ r. return (wrapper (range r))) (λ t. refl) (rw (c .enum-told .given .1, c .before .before .before .before .before .fields-start .ensures) at (c .before .before .read-number .ensures .0)))
+returns-2 c =
+    let at-number = c .before .before in
+    let at-kind = at-number .before .before in
+    let p = at-kind .before .before .before .before .pre in
+    let kind = rw (at-number .before .match .keys1) at (at-kind .kind-at .ensures) in
+    let field = rw (c .enum-told .given .1, at-kind .before .fields-start .ensures) at (at-number .read-number .ensures .0) in
+    absurd (no-field (p .0) kind readNumber (λ r. return (wrapper (range r))) (λ t. refl) field)
 
 returns-3 : tie.Need-returns-3
-returns-3 c = part-at (c .before .before .before .before .before .before .before .before .before .before .pre .0) _ _ (rw (c .before .before .before .before .before .match .keys2) at (c .before .before .before .before .before .before .kind-at .ensures)) (rw (c .before .before .a .given .1, c .before .before .before .before .before .before .before .fields-start .ensures) at (c .before .before .before .before .read-at-modifier .ensures)) ∙ rw (c .with-at .ensures .0, c .with-at .ensures .1)
+returns-3 c =
+    let at-time = c .before .before .before .before in
+    let at-kind = at-time .before .before in
+    let p = at-kind .before .before .before .before .pre in
+    let kind = rw (at-time .before .match .keys2) at (at-kind .kind-at .ensures) in
+    let field = rw (c .before .before .a .given .1, at-kind .before .fields-start .ensures) at (at-time .read-at-modifier .ensures) in
+    λ i above. sets-as refl (sym (c .with-at .ensures .0)) (sym (c .with-at .ensures .1)) (part-at (p .0) kind field above)
 
 returns-4 : tie.Need-returns-4
-returns-4 c = absurd (no-field (c .before .before .before .before .before .before .before .before .pre .0) (rw (c .before .before .before .match .keys2) at (c .before .before .before .before .kind-at .ensures)) readAtModifier (λ a. return (wrapper (at a))) (λ t. refl) (rw (c .enum-told2 .given .1, c .before .before .before .before .before .fields-start .ensures) at (c .before .before .read-at-modifier .ensures)))
+returns-4 c =
+    let at-time = c .before .before in
+    let at-kind = at-time .before .before in
+    let p = at-kind .before .before .before .before .pre in
+    let kind = rw (at-time .before .match .keys2) at (at-kind .kind-at .ensures) in
+    let field = rw (c .enum-told2 .given .1, at-kind .before .fields-start .ensures) at (at-time .read-at-modifier .ensures) in
+    absurd (no-field (p .0) kind readAtModifier (λ a. return (wrapper (at a))) (λ t. refl) field)
 
 returns-5 : tie.Need-returns-5
-returns-5 c = part-offset (c .before .before .before .before .before .before .before .before .before .before .pre .0) _ _ (last-part (c .before .before .before .before .before .before .before .before .before .before .pre .1) (c .before .before .before .before .before .before .kind-at .ensures) (c .before .before .before .before .before .match .rest .0 .1) (c .before .before .before .before .before .match .rest .1)) (rw (c .before .before .o .given .1, c .before .before .before .before .before .before .before .fields-start .ensures) at (c .before .before .before .before .read-offset .ensures)) ∙ rw (c .with-offset .ensures .0, c .with-offset .ensures .1)
+returns-5 c =
+    let at-offset = c .before .before .before .before in
+    let at-kind = at-offset .before .before in
+    let p = at-kind .before .before .before .before .pre in
+    let kind = last-part (p .1) (at-kind .kind-at .ensures) (at-offset .before .match .rest .0 .1) (at-offset .before .match .rest .1) in
+    let field = rw (c .before .before .o .given .1, at-kind .before .fields-start .ensures) at (at-offset .read-offset .ensures) in
+    λ i above. sets-as refl (sym (c .with-offset .ensures .0)) (sym (c .with-offset .ensures .1)) (part-offset (p .0) kind field above)
 
 returns-6 : tie.Need-returns-6
-returns-6 c = absurd (no-field (c .before .before .before .before .before .before .before .before .pre .0) (last-part (c .before .before .before .before .before .before .before .before .pre .1) (c .before .before .before .before .kind-at .ensures) (c .before .before .before .match .rest .0 .1) (c .before .before .before .match .rest .1)) readOffset (λ o. return (wrapper (offset o))) (λ t. refl) (rw (c .enum-told3 .given .1, c .before .before .before .before .before .fields-start .ensures) at (c .before .before .read-offset .ensures)))
+returns-6 c =
+    let at-offset = c .before .before in
+    let at-kind = at-offset .before .before in
+    let p = at-kind .before .before .before .before .pre in
+    let kind = last-part (p .1) (at-kind .kind-at .ensures) (at-offset .before .match .rest .0 .1) (at-offset .before .match .rest .1) in
+    let field = rw (c .enum-told3 .given .1, at-kind .before .fields-start .ensures) at (at-offset .read-offset .ensures) in
+    absurd (no-field (p .0) kind readOffset (λ o. return (wrapper (offset o))) (λ t. refl) field)
 
 pub with-record-spec : {M : Type 1} → statement M
 with-record-spec =

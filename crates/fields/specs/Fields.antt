@@ -1,0 +1,41 @@
+-- What is read of the record at a node's foot, where one `Reads` does not say it all.
+use Prim.Native.Nat.{ℕ, _≤_}
+use mathlib.Core.Path.{_≡_}
+use mathlib.Core.List.{List}
+use mathlib.Core.Option.{Option}
+use lib.ListN.{length, drop}
+use Rattle.page.specs.Limits.{pageLimit, countLimit}
+use Rattle.page.specs.Read.{got}
+use Rattle.page.specs.Text.{readList}
+use Rattle.page.specs.Listed.{AllRead}
+use Rattle.page.specs.Answers.{spanOn, Lies}
+use Rattle.page.specs.declared.text.Span.{Span}
+use Rattle.records.specs.Field.{readKind}
+use Rattle.records.specs.Matcher.{readMatcher}
+use Rattle.records.specs.Modifier.{LabelModifier}
+use Rattle.records.specs.Signature.{Function}
+use Rattle.records.specs.Record.{aggregate, call}
+use Rattle.records.specs.Answers.{matchersOn}
+use Rattle.reader.specs.declared.Selector.{Selector}
+use Rattle.text.specs.Seen.{Reads}
+
+-- record i is a call, and this part of the page its function's name: behind it stand the kinds that are declared
+pub record CallAt (page starts : List ℕ) (i : ℕ) (name : Span) : Type 0 where
+  pub function : Function
+  pub count : ℕ
+  pub reads : Reads page starts i (call function count)
+  pub named : function .name ≡ spanOn page name
+  pub behind : List ℕ
+  pub declared : got (function .argTypes) behind ≡ readList readKind (drop (name .end) page)
+
+-- record i is an aggregate of this code and grouping
+pub record AggregateAt (page starts : List ℕ) (i code : ℕ) (grouping : Option LabelModifier) : Type 0 where
+  pub count : ℕ
+  pub reads : Reads page starts i (aggregate code grouping count)
+
+-- a selector's name lies on the page, and its matchers can be read and are no more than a page allows
+pub record SelectorLies (page : List ℕ) (s : Selector) : Type 0 where
+  pub name : Lies page (s .name)
+  pub stored : AllRead readMatcher (s .count) (drop (s .matchers) page)
+  pub few : length (matchersOn page (s .matchers) (s .count)) ≤ countLimit
+  pub short : length page ≤ pageLimit

@@ -1,0 +1,134 @@
+-- What the record at the foot of a node gives it, one law for all kinds of record (`seen-item`): its layout, under what
+-- the records above set, and its operands. Form and count go by the foot's kind, which two short tables hold.
+use Prim.Native.Nat.{ℕ, suc}
+use native.Mathlib.Omega.{arith}
+use mathlib.Core.Path.{_≡_, refl, sym, ap, subst, _∙_}
+use mathlib.Core.Bool.{false, true≢false}
+use mathlib.Core.List.{List, [], _∷_, _++_}
+use mathlib.Core.Option.{Option, none}
+use lib.ListN.{getD}
+use Rattle.records.specs.Time.{Times}
+use Rattle.records.specs.Record.{number, string, selector, range, subquery, at, offset, unary, paren, Record, leaf, wrapper, binary, aggregate, call, operands}
+use Rattle.util.specs.Numeral.{displayLiteral}
+use Rattle.util.specs.Escape.{quote}
+use Rattle.ast.specs.Expr.{scalarValue}
+use Rattle.ast.specs.Tables.{treeAt}
+use Rattle.text.specs.Display.{displaySelector, displayTimes, displaySuffix, displayOperator, displayAggregator}
+use Rattle.text.specs.Layout.{Layout, whole, negation, suffixed, enclosed, infixed, displayRange, layoutOf, head, operator, suffix}
+use Rattle.text.specs.Seen.{Reads, Seen}
+use Rattle.text.proofs.SeenLaws.{seen-number, seen-string, seen-selector, seen-subquery, seen-paren, seen-literal, seen-unary, seen-binary, seen-aggregate, seen-call}
+use Rattle.view.specs.View.{Starts, kindOf, KindAt, isPart, Sets, Valued, FootAt, formOf, formed}
+use Rattle.view.specs.declared.Foot.{Foot}
+use Rattle.view.specs.declared.Foot.the-variants as foot
+use Rattle.view.specs.declared.form.Form.{Form}
+use Rattle.view.specs.declared.form.Form.the-variants as form
+use Rattle.view.proofs.ViewLaws.{number-value}
+use Rattle.view.proofs.ChainedLaws.{sets-low, sets-here, sets-tree}
+
+-- ## The layout by the record
+
+-- the layout of a node with this record at its foot, this range and these times above it; a part is the foot of none
+abbrev pub layoutBy : Record → Option ℕ → Times → Layout
+layoutBy (leaf (number l)) n u = whole (displayLiteral l)
+layoutBy (leaf (string t)) n u = whole (quote t)
+layoutBy (leaf (selector s)) n u = whole (displaySelector s ++ (displayRange n ++ displayTimes u))
+layoutBy (wrapper (range r)) n u = whole []
+layoutBy (wrapper (subquery r s)) n u = suffixed (displaySuffix r s u)
+layoutBy (wrapper (at a)) n u = whole []
+layoutBy (wrapper (offset o)) n u = whole []
+layoutBy (wrapper unary) n u = negation
+layoutBy (wrapper paren) n u = enclosed []
+layoutBy (binary c m) n u = infixed (displayOperator c m)
+layoutBy (aggregate c m k) n u = enclosed (displayAggregator c m)
+layoutBy (call f k) n u = enclosed (f .name)
+
+module _ {page starts : List ℕ} {i j : ℕ} {n : Option ℕ} {u : Times} (s : Starts page starts (suc i)) (above : Sets page starts i j n u) where
+  pub seen-item : (item : Record) → Reads page starts j item → isPart (kindOf item) ≡ false → (kindOf item ≡ 7 → scalarValue (treeAt page j) ≡ none)
+      → Seen page i (layoutBy item n u) j (operands item)
+  seen-item (leaf (number l)) r h v = seen-number (s .tables) j (sets-low above) n u (sets-tree s above) l r
+  seen-item (leaf (string t)) r h v = seen-string (s .tables) j (sets-low above) n u (sets-tree s above) t r
+  seen-item (leaf (selector t)) r h v = seen-selector (s .tables) j (sets-low above) n u (sets-tree s above) t r
+  seen-item (wrapper (range q)) r h v = absurd (true≢false h)
+  seen-item (wrapper (subquery q t)) r h v = seen-subquery (s .tables) j (sets-low above) n u (sets-tree s above) q t r
+  seen-item (wrapper (at a)) r h v = absurd (true≢false h)
+  seen-item (wrapper (offset o)) r h v = absurd (true≢false h)
+  seen-item (wrapper unary) r h v = seen-unary (s .tables) j (sets-low above) n u (sets-tree s above) r (v refl)
+  seen-item (wrapper paren) r h v = seen-paren (s .tables) j (sets-low above) n u (sets-tree s above) r
+  seen-item (binary c m) r h v = seen-binary (s .tables) j (sets-low above) n u (sets-tree s above) c m r
+  seen-item (aggregate c m k) r h v = seen-aggregate (s .tables) j (sets-low above) n u (sets-tree s above) c m k r
+  seen-item (call f k) r h v = seen-call (s .tables) j (sets-low above) n u (sets-tree s above) f k r
+
+  pub seen-valued : (v : Valued page starts j) → Seen page i (whole (displayLiteral (v .value))) j 0
+  seen-valued v = seen-literal (s .tables) j (sets-low above) n u (sets-tree s above) (v .value) (number-value (sets-here s above) (v .is))
+
+-- ## Form and count by the kind
+
+-- by kinds from 0 on; those of the parts do not matter
+abbrev forms : List Form
+forms =
+    form.Whole ∷ form.Whole ∷ form.Whole ∷ form.Whole ∷ form.Suffixed ∷ form.Whole ∷ form.Whole ∷ form.Minus ∷ form.Enclosed ∷ form.Infixed ∷ form.Enclosed
+    ∷ form.Enclosed ∷ []
+
+abbrev formBy : ℕ → Form
+formBy kind = getD forms kind form.Whole
+
+-- the operands of kinds 0 to 9; aggregates and calls say theirs
+abbrev pub counts : List ℕ
+counts = 0 ∷ 0 ∷ 0 ∷ 1 ∷ 1 ∷ 1 ∷ 1 ∷ 1 ∷ 1 ∷ 2 ∷ []
+
+-- the form of a layout
+abbrev shape : Layout → Form
+shape (whole t) = form.Whole
+shape negation = form.Minus
+shape (suffixed t) = form.Suffixed
+shape (enclosed t) = form.Enclosed
+shape (infixed t) = form.Infixed
+
+pub shape-formed : (l : Layout) → l ≡ formed (shape l) (head l) (operator l) (suffix l)
+shape-formed (whole t) = refl
+shape-formed negation = refl
+shape-formed (suffixed t) = refl
+shape-formed (enclosed t) = refl
+shape-formed (infixed t) = refl
+
+by-kind : (item : Record) (n : Option ℕ) (u : Times) → (shape (layoutBy item n u) ≡ formBy (kindOf item)) × (operands item ≡ getD counts (kindOf item) (operands item))
+by-kind (leaf (number l)) n u = (refl, refl)
+by-kind (leaf (string t)) n u = (refl, refl)
+by-kind (leaf (selector s)) n u = (refl, refl)
+by-kind (wrapper (range r)) n u = (refl, refl)
+by-kind (wrapper (subquery r s)) n u = (refl, refl)
+by-kind (wrapper (at a)) n u = (refl, refl)
+by-kind (wrapper (offset o)) n u = (refl, refl)
+by-kind (wrapper unary) n u = (refl, refl)
+by-kind (wrapper paren) n u = (refl, refl)
+by-kind (binary c m) n u = (refl, refl)
+by-kind (aggregate c m k) n u = (refl, refl)
+by-kind (call f k) n u = (refl, refl)
+
+module _ {page starts : List ℕ} {i j : ℕ} {n : Option ℕ} {u : Times} (s : Starts page starts (suc i)) (above : Sets page starts i j n u) where
+  -- a foot of this kind, whose minus is no sign of a number
+  module _ {kind : ℕ} (k : KindAt page starts j kind) (h : isPart kind ≡ false) (v : kind ≡ 7 → scalarValue (treeAt page j) ≡ none) where
+    item-seen : Seen page i (layoutBy (k .item) n u) j (operands (k .item))
+    item-seen = seen-item s above (k .item) (k .reads) (ap isPart (k .same) ∙ h) (λ e. v (sym (k .same) ∙ e))
+
+    kind-shape : shape (layoutOf (treeAt page i)) ≡ formBy kind
+    kind-shape = ap shape (item-seen .layout) ∙ by-kind (k .item) n u .0 ∙ ap formBy (k .same)
+
+    -- with the operands that the record says
+    pub seen-kind : {count : ℕ} → operands (k .item) ≡ count → Seen page i (layoutOf (treeAt page i)) j count
+    seen-kind e = subst (λ (c : ℕ). Seen page i (layoutOf (treeAt page i)) j c) e (subst (λ (own : Layout). Seen page i own j (operands (k .item))) (sym (item-seen .layout)) item-seen)
+
+    -- with the operands of all records of its kind
+    pub seen-fixed : (count : ℕ) → ((c : ℕ) → getD counts kind c ≡ count) → Seen page i (layoutOf (treeAt page i)) j count
+    seen-fixed count few = seen-kind (by-kind (k .item) n u .1 ∙ ap (λ (m : ℕ). getD counts m (operands (k .item))) (k .same) ∙ few _)
+
+  pub foot-shape : (f : Foot) → FootAt page starts j f → shape (layoutOf (treeAt page i)) ≡ formOf f
+  foot-shape foot.Number v = ap shape (seen-valued s above v .layout)
+  foot-shape foot.String k = kind-shape k refl (λ e. absurd (omega (arith, e)))
+  foot-shape foot.Selector k = kind-shape k refl (λ e. absurd (omega (arith, e)))
+  foot-shape foot.Subquery k = kind-shape k refl (λ e. absurd (omega (arith, e)))
+  foot-shape foot.Unary m = kind-shape (m .kind) refl (λ e. m .valueless)
+  foot-shape foot.Paren k = kind-shape k refl (λ e. absurd (omega (arith, e)))
+  foot-shape foot.Binary k = kind-shape k refl (λ e. absurd (omega (arith, e)))
+  foot-shape foot.Aggregate k = kind-shape k refl (λ e. absurd (omega (arith, e)))
+  foot-shape foot.Call k = kind-shape k refl (λ e. absurd (omega (arith, e)))
