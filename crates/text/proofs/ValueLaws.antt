@@ -46,9 +46,6 @@ module _ {page starts firsts : List ℕ} {j : ℕ} (t : Tables page starts first
   pub signed-unary : (odd : Bool) → Reads page starts j (wrapper unary) → signed odd (scalarValue (treeAt page j)) ≡ signed (not odd) (scalarValue (treeAt page (j - 1)))
   signed-unary odd r = ap (signed odd) (unary-value t r) ∙ signed-negated odd (scalarValue (treeAt page (j - 1)))
 
-  pub signed-number : (odd : Bool) (l : Literal) → Reads page starts j (leaf (number l)) → signed odd (scalarValue (treeAt page j)) ≡ signed odd (some l)
-  signed-number odd l r = ap (λ (e : Expr). signed odd (scalarValue e)) (leaf-tree t (number l) r)
-
 -- ## All other records
 
 -- by cases on what a tree is worth
