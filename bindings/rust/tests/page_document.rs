@@ -34,6 +34,7 @@ fn name(record: &Record) -> &'static str {
         Record::Binary { .. } => "binary",
         Record::Aggregate { .. } => "aggregate",
         Record::Call { .. } => "call",
+        _ => panic!("a record that the document does not have"),
     }
 }
 
