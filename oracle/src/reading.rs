@@ -1,10 +1,11 @@
 //! The reading program held against the oracle's reading: pages go in through a pipe, its lines come back and are compared.
+//! What is no stream of pages is answered by a sentence.
 
 use crate::generate::stream;
 use crate::random::Random;
 use crate::{hex, show};
 use std::io::{self, BufRead, BufReader, BufWriter, Read, Write};
-use std::process::{ChildStdin, Command, Stdio};
+use std::process::{ChildStdin, Command, Output, Stdio};
 use std::sync::mpsc::{self, Receiver, Sender};
 use std::thread;
 
@@ -77,16 +78,89 @@ fn receive(output: impl BufRead, received: &Receiver<Vec<u8>>) -> Result<Tally, 
     }
 }
 
+/// What the reading program says, on standard error, of input that is no stream of pages.
+pub const WANTED: &str = "show_records: standard input must be a stream of pages, \
+     each a length of four bytes, lowest first, and so many bytes, at most 65536";
+
+/// Input that is no stream of pages, and the lines that are printed of the pages before the fault.
+const NO_STREAMS: [(&str, &str); 6] = [
+    // a page without its length, `up`
+    ("02 02 75 70 00", ""),
+    // a length cut short, one without bytes, and one with too few
+    ("05 00", ""),
+    ("05 00 00 00", ""),
+    ("05 00 00 00 02 02 75", ""),
+    // a page too large for the program
+    ("01 00 01 00 07*65537;", ""),
+    // a page, and a length cut short
+    ("05 00 00 00 02 02 75 70 00 05", "5 2 2 2 0\nend 1\n"),
+];
+
+/// Runs the program on what is no stream of pages, and on no input: it must say what it wants, and of no input nothing.
+pub fn compare_faults(program: &mut Command) -> Result<(), String> {
+    for (input, lines) in NO_STREAMS {
+        compare_said(program, &hex::bytes(input), lines, &format!("{WANTED}\n"))?;
+    }
+    compare_said(program, &[], "", "")
+}
+
+fn compare_said(
+    program: &mut Command,
+    input: &[u8],
+    lines: &str,
+    said: &str,
+) -> Result<(), String> {
+    let output = answered(program, input).map_err(|error| format!("{program:?}: {error}"))?;
+    let printed = String::from_utf8_lossy(&output.stdout);
+    let complaint = String::from_utf8_lossy(&output.stderr);
+    if printed == lines && complaint == said {
+        return Ok(());
+    }
+    let start = hex::text(&input[..input.len().min(16)]);
+    Err(format!(
+        "input: {start}\nexpected: {lines}{said}\nthe program: {printed}{complaint}"
+    ))
+}
+
+fn answered(program: &mut Command, input: &[u8]) -> io::Result<Output> {
+    let mut child = program
+        .stdin(Stdio::piped())
+        .stdout(Stdio::piped())
+        .stderr(Stdio::piped())
+        .spawn()?;
+    if let Some(mut pipe) = child.stdin.take() {
+        // The program may end before it has read all.
+        let _ = pipe.write_all(input);
+    }
+    child.wait_with_output()
+}
+
+/// The largest page that the reading program takes.
+const LARGEST: usize = 65_536;
+
 /// Prints the lines for framed pages from `input`, as the reading program does.
-pub fn show(mut input: impl Read, mut output: impl Write) -> io::Result<()> {
-    let mut length = [0; 4];
-    while input.read(&mut length[..1])? == 1 {
-        input.read_exact(&mut length[1..])?;
-        let mut page = vec![0; u32::from_le_bytes(length) as usize];
-        input.read_exact(&mut page)?;
+pub fn show(mut input: impl Read, mut output: impl Write) -> Result<(), String> {
+    while let Some(page) = next_page(&mut input)? {
         for line in show::lines(&page) {
-            writeln!(output, "{line}")?;
+            writeln!(output, "{line}").map_err(|error| error.to_string())?;
         }
     }
-    output.flush()
+    output.flush().map_err(|error| error.to_string())
+}
+
+/// The next page of a stream that has not ended.
+fn next_page(input: &mut impl Read) -> Result<Option<Vec<u8>>, String> {
+    let cut_short = |_| WANTED.to_string();
+    let mut length = [0; 4];
+    if input.read(&mut length[..1]).map_err(cut_short)? == 0 {
+        return Ok(None);
+    }
+    input.read_exact(&mut length[1..]).map_err(cut_short)?;
+    let size = u32::from_le_bytes(length) as usize;
+    if size > LARGEST {
+        return Err(WANTED.to_string());
+    }
+    let mut page = vec![0; size];
+    input.read_exact(&mut page).map_err(cut_short)?;
+    Ok(Some(page))
 }

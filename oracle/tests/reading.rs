@@ -1,6 +1,7 @@
-//! The comparison of readings passes a program that prints the oracle's lines, and finds one wrong digit.
+//! The comparison of readings passes a program that prints the oracle's lines, and finds one wrong digit. A program that is given no stream of
+//! pages must say what it wants.
 
-use oracle::reading::compare;
+use oracle::reading::{compare, compare_faults};
 use std::process::Command;
 
 const ORACLE: &str = env!("CARGO_BIN_EXE_oracle");
@@ -25,5 +26,29 @@ fn differences_are_found() {
     assert!(words.starts_with("page: "), "{words}");
     for filter in ["sed 5000d", "head -n 70000", "sed '$p'"] {
         assert!(compare(1, 5, &mut filtered(filter)).is_err(), "{filter}");
+    }
+}
+
+/// The oracle's own lines and words, in a shell command.
+fn within(command: &str) -> Command {
+    let mut shell = Command::new("sh");
+    shell.args(["-c", command, ORACLE]);
+    shell
+}
+
+#[test]
+fn the_sentence_passes() {
+    compare_faults(Command::new(ORACLE).arg("show")).expect("the sentence, and no line");
+}
+
+#[test]
+fn silence_and_needless_words_are_found() {
+    for command in [
+        "\"$0\" show 2>/dev/null",
+        "\"$0\" show; echo wanted >&2",
+        "\"$0\" show; echo end 0",
+    ] {
+        let words = compare_faults(&mut within(command)).expect_err(command);
+        assert!(words.starts_with("input: "), "{words}");
     }
 }

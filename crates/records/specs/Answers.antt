@@ -1,6 +1,6 @@
 -- What the answers of the functions that read parts of records mean on a page: a position stands for the bytes from there on.
 use Prim.Native.Nat.{ℕ}
-use mathlib.Core.Bool.{Bool, true, false}
+use mathlib.Core.Bool.{Bool}
 use mathlib.Core.List.{List}
 use mathlib.Core.Option.{Option, none, some}
 use lib.ListN.{drop}
@@ -23,8 +23,6 @@ use Rattle.records.specs.declared.kind.KindField.the-variants as kind-an
 use Rattle.records.specs.declared.matcher.MatchOp.{MatchOp}
 use Rattle.records.specs.declared.matcher.MatchOp.the-variants.{Equal, NotEqual, Re, NotRe}
 use Rattle.records.specs.declared.matcher.Matcher.{Matcher}
-use Rattle.records.specs.declared.matcher.MatcherField.{MatcherField}
-use Rattle.records.specs.declared.matcher.MatcherField.the-variants as matcher-answer
 use Rattle.records.specs.declared.literal.Literal.{Literal}
 use Rattle.records.specs.declared.literal.Literal.the-variants.{Whole, Negative, Nan, Inf, NegInf}
 use Rattle.records.specs.declared.literal.LiteralField.{LiteralField}
@@ -95,16 +93,8 @@ opOf NotEqual = matcher.notEqual
 opOf (Re b) = matcher.re b
 opOf (NotRe b) = matcher.notRe b
 
-abbrev pub patternOp : Bool → Bool → matcher.MatchOp
-patternOp false = matcher.re
-patternOp true = matcher.notRe
-
 abbrev pub matcherOn : List ℕ → Matcher → matcher.Matcher
 matcherOn page m = matcher.matcherOf (opOf (m .op)) (spanOn page (m .name)) (spanOn page (m .value))
-
-abbrev pub matcherAt : List ℕ → MatcherField → Read matcher.Matcher
-matcherAt page (matcher-answer.Got m next) = got (matcherOn page m) (drop next page)
-matcherAt page (matcher-answer.Bad f) = refused (faultOf f)
 
 -- the matchers that start at a position
 abbrev pub matchersOn : List ℕ → ℕ → ℕ → List matcher.Matcher
@@ -114,10 +104,6 @@ matchersOn page start count = listed matcher.readMatcher count (drop start page)
 pub record MatcherLies (page : List ℕ) (m : Matcher) : Type 0 where
   pub name : Lies page (m .name)
   pub value : Lies page (m .value)
-
-abbrev pub matcherLies : List ℕ → MatcherField → Type 0
-matcherLies page (matcher-answer.Got m next) = MatcherLies page m
-matcherLies page (matcher-answer.Bad f) = Unit {0}
 
 -- ## Literals and fills
 

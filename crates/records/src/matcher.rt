@@ -7,9 +7,8 @@ ghost use lib.ListN.{drop};
 ghost use Rattle.page.specs.Read.{repeat, readerAt};
 ghost use Rattle.page.specs.Text.{readList};
 ghost use Rattle.page.specs.Answers.{spanOn, Lies};
-ghost use Rattle.records.specs.Matcher.{plain, pattern, readMatcher, isMetricLabel};
+ghost use Rattle.records.specs.Matcher.{readMatcher, isMetricLabel};
 ghost use Rattle.records.specs.Marks.{readMarks, patternMarks, markForms, marksAt, matchersAt, matchersMarked};
-ghost use Rattle.records.specs.Answers.{opOf, patternOp, matcherAt, matcherLies};
 
 // How a matcher compares; a pattern has the mark that it matches empty text.
 pub enum MatchOp {
@@ -24,83 +23,6 @@ pub struct Matcher {
     pub op: MatchOp,
     pub name: page::Span,
     pub value: page::Span,
-}
-
-// A matcher and the position behind it.
-pub enum MatcherField {
-    Got(Matcher, usize),
-    Bad(page::Fault),
-}
-
-// The rest of a matcher that compares whole texts.
-fn read_plain(page: &[u8], at: usize, op: MatchOp) -> MatcherField
-    ensures { λ r. ⌜ matcherAt (now (page .entry)) r ≡ plain (opOf op) (drop at (now (page .entry))) ⌝ }
-    ensures { λ r. ⌜ matcherLies (now (page .entry)) r ⌝ }
-{
-    match page::read_text(page, at, page::TextClass::Any) {
-        page::Text::Got(name) => match page::read_text(page, name.end, page::TextClass::Any) {
-            page::Text::Got(value) => MatcherField::Got(
-                Matcher {
-                    op: op,
-                    name: name,
-                    value: value,
-                },
-                value.end,
-            ),
-            page::Text::Bad(f) => MatcherField::Bad(f),
-        },
-        page::Text::Bad(f) => MatcherField::Bad(f),
-    }
-}
-
-fn pattern_op(negated: bool, mark: bool) -> MatchOp
-    ensures { λ r. ⌜ opOf r ≡ patternOp negated mark ⌝ }
-{
-    if negated {
-        MatchOp::NotRe(mark)
-    } else {
-        MatchOp::Re(mark)
-    }
-}
-
-// The rest of a matcher with a pattern.
-fn read_pattern(page: &[u8], at: usize, negated: bool) -> MatcherField
-    ensures { λ r. ⌜ matcherAt (now (page .entry)) r ≡ pattern (patternOp negated) (drop at (now (page .entry))) ⌝ }
-    ensures { λ r. ⌜ matcherLies (now (page .entry)) r ⌝ }
-{
-    match page::read_text(page, at, page::TextClass::Any) {
-        page::Text::Got(name) => match page::read_text(page, name.end, page::TextClass::Any) {
-            page::Text::Got(value) => match read_flag(page, value.end) {
-                Flag::Got(mark, next) => MatcherField::Got(
-                    Matcher {
-                        op: pattern_op(negated, mark),
-                        name: name,
-                        value: value,
-                    },
-                    next,
-                ),
-                Flag::Bad => MatcherField::Bad(page::Fault::BadField),
-            },
-            page::Text::Bad(f) => MatcherField::Bad(f),
-        },
-        page::Text::Bad(f) => MatcherField::Bad(f),
-    }
-}
-
-pub fn read_matcher(page: &[u8], at: usize) -> MatcherField
-    ensures { λ r. ⌜ matcherAt (now (page .entry)) r ≡ readMatcher (drop at (now (page .entry))) ⌝ }
-    ensures { λ r. ⌜ matcherLies (now (page .entry)) r ⌝ }
-{
-    match page::read_number(page, at) {
-        page::Number::Got(op, next) => match op {
-            0 => read_plain(page, next, MatchOp::Equal),
-            1 => read_plain(page, next, MatchOp::NotEqual),
-            2 => read_pattern(page, next, false),
-            3 => read_pattern(page, next, true),
-            _ => MatcherField::Bad(page::Fault::BadField),
-        },
-        page::Number::Bad => MatcherField::Bad(page::Fault::BadField),
-    }
 }
 
 // What the check asks of a matcher: whether it is named `__name__`, whether it accepts empty text, and the position behind it.

@@ -4,13 +4,15 @@
 // into a buffer of exactly the entry's size, and then into one a byte shorter, which is refused with 5 and keeps its first byte.
 // Written is `N pages equal`, or `entry N differs` at the first one that is not equal, counted from 0.
 mod compare;
+mod word;
 
 use compare::Call;
 use compare::check_equal;
 use compare::writes_equal;
-use input::Word;
+use input::Part;
 use input::read_part;
-use input::read_word;
+use word::Word;
+use word::read_word;
 
 enum Replayed {
     Equal,
@@ -20,11 +22,11 @@ enum Replayed {
 
 // The next text of the entry, and whether the call writes it.
 fn replay_text(call: Call, page: &[u8], outcome: u64, text: &mut [u8], out: &mut [u8]) -> bool {
-    let size = read_part(text);
-    if text.len() < size {
-        return false;
+    match read_part(text) {
+        Part::Got(size) => writes_equal(call, page, outcome, &text[..size], out),
+        Part::End => false,
+        Part::Bad => false,
     }
-    writes_equal(call, page, outcome, &text[..size], out)
 }
 
 fn replay_entry(page: &[u8], text: &mut [u8], out: &mut [u8]) -> Replayed {
@@ -47,11 +49,11 @@ fn replay_entry(page: &[u8], text: &mut [u8], out: &mut [u8]) -> Replayed {
 }
 
 fn replay_next(page: &mut [u8], text: &mut [u8], out: &mut [u8]) -> Replayed {
-    let size = read_part(page);
-    if page.len() < size {
-        return Replayed::End;
+    match read_part(page) {
+        Part::Got(size) => replay_entry(&page[..size], text, out),
+        Part::End => Replayed::End,
+        Part::Bad => Replayed::Different,
     }
-    replay_entry(&page[..size], text, out)
 }
 
 fn report_equal(count: u64) {

@@ -11,7 +11,8 @@
 //!     oracle compare-failing PROGRAM [WORDS]
 //!                               the same for a few pages, while one read after another fails (with strace)
 //!     oracle compare-reading SEED ROUNDS PROGRAM
-//!                               sends generated pages through the reading program and compares its lines
+//!                               sends generated pages through the reading program and compares its lines; then what is no
+//!                               stream of pages, of which it must say what it wants
 
 use oracle::answer::{self, Outcome};
 use oracle::{failing, hex, kept, program, reading, run};
@@ -102,6 +103,7 @@ fn compare_reading(seed: &str, rounds: &str, program: &str) -> Result<(), String
     let seed = seed.parse().map_err(|_| USAGE)?;
     let rounds = rounds.parse().map_err(|_| USAGE)?;
     let tally = reading::compare(seed, rounds, &mut Command::new(program))?;
+    reading::compare_faults(&mut Command::new(program))?;
     println!(
         "{} pages, {} lines: no difference",
         tally.pages, tally.lines
@@ -112,7 +114,7 @@ fn compare_reading(seed: &str, rounds: &str, program: &str) -> Result<(), String
 fn show_records() -> Result<(), String> {
     let input = BufReader::new(stdin().lock());
     let output = BufWriter::new(stdout().lock());
-    reading::show(input, output).map_err(|error| error.to_string())
+    reading::show(input, output)
 }
 
 fn write() -> Result<(), String> {

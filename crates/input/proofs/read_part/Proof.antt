@@ -1,8 +1,12 @@
--- `input::read_part` is safe: the part read into lies in the buffer. Assumes nothing.
-use mathlib.Core.Path.{sym}
-use native.Mathlib.Omega.{arith}
-use lib.Seq.{length-take-le}
+-- `input::read_part` meets its contract: what is read goes into the part of the buffer that was lent, and a lent part keeps its length.
+-- Assumes nothing.
 use borrow.Author.Needs.{needs}
+use denote.Ref.{now}
+use Prim.Native.Nat.{_≤_}
+use native.Mathlib.Omega.{arith}
+use mathlib.Core.Path.{sym, _∙_}
+use lib.ListN.{length}
+use lib.Seq.{length-take-le, drop-at}
 use Rattle.input.proofs.read_part.Statement.{statement}
 use Rattle.input.proofs.read_part.Tie as tie
 
@@ -12,11 +16,11 @@ slice-aggregate-read-full c = search needs
 read-full-requires : tie.Need-read-full-requires
 read-full-requires c κs = search needs
 
-add-result : tie.Need-add-result
-add-result c = search needs
-
 returns : tie.Need-returns
 returns c = search needs
+
+returns-2 : tie.Need-returns-2
+returns-2 c = search needs
 
 array-read-number-of : tie.Need-array-read-number-of
 array-read-number-of c = search needs
@@ -33,8 +37,8 @@ array-read-number-of-4 c = search needs
 number-of-requires : tie.Need-number-of-requires
 number-of-requires c κs = search needs
 
-returns-2 : tie.Need-returns-2
-returns-2 c = search needs
+returns-3 : tie.Need-returns-3
+returns-3 c = search needs
 
 slice-relend-prefix-read-full : tie.Need-slice-relend-prefix-read-full
 slice-relend-prefix-read-full c = search needs
@@ -45,20 +49,23 @@ slice-aggregate-read-full-2 c = sym (length-take-le _ _ (omega arith))
 read-full-requires-2 : tie.Need-read-full-requires-2
 read-full-requires-2 c κs = search needs
 
-add-result-2 : tie.Need-add-result-2
-add-result-2 c = search needs
-
 same-length : tie.Need-same-length
 same-length c = search needs
 
-returns-3 : tie.Need-returns-3
-returns-3 c = search needs
+returns-4 : tie.Need-returns-4
+returns-4 c = search needs
 
 same-length-2 : tie.Need-same-length-2
 same-length-2 c = search needs
 
-returns-4 : tie.Need-returns-4
-returns-4 c = search needs
+returns-5 : tie.Need-returns-5
+returns-5 c =
+    let at-place = c .before .before .before in
+    let at-read = at-place in
+    let at-size = at-read .before .before .before in
+    let buffer = now (at-size .before .before .before .before .before .before .before .args .buffer) in
+    let fits : at-size .number-of .result ≤ length buffer = omega arith in
+    (fits, drop-at (at-read .read-full2 .last .1 .0) _ _ (at-read .read-full2 .kept .1 .0 ∙ length-take-le _ buffer fits))
 
 pub read-part-spec : {M : Type 1} → statement M
 read-part-spec =
@@ -66,19 +73,18 @@ read-part-spec =
     (tie.spec
     slice-aggregate-read-full
     read-full-requires
-    add-result
     returns
+    returns-2
     array-read-number-of
     array-read-number-of-2
     array-read-number-of-3
     array-read-number-of-4
     number-of-requires
-    returns-2
+    returns-3
     slice-relend-prefix-read-full
     slice-aggregate-read-full-2
     read-full-requires-2
-    add-result-2
     same-length
-    returns-3
+    returns-4
     same-length-2
-    returns-4)
+    returns-5)

@@ -1,8 +1,8 @@
 -- `show_records::show_page` is safe and ends: the buffer keeps its length, and the measure is the bytes that records may still have. Assumes nothing.
-use lib.ListN.{length}
-use mathlib.Core.Path.{_≡_}
-use Prim.Native.Nat.{_≤_}
 use borrow.Author.Needs.{needs}
+use Prim.Native.Nat.{_≤_}
+use mathlib.Core.Path.{_≡_}
+use lib.ListN.{length}
 use Rattle.show_records.proofs.show_page.Statement.{statement}
 use Rattle.show_records.proofs.show_page.Tie as tie
 
@@ -15,8 +15,11 @@ abbrev μ-loop : tie.MeasureT-loop
 loop-holds : tie.Need-loop-holds Inv-loop μ-loop
 loop-holds c = search needs
 
-show-end-requires : tie.Need-show-end-requires Inv-loop μ-loop
-show-end-requires c κs = search needs
+end-line-requires : tie.Need-end-line-requires Inv-loop μ-loop
+end-line-requires c κs = search needs
+
+write-line-requires : tie.Need-write-line-requires Inv-loop μ-loop
+write-line-requires c κs = search needs
 
 same-length : tie.Need-same-length Inv-loop μ-loop
 same-length c = search needs
@@ -30,14 +33,20 @@ read-record-requires c κs = search needs
 enum-known-r : tie.Need-enum-known-r Inv-loop μ-loop
 enum-known-r c = search needs
 
-show-record-requires : tie.Need-show-record-requires Inv-loop μ-loop
-show-record-requires c κs = search needs
+record-line-requires : tie.Need-record-line-requires Inv-loop μ-loop
+record-line-requires c κs = search needs
+
+write-line-requires-2 : tie.Need-write-line-requires-2 Inv-loop μ-loop
+write-line-requires-2 c κs = search needs
 
 enum-known-f : tie.Need-enum-known-f Inv-loop μ-loop
 enum-known-f c = search needs
 
-show-fault-requires : tie.Need-show-fault-requires Inv-loop μ-loop
-show-fault-requires c κs = search needs
+fault-line-requires : tie.Need-fault-line-requires Inv-loop μ-loop
+fault-line-requires c κs = search needs
+
+write-line-requires-3 : tie.Need-write-line-requires-3 Inv-loop μ-loop
+write-line-requires-3 c κs = search needs
 
 same-length-2 : tie.Need-same-length-2 Inv-loop μ-loop
 same-length-2 c = search needs
@@ -60,8 +69,11 @@ loop-less c = search needs
 loop-again : tie.Need-loop-again Inv-loop μ-loop
 loop-again c = search needs
 
-show-end-requires-2 : tie.Need-show-end-requires-2 Inv-loop μ-loop
-show-end-requires-2 c κs = search needs
+end-line-requires-2 : tie.Need-end-line-requires-2 Inv-loop μ-loop
+end-line-requires-2 c κs = search needs
+
+write-line-requires-4 : tie.Need-write-line-requires-4 Inv-loop μ-loop
+write-line-requires-4 c κs = search needs
 
 same-length-3 : tie.Need-same-length-3 Inv-loop μ-loop
 same-length-3 c = search needs
@@ -76,14 +88,17 @@ show-page-spec =
     Inv-loop
     μ-loop
     loop-holds
-    show-end-requires
+    end-line-requires
+    write-line-requires
     same-length
     returns
     read-record-requires
     enum-known-r
-    show-record-requires
+    record-line-requires
+    write-line-requires-2
     enum-known-f
-    show-fault-requires
+    fault-line-requires
+    write-line-requires-3
     same-length-2
     returns-2
     sub-index
@@ -91,6 +106,7 @@ show-page-spec =
     sub-left
     loop-less
     loop-again
-    show-end-requires-2
+    end-line-requires-2
+    write-line-requires-4
     same-length-3
     returns-3)

@@ -1,31 +1,44 @@
 -- `vectors::replay_text` is safe: the text lies in the buffer. Assumes nothing.
-use mathlib.Core.Path.{sym}
-use native.Mathlib.Omega.{arith}
-use lib.Seq.{length-take-le}
 use borrow.Author.Needs.{needs}
+use native.Mathlib.Omega.{arith}
+use mathlib.Core.Path.{sym}
+use lib.Seq.{length-take-le}
 use Rattle.vectors.proofs.replay_text.Statement.{statement}
 use Rattle.vectors.proofs.replay_text.Tie as tie
 
 read-part-requires : tie.Need-read-part-requires
 read-part-requires c κs = search needs
 
-same-length : tie.Need-same-length
-same-length c = search needs
-
-returns : tie.Need-returns
-returns c = search needs
+enum-known-size : tie.Need-enum-known-size
+enum-known-size c = search needs
 
 slice-reshare-prefix-writes-equal : tie.Need-slice-reshare-prefix-writes-equal
-slice-reshare-prefix-writes-equal c = search needs
+slice-reshare-prefix-writes-equal c =
+    let at-read-part = c .before .before .before .before .before in
+    omega (arith, (rw (c .before .size .given .1) at (at-read-part .read-part .ensures)) .0)
 
 slice-aggregate-writes-equal : tie.Need-slice-aggregate-writes-equal
-slice-aggregate-writes-equal c = sym (length-take-le _ _ (omega arith))
+slice-aggregate-writes-equal c =
+    let at-read-part = c .before .before .before .before .before .before in
+    sym (length-take-le _ _ (omega (arith, (rw (c .before .before .size .given .1) at (at-read-part .read-part .ensures)) .0)))
 
 writes-equal-requires : tie.Need-writes-equal-requires
 writes-equal-requires c κs = search needs
 
+enum-told : tie.Need-enum-told
+enum-told c = search needs
+
+enum-told-2 : tie.Need-enum-told-2
+enum-told-2 c = search needs
+
+same-length : tie.Need-same-length
+same-length c = search needs
+
 same-length-2 : tie.Need-same-length-2
 same-length-2 c = search needs
+
+returns : tie.Need-returns
+returns c = search needs
 
 same-length-3 : tie.Need-same-length-3
 same-length-3 c = search needs
@@ -33,16 +46,27 @@ same-length-3 c = search needs
 returns-2 : tie.Need-returns-2
 returns-2 c = search needs
 
+same-length-4 : tie.Need-same-length-4
+same-length-4 c = search needs
+
+returns-3 : tie.Need-returns-3
+returns-3 c = search needs
+
 pub replay-text-spec : {M : Type 1} → statement M
 replay-text-spec =
     tie.close
     (tie.spec
     read-part-requires
-    same-length
-    returns
+    enum-known-size
     slice-reshare-prefix-writes-equal
     slice-aggregate-writes-equal
     writes-equal-requires
+    enum-told
+    enum-told-2
+    same-length
     same-length-2
+    returns
     same-length-3
-    returns-2)
+    returns-2
+    same-length-4
+    returns-3)

@@ -1,0 +1,51 @@
+-- `record_lines::modifier::put_fill` meets its contract, form by form. Assumes nothing.
+use borrow.Author.Needs.{needs}
+use Rattle.record_lines.proofs.LineLaws.{shows-then}
+use Rattle.record_lines.proofs.modifier.put_fill.Statement.{statement}
+use Rattle.record_lines.proofs.modifier.put_fill.Tie as tie
+
+enum-told : tie.Need-enum-told
+enum-told c = search needs
+
+put-spaced-requires : tie.Need-put-spaced-requires
+put-spaced-requires c κs = search needs
+
+enum-known-fill : tie.Need-enum-known-fill
+enum-known-fill c = search needs
+
+put-spaced-requires-2 : tie.Need-put-spaced-requires-2
+put-spaced-requires-2 c κs = search needs
+
+put-literal-requires : tie.Need-put-literal-requires
+put-literal-requires c κs = search needs
+
+same-length : tie.Need-same-length
+same-length c = search needs
+
+returns : tie.Need-returns
+returns c =
+    let at-enum-told = c .before .before .before .before in
+    rw (at-enum-told .enum-told .given .1) (c .before .before .put-spaced .ensures)
+
+same-length-2 : tie.Need-same-length-2
+same-length-2 c = search needs
+
+returns-2 : tie.Need-returns-2
+returns-2 c =
+    let at-put-spaced = c .before .before .before .before .before .before in
+    let at-fill = at-put-spaced .before .before .before in
+    rw (at-fill .fill .given .1) (shows-then (at-put-spaced .put-spaced2 .ensures) (c .before .before .put-literal .ensures))
+
+pub put-fill-spec : {M : Type 1} → statement M
+put-fill-spec =
+    tie.close
+    (tie.spec
+    enum-told
+    put-spaced-requires
+    enum-known-fill
+    put-spaced-requires-2
+    put-literal-requires
+    same-length
+    returns
+    same-length-2
+    returns-2)

@@ -1,0 +1,5 @@
+pub mod Line
+pub mod Numbers
+pub mod Lines
+pub mod Answers
+pub mod Examples
