@@ -49,12 +49,6 @@ key-at page [] i b h = absurd (not-suc-le-zero h)
 key-at page (k ∷ l) zero (b, bs) h = b
 key-at page (k ∷ l) (suc i) (b, bs) h = key-at page l i bs (le-of-suc-le-suc h)
 
-pub keys-drop : (page l : List ℕ) (i : ℕ) → AreKeys page l → AreKeys page (drop i l)
-unfolding AreKeys
-keys-drop page l zero b = b
-keys-drop page [] (suc i) b = tt
-keys-drop page (k ∷ l) (suc i) (b, bs) = keys-drop page l i bs
-
 -- ## The loop of `place`: the item is still to be put among those behind j
 
 pub record Placing (page : List ℕ) (item at : ℕ) (before present : List ℕ) (j : ℕ) : Type 0 where
