@@ -3,7 +3,7 @@
 use sandzguli::page::Code;
 use sandzguli::{Kind, Rule};
 
-const LIBRARY: &str = include_str!("../../../crates/judge/src/refusal.rt");
+const LIBRARY: &str = include_str!("../../../crates/rules/src/refusal.rt");
 const HEADER: &str = include_str!("../../../include/sandzguli.h");
 const NAMES: &str = include_str!("../../../crates/names/specs/Table.antt");
 const CODES: &str = include_str!("../../../crates/records/specs/Code.antt");

@@ -10,8 +10,8 @@ use Rattle.records.specs.Kind.{Kind}
 use Rattle.records.specs.Record.{end, Records, readPage}
 use Rattle.records.specs.Outcome.{Outcome, answer, refusal}
 use Rattle.ast.specs.CheckPage.{check}
-use Rattle.kinds.specs.WorkingOut.{Value, Finish, left, ended, WorkedOut, isSetAside, workPage}
-use Rattle.kinds.specs.Demand3.{kindRefusals, nothingSetAside, allAsAsked, OneLeft, MeetsFirst, KindsRightWith, Demand3}
+use Rattle.working_out.specs.WorkingOut.{Value, Finish, left, ended, WorkedOut, isSetAside, workPage}
+use Rattle.working_out.specs.Demand3.{kindRefusals, nothingSetAside, allAsAsked, OneLeft, MeetsFirst, KindsRightWith, Demand3}
 use Rattle.agreement.specs.CheckContract.{CheckContract}
 use Rattle.agreement.proofs.StepLaws.{workPage-left}
 use Rattle.agreement.proofs.KindsRight.{kindsRightWith}
@@ -20,7 +20,7 @@ use Rattle.agreement.proofs.KindsRight.{kindsRightWith}
 abbrev pub workOut : {C : Type 0} → (ℕ → C) → List ℕ → WorkedOut C
 workOut contents page = workPage isSetAside contents (readPage page)
 
--- "the working-out runs to the page's end": every record of the page is a step, and behind the last one the page ends
+-- "the working-out runs to the page's end": every record of the page is a step, and after the last one the page ends
 module _ {C : Type 0} where
   abbrev pub RunsToEnd : Records → WorkedOut C → Type 0
   RunsToEnd page worked = (page .ending ≡ end) × (length (worked .steps) ≡ length (page .records))

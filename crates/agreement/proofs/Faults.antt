@@ -19,8 +19,8 @@ use Rattle.records.specs.Signature.{Function, Variadic, fixed, unlimited, upTo}
 use Rattle.ast.specs.Refusal.{Row, when, orElse, firstFault}
 use Rattle.ast.specs.CheckAst.{returnsBool, isJoint, isGrouped, hasMatchingLabels, isOperand, binaryRows, aggregateRows, arityRows, argsMatch, argsRows, callRows}
 use Rattle.records.specs.LiteralException.{isExempt}
-use Rattle.kinds.specs.Asked.{Group, groupOf, isOperatorGroup, isAggregatorGroup, sidesAllowed, hasBool, argumentsAllowed, declaredKind, areDeclared}
-use Rattle.kinds.specs.Demand3.{kindRefusals}
+use Rattle.working_out.specs.Asked.{Group, groupOf, isOperatorGroup, isAggregatorGroup, sidesAllowed, hasBool, argumentsAllowed, declaredKind, areDeclared}
+use Rattle.working_out.specs.Demand3.{kindRefusals}
 use Rattle.agreement.proofs.Bools.{both, not-not, neither-left, neither-right, either-right, fails-left, fails-right}
 use Rattle.agreement.proofs.Codes.{OperatorCase, isArithmetic, isComparing, isSet, operatorCase, AggregatorCase, isPlain, isCounting, isScaled, isLimiting, aggregatorCase}
 

@@ -1,5 +1,5 @@
 -- Demand 3: the check's outcome of any page says what `Demand3.KindsRightWith` asks. By induction on the records: the kinds and bare
--- numbers of the working-out's stack are those of the checker's (`right`), record by record (`Nodes.node`). Assumes nothing.
+-- numbers of the working-out's stack are those of the checker's (`right`), record by record (`Operands.node`). Assumes nothing.
 use Prim.Native.Nat.{ℕ, suc, _+_, _≤_, min}
 use mathlib.Core.Path.{_≡_, refl, sym, ap, ap₂, _∙_, subst}
 use mathlib.Core.Bool.{Bool, true, false, not, true≢false, false≢true}
@@ -21,14 +21,14 @@ use Rattle.ast.specs.Expr.{Expr, valueType, scalarValue}
 use Rattle.ast.specs.Walk.{Walked, stack as stackOf, Checked, accepted, refusedAt, proceed, finished, walk}
 use Rattle.ast.specs.CheckPage.{apply, checkPage, outcomeOf, check}
 use Rattle.ast.proofs.StackLaws.{map-drop, map-operandsOf}
-use Rattle.kinds.specs.Asked.{areAsAsked, kindGiven, isInPlace}
-use Rattle.kinds.specs.WorkingOut.{Value, Step, ended, WorkedOut, kinds, stepOf, bareNumber, isSetAside, putBack, putBare, workRecords, workPage}
-use Rattle.kinds.specs.Demand3.{kindRefusals, nothingSetAside, allAsAsked, RunsClean, MeetsFirst, KindsRightWith}
+use Rattle.working_out.specs.Asked.{areAsAsked, kindGiven, isInPlace}
+use Rattle.working_out.specs.WorkingOut.{Value, Step, ended, WorkedOut, kinds, stepOf, bareNumber, isSetAside, putBack, putBare, workRecords, workPage}
+use Rattle.working_out.specs.Demand3.{kindRefusals, nothingSetAside, allAsAsked, RunsClean, MeetsFirst, KindsRightWith}
 use Rattle.agreement.proofs.Bools.{both, either-left}
 use Rattle.agreement.proofs.Lists.{all-drop, all-operandsOf}
 use Rattle.agreement.proofs.Faults.{isKindRefusal}
-use Rattle.agreement.proofs.NodeOf.{nodeOf, apply-operands, isFormed, NodeClaim}
-use Rattle.agreement.proofs.Nodes.{node}
+use Rattle.agreement.proofs.OperandOf.{operandOf, apply-operands, isFormed, NodeClaim}
+use Rattle.agreement.proofs.Operands.{operand}
 
 abbrev pushed : List Expr → Result Expr → Result (List Expr)
 pushed below r = andThen r (λ e. ok (e ∷ below))
@@ -121,12 +121,12 @@ module _ {C : Type 0} (contents : ℕ → C) where
       subst (λ (s : Result (List Expr)). Claim i (worked x i vs bare (r ∷ rs)) (finished x count (proceed i s (λ s. walk apply (suc i) s rs)))) (sym (apply-operands r stack))
       (tested x count i (leb (operands r) (length stack)) (leb (operands r) (length vs)) (ap (leb (operands r)) lengths)
       (stepOf (isInPlace r) aside asked rest)
-      (pushed (drop (operands r) stack) (nodeOf r (operandsOf (operands r) stack)))
+      (pushed (drop (operands r) stack) (operandOf r (operandsOf (operands r) stack)))
       (λ s. walk apply (suc i) s rs)
       (λ enough.
       step x count i aside (isInPlace r) asked
       (kindGiven r (operandsOf (operands r) (kinds vs))) (bareNumber r (operandsOf (operands r) bare)) rest
-      (drop (operands r) stack) rs (nodeOf r (operandsOf (operands r) stack)) (seen enough)
+      (drop (operands r) stack) rs (operandOf r (operandsOf (operands r) stack)) (seen enough)
       (λ e k b g.
       right x count rs (suc i) (e ∷ drop (operands r) stack) (putBack isSetAside contents i r vs) (putBare r bare)
       (ap₂ {C = List Kind} (λ x xs. x ∷ xs) k below-kinds)
@@ -157,14 +157,14 @@ module _ {C : Type 0} (contents : ℕ → C) where
       below-bare : drop (operands r) bare ≡ map scalarValue (drop (operands r) stack)
       below-bare = ap (drop (operands r)) q₂ ∙ sym (map-drop scalarValue (operands r) stack)
 
-      Seen : List Kind → List (Option Literal) → Type 0
-      Seen k b = NodeClaim (not (isSetAside r k b)) (isInPlace r) (areAsAsked r k) (kindGiven r k) (bareNumber r b) (nodeOf r (operandsOf (operands r) stack))
+      LaidOut : List Kind → List (Option Literal) → Type 0
+      LaidOut k b = NodeClaim (not (isSetAside r k b)) (isInPlace r) (areAsAsked r k) (kindGiven r k) (bareNumber r b) (operandOf r (operandsOf (operands r) stack))
 
-      seen : T (leb (operands r) (length stack)) → Seen (operandsOf (operands r) (kinds vs)) (operandsOf (operands r) bare)
+      seen : T (leb (operands r) (length stack)) → LaidOut (operandsOf (operands r) (kinds vs)) (operandsOf (operands r) bare)
       seen enough =
-          subst (λ k. Seen k (operandsOf (operands r) bare)) (sym ks)
-          (subst (λ b. Seen (map valueType (operandsOf (operands r) stack)) b) (sym bs)
-          (node r (operandsOf (operands r) stack) (operands-length (operands r) stack enough) (all-operandsOf isFormed (operands r) stack h)))
+          subst (λ k. LaidOut k (operandsOf (operands r) bare)) (sym ks)
+          (subst (λ b. LaidOut (map valueType (operandsOf (operands r) stack)) b) (sym bs)
+          (operand r (operandsOf (operands r) stack) (operands-length (operands r) stack enough) (all-operandsOf isFormed (operands r) stack h)))
 
 -- ## Demand 3
 

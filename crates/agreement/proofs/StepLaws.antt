@@ -13,8 +13,8 @@ use Rattle.records.specs.Kind.{Kind}
 use Rattle.records.specs.Literal.{Literal}
 use Rattle.records.specs.Record.{Record, operands, Ending, end, unreadable, Records}
 use Rattle.records.specs.Stack.{operandsOf}
-use Rattle.kinds.specs.Asked.{areAsAsked, isInPlace}
-use Rattle.kinds.specs.WorkingOut.{Value, left, ended, WorkedOut, kinds, stepOf, putBack, putBare, workRecords, workPage}
+use Rattle.working_out.specs.Asked.{areAsAsked, isInPlace}
+use Rattle.working_out.specs.WorkingOut.{Value, left, ended, WorkedOut, kinds, stepOf, putBack, putBare, workRecords, workPage}
 
 module _ {C : Type 0} (aside : Record → List Kind → List (Option Literal) → Bool) (contents : ℕ → C) where
   abbrev RanToEnd : Ending → List Record → WorkedOut C → Type 0

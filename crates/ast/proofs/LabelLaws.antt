@@ -38,7 +38,7 @@ use Rattle.ast.proofs.PlaceLaws.{toFills, readJoint-written, Shared, fi
 abbrev Named : List Record → ℕ → Type 0
 Named rs i = (r : Record) × (later : List Record) × (drop i rs ≡ r ∷ later) × T (isOfRecord r 19)
 
--- 1 to 4 stand behind the last record
+-- 1 to 4 stand after the last record
 end-not-19 : (e : Ending) (n i : ℕ) (s : List Expr) → outcomeOf (atEnd e n s) ≡ refusal 19 i → ⊥
 end-not-19 (unreadable badField) n i s q = let z : _≡_ {A = ℕ} 1 19 = cc in omega arith
 end-not-19 (unreadable pastLimit) n i s q = let z : _≡_ {A = ℕ} 3 19 = cc in omega arith
@@ -81,13 +81,13 @@ head-labels manyToMany = refl
 head-labels (manyToOne ls) = refl
 head-labels (oneToMany ls) = refl
 
--- the labels of a group before one of them, it and those behind it
+-- the labels of a group before one of them, it and those after it
 group-apart : (c : Cardinality) (earlier : Labels) (label : Text) (more : Labels) → groupLabels c ≡ earlier ++ (label ∷ more)
     → writeCardinality c ≡ writeGroupHead c ++ (writeAll writeText earlier ++ (writeText label ++ writeAll writeText more))
 group-apart c earlier label more e =
     head-labels c ∙ ap (λ (s : List ℕ). writeGroupHead c ++ s) (ap (writeAll writeText) e ∙ writeAll-append earlier (label ∷ more))
 
--- the fields of a binary record and what stands behind it, and those before and behind a label of its group, one after the other
+-- the fields of a binary record and what stands after it, and those before and after a label of its group, one after the other
 fields-apart : (kind code mark bool matching card left right rest : List ℕ)
     → (kind ++ code) ++ (mark ++ (bool ++ matching ++ card ++ left ++ right)) ++ rest
     ≡ kind ++ (code ++ (mark ++ (bool ++ (matching ++ (card ++ (left ++ (right ++ rest)))))))
@@ -98,7 +98,7 @@ label-apart : (records kind code mark bool matching head earlier size label more
     ≡ (records ++ (kind ++ code) ++ (mark ++ bool) ++ matching ++ head ++ earlier ++ size) ++ (label ++ (more ++ rest))
 label-apart records kind code mark bool matching head earlier size label more rest = simp append-assoc
 
--- a part by what stands before it and behind it
+-- a part by what stands before it and after it
 module _ (page before label rest : List ℕ) (e : page ≡ before ++ (label ++ rest)) where
   abbrev part : Part
   part = partIn (length page) (got (record { label = label; left = length rest } ∷ []) [])
@@ -150,7 +150,7 @@ module _ (page : List ℕ) (bytes : T (all isByte page)) (i : ℕ) where
       at : RecordAt page i (readPage page .records) (binary c (some m))
       at = readPage-at page bytes i (binary c (some m)) later e
 
-      -- the fills and all behind the record
+      -- the fills and all after the record
       rest : List ℕ
       rest = writeOption writeLiteral (m .fillValues .lhs) ++ (writeOption writeLiteral (m .fillValues .rhs) ++ at .rest)
 

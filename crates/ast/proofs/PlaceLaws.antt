@@ -21,12 +21,12 @@ use Rattle.records.proofs.ReadBackLaws.{readCode-back, readFlag-back, readAnyTe
 use Rattle.ast.specs.CheckAst.{hasLabel, onLabels, groupLabels}
 use Rattle.ast.specs.Part.{Placed, readPlaced, firstIn, placedForms, readJoint}
 
--- labels, each with how many bytes are left behind it, before these last bytes
+-- labels, each with how many bytes are left after it, before these last bytes
 abbrev pub placed : Labels → List ℕ → List Placed
 placed [] rest = []
 placed (t ∷ ts) rest = record { label = t; left = length (writeAll writeText ts ++ rest) } ∷ placed ts rest
 
--- ## Reading on, behind what was written
+-- ## Reading on, after what was written
 
 module _ {A B : Type 0} (f : A → Reader B) where
   onward : {r : Reader A} {u : List ℕ} {a : A} → Reads r u a → (rest : List ℕ) → andThen (r (u ++ rest)) f ≡ f a rest

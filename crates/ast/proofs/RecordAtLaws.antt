@@ -1,4 +1,4 @@
--- The bytes of record k of a page: what stands there is the record as it is written, behind the records before it (`readPage-at`). By the
+-- The bytes of record k of a page: what stands there is the record as it is written, after the records before it (`readPage-at`). By the
 -- laws of one record, on what each leaves. Assumes nothing.
 use Prim.Native.Nat.{ℕ, zero, suc}
 use mathlib.Core.Path.{_≡_, refl, sym, ap, _∙_, subst}
@@ -20,7 +20,7 @@ use Rattle.records.proofs.RecordLaws.{record-law}
 use Rattle.records.proofs.AllowedLaws.{readRecord-gives}
 use Rattle.ast.specs.Part.{behind, fromRecord}
 
--- a record that is read from the bytes of record k on, which stand behind the records before it
+-- a record that is read from the bytes of record k on, which stand after the records before it
 pub record RecordAt (s : List ℕ) (k : ℕ) (rs : List Record) (r : Record) : Type 0 where
   pub rest : List ℕ
   pub isRecord : fromRecord k s ≡ writeRecord r ++ rest

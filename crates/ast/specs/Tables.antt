@@ -19,7 +19,7 @@ abbrev pub entries : Walked Expr → List Expr
 entries (stack s) = s
 entries (stopped n i) = []
 
--- the stack behind the first k records of a page; empty where one of them is refused
+-- the stack after the first k records of a page; empty where one of them is refused
 unfoldable pub stackAt : List ℕ → ℕ → List Expr
 stackAt page k = entries (stackAfter apply k (readPage page))
 
@@ -31,7 +31,7 @@ newest (e ∷ es) = e
 unfoldable pub treeAt : List ℕ → ℕ → Expr
 treeAt page i = newest (stackAt page (suc i))
 
--- entry i of the tables: record i stands at `start`, and its operands go down to the stack behind the first `first` records
+-- entry i of the tables: record i stands at `start`, and its operands go down to the stack after the first `first` records
 pub record Entry (page : List ℕ) (start first i : ℕ) : Type 0 where
   pub stands : drop start page ≡ fromRecord i page
   pub item : Record

@@ -69,7 +69,7 @@ room-fits text room size e h = omega arith
 
 -- ## Room for every canonical text
 
--- behind 256 records, or all that there are, stands the accepted tree alone
+-- after 256 records, or all that there are, stands the accepted tree alone
 last-tree : (page : List ℕ) {e : Expr} {n : ℕ} → checkPage page ≡ accepted e n → treeAt page 255 ≡ e
 unfolding checkPage treeAt stackAt
 last-tree page {e} {n} h =

@@ -1,12 +1,12 @@
 // The calls that write into a lent buffer. The length is known before a byte is written: a refusal leaves the buffer as it was.
-use checking::Outcome;
-use checking::walk::Walked;
-use checking::walk::walk;
-use judge::Refusal;
 use measure::widths_of;
+use rules::Refusal;
 use split::prettify_len;
 use split::put_prettify;
-ghost use Rattle.checking.specs.Answers.{outcomeMeant};
+use walk::Outcome;
+use walk::walk::Walked;
+use walk::walk::walk;
+ghost use Rattle.walk.specs.Answers.{outcomeMeant};
 ghost use Rattle.outcomes.specs.Calls.{copy, canonicalText, splitText, Does};
 
 // The copy of an accepted page.

@@ -10,17 +10,17 @@ use Rattle.records.specs.Stack.{operandsOf}
 use Rattle.ast.specs.Tables.{stackAt, treeAt}
 use Rattle.text.specs.Display.{display}
 use Rattle.text.specs.Layout.{Layout, front, between, rear, joined}
-use Rattle.text.specs.Seen.{Seen}
+use Rattle.text.specs.LaidOut.{LaidOut}
 use Rattle.text.specs.Measured.{Measured}
 use Rattle.text.proofs.NodeLaws.{display-pieces}
 use Rattle.text.proofs.LengthLaws.{len-node}
 use Rattle.text.proofs.WriteLaws.{run-three}
 
-pub run-node : {page : List ℕ} {i : ℕ} {own : Layout} {end count : ℕ} → Seen page i own end count → (o : List ℕ) (at : ℕ) → at + length (display (treeAt page i)) ≤ length o
+pub run-node : {page : List ℕ} {i : ℕ} {own : Layout} {end count : ℕ} → LaidOut page i own end count → (o : List ℕ) (at : ℕ) → at + length (display (treeAt page i)) ≤ length o
     → Run o o at (display (treeAt page i)) (front own ∷ joined (between own) display display (operandsOf count (stackAt page end)) ∷ rear own ∷ []) at
 run-node s o at h = run-three _ _ _ o at (display-pieces s) h
 
-pub len-tree : {page : List ℕ} {i : ℕ} {own : Layout} {end count : ℕ} → Seen page i own end count → (gap cap x y z : ℕ) → x ≡ min (length (front own)) cap
+pub len-tree : {page : List ℕ} {i : ℕ} {own : Layout} {end count : ℕ} → LaidOut page i own end count → (gap cap x y z : ℕ) → x ≡ min (length (front own)) cap
     → gap ≡ min (length (between own)) (cap - x)
     → Measured (λ separator. joined separator display display (operandsOf count (stackAt page end))) gap (cap - x) y
     → z ≡ min (length (rear own)) (cap - x - y)

@@ -19,7 +19,7 @@ ghost use Rattle.ast.specs.Tables.{Tables, stackAt, treeAt};
 ghost use Rattle.text.specs.Display.{display};
 ghost use Rattle.text.specs.Layout.{front, between, rear, joined};
 ghost use Rattle.text.specs.Measured.{Measured};
-ghost use Rattle.view.specs.View.{NodeAt, layoutAt, Unvalued};
+ghost use Rattle.view.specs.View.{NodeAt, layoutAt, Numberless};
 
 // The length of the text of the tree that record i ends, or `cap` where it is more.
 pub fn text_len(
@@ -27,17 +27,17 @@ pub fn text_len(
     starts: &[u16],
     firsts: &[u8],
     i: usize,
-    unvalued: bool,
+    numberless: bool,
     cap: usize,
 ) -> usize
     requires { ⌜ Tables (now page) (now starts) (now firsts) (suc i) ⌝ }
-    requires { ⌜ Unvalued (now page) i unvalued ⌝ }
+    requires { ⌜ Numberless (now page) i numberless ⌝ }
     ensures { λ r. ⌜ r ≡ min (length (display (treeAt (now (page .entry)) i))) cap ⌝ }
 {
     if cap == 0 {
         return 0;
     }
-    let node = view::view_at(page, starts, i, unvalued);
+    let node = view::view_at(page, starts, i, numberless);
     let end = node.base;
     let count = node.count;
     let front = front_len(page, starts, node, cap);
@@ -56,28 +56,28 @@ pub fn text_len(
     front + inner + rear
 }
 
-// The length of the texts of the newest expressions behind the first `end` records, `count` of them, with so many bytes between each
-// two, or `cap` where it is more. `unvalued` is said of the last one.
+// The length of the texts of the newest expressions after the first `end` records, `count` of them, with so many bytes between each
+// two, or `cap` where it is more. `numberless` is said of the last one.
 fn operands_len(
     page: &[u8],
     starts: &[u16],
     firsts: &[u8],
     end: usize,
     count: usize,
-    unvalued: bool,
+    numberless: bool,
     gap: usize,
     cap: usize,
 ) -> usize
     requires { ⌜ Tables (now page) (now starts) (now firsts) end ⌝ }
     requires { ⌜ count ≤ length (stackAt (now page) end) ⌝ }
-    requires { ⌜ Unvalued (now page) (end - 1) unvalued ⌝ }
+    requires { ⌜ Numberless (now page) (end - 1) numberless ⌝ }
     ensures { λ r. ⌜ Measured (λ separator. joined separator display display (operandsOf count (stackAt (now (page .entry)) end))) gap cap r ⌝ }
 {
     if count == 0 {
         return 0;
     }
     let root = end - 1;
-    let last = text_len(page, starts, firsts, root, unvalued, cap);
+    let last = text_len(page, starts, firsts, root, numberless, cap);
     if count == 1 {
         return last;
     }
@@ -99,32 +99,32 @@ fn operands_len(
     last + gap + rest
 }
 
-// Writes the text of the tree that record i ends, and returns the place behind it.
+// Writes the text of the tree that record i ends, and returns the place after it.
 pub fn write_text(
     page: &[u8],
     starts: &[u16],
     firsts: &[u8],
     i: usize,
-    unvalued: bool,
+    numberless: bool,
     out: &mut [u8],
     at: usize,
 ) -> usize
     requires { ⌜ Tables (now page) (now starts) (now firsts) (suc i) ⌝ }
-    requires { ⌜ Unvalued (now page) i unvalued ⌝ }
+    requires { ⌜ Numberless (now page) i numberless ⌝ }
     requires { ⌜ at + length (display (treeAt (now page) i)) ≤ length (now out) ⌝ }
     ensures { λ r. ⌜ Wrote (now (out .entry)) (now (out .exit)) at (display (treeAt (now (page .entry)) i)) r ⌝ }
 {
-    let node = view::view_at(page, starts, i, unvalued);
+    let node = view::view_at(page, starts, i, numberless);
     let end = node.base;
     let count = node.count;
     let minus = view::is_minus(node);
     let inner = put_front(page, starts, node, out, at);
-    let behind = write_operands(page, starts, firsts, node, end, count, minus, out, inner);
-    put_rear(page, starts, node, out, behind)
+    let others = write_operands(page, starts, firsts, node, end, count, minus, out, inner);
+    put_rear(page, starts, node, out, others)
 }
 
-// Writes the texts of the newest expressions behind the first `end` records, `count` of them, with what the node writes between each
-// two. `unvalued` is said of the last one.
+// Writes the texts of the newest expressions after the first `end` records, `count` of them, with what the node writes between each
+// two. `numberless` is said of the last one.
 fn write_operands(
     page: &[u8],
     starts: &[u16],
@@ -132,14 +132,14 @@ fn write_operands(
     node: view::Node,
     end: usize,
     count: usize,
-    unvalued: bool,
+    numberless: bool,
     out: &mut [u8],
     at: usize,
 ) -> usize
     requires { ⌜ Tables (now page) (now starts) (now firsts) end ⌝ }
     requires { ⌜ NodeAt (now page) (now starts) node ⌝ }
     requires { ⌜ count ≤ length (stackAt (now page) end) ⌝ }
-    requires { ⌜ Unvalued (now page) (end - 1) unvalued ⌝ }
+    requires { ⌜ Numberless (now page) (end - 1) numberless ⌝ }
     requires { ⌜ at + length (joined (between (layoutAt (now page) node)) display display (operandsOf count (stackAt (now page) end))) ≤ length (now out) ⌝ }
     ensures { λ r. ⌜ Wrote (now (out .entry)) (now (out .exit)) at (joined (between (layoutAt (now (page .entry)) node)) display display (operandsOf count (stackAt (now (page .entry)) end))) r ⌝ }
 {
@@ -148,10 +148,10 @@ fn write_operands(
     }
     let root = end - 1;
     if count == 1 {
-        return write_text(page, starts, firsts, root, unvalued, out, at);
+        return write_text(page, starts, firsts, root, numberless, out, at);
     }
     let first = firsts[root] as usize;
     let gap = write_operands(page, starts, firsts, node, first, count - 1, false, out, at);
     let next = put_between(page, starts, node, out, gap);
-    write_text(page, starts, firsts, root, unvalued, out, next)
+    write_text(page, starts, firsts, root, numberless, out, next)
 }

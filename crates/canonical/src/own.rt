@@ -1,4 +1,4 @@
-// What a node writes of its own, by its form: before its operands' texts, between each two and behind them. Lengths are capped.
+// What a node writes of its own, by its form: before its operands' texts, between each two and after them. Lengths are capped.
 use pieces::head_len;
 use pieces::operator_len;
 use pieces::put_head;
@@ -22,7 +22,7 @@ pub fn front_len(page: &[u8], starts: &[u16], node: Node, cap: usize) -> usize
         Form::Whole => head_len(page, starts, node, cap),
         Form::Minus => head_len(page, starts, node, cap),
         Form::Suffixed => 0,
-        Form::Enclosed => util::capped_add(head_len(page, starts, node, cap), 1, cap),
+        Form::Enclosed => leaves::capped_add(head_len(page, starts, node, cap), 1, cap),
         Form::Infixed => 0,
     }
 }
@@ -35,8 +35,8 @@ pub fn between_len(page: &[u8], starts: &[u16], node: Node, cap: usize) -> usize
         Form::Whole => 0,
         Form::Minus => 0,
         Form::Suffixed => 0,
-        Form::Enclosed => util::capped_add(0, 2, cap),
-        Form::Infixed => util::capped_add(operator_len(page, starts, node, cap), 2, cap),
+        Form::Enclosed => leaves::capped_add(0, 2, cap),
+        Form::Infixed => leaves::capped_add(operator_len(page, starts, node, cap), 2, cap),
     }
 }
 
@@ -48,7 +48,7 @@ pub fn rear_len(page: &[u8], starts: &[u16], node: Node, cap: usize) -> usize
         Form::Whole => 0,
         Form::Minus => 0,
         Form::Suffixed => suffix_len(page, starts, node, cap),
-        Form::Enclosed => util::capped_add(0, 1, cap),
+        Form::Enclosed => leaves::capped_add(0, 1, cap),
         Form::Infixed => 0,
     }
 }
@@ -82,8 +82,8 @@ pub fn put_between(page: &[u8], starts: &[u16], node: Node, out: &mut [u8], at: 
         Form::Enclosed => page::put_bytes(b", ", out, at),
         Form::Infixed => {
             let word = page::put_byte(b' ', out, at);
-            let behind = put_operator(page, starts, node, out, word);
-            page::put_byte(b' ', out, behind)
+            let others = put_operator(page, starts, node, out, word);
+            page::put_byte(b' ', out, others)
         }
     }
 }

@@ -27,7 +27,7 @@ use Rattle.ast.specs.Walk.{stack, accepted, walk}
 use Rattle.ast.specs.CheckPage.{leafExpr, wrap, push, pushCall, apply, checkPage}
 use Rattle.ast.proofs.WalkLaws.{walk-first, page-limit}
 use Rattle.copy.specs.Copy.{copyNumber, copyRecords, copyPage}
-use Rattle.copy.specs.Piece.{setCardinality}
+use Rattle.copy.specs.RecordCopy.{setCardinality}
 use Rattle.copy.proofs.ModifierLaws.{formOf, before, after, modifier-written, modifier-set, binary-written}
 use Rattle.copy.proofs.StartsLaws.{readPage-reads}
 use Rattle.copy.proofs.CopyLaws.{accepted-walks}
@@ -99,7 +99,7 @@ number-length : (l : Literal) → length (writeRecord (leaf (number l))) ≡ suc
 unfolding writeRecord
 number-length l = refl
 
--- a number with the unary records behind it
+-- a number with the unary records after it
 copyNumber-bytes : (l : Literal) (rs : List Record) → bytesOf (copyNumber l rs) ≤ suc (length (writeLiteral l)) + bytesOf rs
 copyNumber-bytes l [] = omega (arith, bytesOf-more (leaf (number l)) [], number-length l)
 copyNumber-bytes l (leaf x ∷ rs) = omega (arith, bytesOf-more (leaf (number l)) (leaf x ∷ rs), number-length l)

@@ -2,9 +2,9 @@ pub mod CopyRecordsLaws
 pub mod CopyLaws
 pub mod LengthLaws
 pub mod ModifierLaws
-pub mod NumberPieceLaws
+pub mod NumberCopyLaws
 pub mod OperatorLaws
-pub mod PieceLaws
+pub mod RecordCopyLaws
 pub mod SpanLaws
 pub mod StartsLaws
 pub mod UnaryLaws

@@ -17,7 +17,7 @@ use Rattle.records.specs.Field.{writeFlag, writeOption, writeLabels}
 use Rattle.records.specs.Modifier.{Cardinality, oneToOne, manyToMany, manyToOne, oneToMany, BinModifier, writeLabelModifier, writeCardinality, writeBinModifier}
 use Rattle.records.specs.Record.{binary, writeRecord}
 use Rattle.ast.specs.CheckAst.{manyToManyOf, setOperatorModifier}
-use Rattle.copy.specs.Piece.{setCardinality}
+use Rattle.copy.specs.RecordCopy.{setCardinality}
 
 -- ## Cardinalities: a form, and labels where it is grouped
 
@@ -51,7 +51,7 @@ cardinality-set manyToMany = refl
 code-written : (c : ℕ) → T (isCode c) → writeNumber c ≡ c ∷ []
 code-written c h = write-small c (omega (arith, leb→le c 30 (right-of (leb 1 c) (leb c 30) h)))
 
--- what stands before the cardinality, and behind its form
+-- what stands before the cardinality, and after its form
 abbrev pub before : ℕ → BinModifier → List ℕ
 before c m = 9 ∷ c ∷ 1 ∷ (writeFlag (m .returnBool) ++ writeLabelModifier (m .matching))
 

@@ -23,7 +23,7 @@ use Rattle.records.specs.Allowed.{IsOptionOf, IsBinModifier, IsAllowed}
 use Rattle.records.proofs.AllowedLaws.{readRecord-gives}
 use Rattle.records.proofs.ReadBackLaws.{readLabelModifier-back}
 use Rattle.ast.specs.CheckAst.{setOperatorModifier}
-use Rattle.copy.specs.Piece.{copied, pieceOf, setCardinality, setModifier}
+use Rattle.copy.specs.RecordCopy.{copied, recordCopy, setCardinality, setModifier}
 use Rattle.copy.specs.Span.{Spans, SetOperator, IsPresent, CardinalityAt}
 use Rattle.copy.proofs.SpanLaws.{part-is, part-ends, kindByte, span-written, span-kind, span-piece, same-piece}
 use Rattle.copy.proofs.ModifierLaws.{formOf, before, after, binary-written, modifier-written, modifier-set, modifier-absent, modifier-present, flag-byte}
@@ -60,7 +60,7 @@ module _ (page : List ℕ) (start next : ℕ) (span : Spans page start next) whe
     third-byte : getD page (start + 2) 0 ≡ getD (writeOption writeBinModifier m ++ drop next page) 0 0
     third-byte = sym (getD-drop start page 2 0) ∙ ap (λ (s : List ℕ). getD s 2 0) written
 
-    piece-set : isSetOperator (getD page (start + 1) 0) ≡ true → pieceOf (drop start page) ≡ writeRecord (binary c (some (setOperatorModifier m)))
+    piece-set : isSetOperator (getD page (start + 1) 0) ≡ true → recordCopy (drop start page) ≡ writeRecord (binary c (some (setOperatorModifier m)))
     piece-set h =
         span-piece span ∙ ap (λ (r : Record). writeRecord (copied r (drop next page))) is
         ∙ ap (λ (b : Bool). writeRecord (binary c (pick b (some (setOperatorModifier m)) m))) (ap isSetOperator (sym second-byte) ∙ h)
@@ -71,7 +71,7 @@ module _ (page : List ℕ) (start next : ℕ) (span : Spans page start next) whe
         ∙ ap (λ (b : Bool). binary c (pick b (some (setOperatorModifier m)) m)) (ap isSetOperator (sym second-byte) ∙ h) ∙ sym is
 
   module _ (c : ℕ) (is : span .item ≡ binary c none) where
-    none-written : isSetOperator (getD page (start + 1) 0) ≡ true → pieceOf (drop start page) ≡ 9 ∷ c ∷ setModifier
+    none-written : isSetOperator (getD page (start + 1) 0) ≡ true → recordCopy (drop start page) ≡ 9 ∷ c ∷ setModifier
     none-written h = piece-set c none is h ∙ binary-written c (allowed c none is .0) (some (setOperatorModifier none))
 
     none-front : take (start + 2 - start) (drop start page) ≡ 9 ∷ c ∷ []
@@ -116,7 +116,7 @@ module _ (page : List ℕ) (start next : ℕ) (span : Spans page start next) whe
       cut-end = omega (arith, part-ends page (formOf (m .card) ∷ after m) cut next (span .inside) (omega arith) tail)
 
       cut-piece : isSetOperator (getD page (start + 1) 0) ≡ true
-          → pieceOf (drop start page) ≡ join (take (cut - start) (drop start page) ∷ (setCardinality (getD page cut 0) ∷ []) ∷ take (next - (cut + 1)) (drop (cut + 1) page) ∷ [])
+          → recordCopy (drop start page) ≡ join (take (cut - start) (drop start page) ∷ (setCardinality (getD page cut 0) ∷ []) ∷ take (next - (cut + 1)) (drop (cut + 1) page) ∷ [])
       unfolding join
       cut-piece h =
           piece-set c (some m) is h ∙ modifier-set c (allowed c (some m) is .0) m
@@ -128,7 +128,7 @@ module _ (page : List ℕ) (start next : ℕ) (span : Spans page start next) whe
         ∙ part-ends page (before c m ++ (formOf (m .card) ∷ after m)) start next (span .inside) (omega arith)
         (some-written ∙ sym (append-assoc (before c m) (formOf (m .card) ∷ after m) (drop next page)))
 
-    some-length : isSetOperator (getD page (start + 1) 0) ≡ true → length (pieceOf (drop start page)) ≡ next - start
+    some-length : isSetOperator (getD page (start + 1) 0) ≡ true → length (recordCopy (drop start page)) ≡ next - start
     some-length h =
         ap length (piece-set c (some m) is h ∙ modifier-set c (allowed c (some m) is .0) m)
         ∙ length-append (before c m) (setCardinality (formOf (m .card)) ∷ after m)
@@ -147,7 +147,7 @@ module _ {page : List ℕ} {start next : ℕ} (span : Spans page start next) (ki
       wide (some m) e = omega (arith, part-ends page (9 ∷ operator-at .0 ∷ writeOption writeBinModifier (some m)) start next (span .inside) (omega arith) e)
 
   -- no set operator: the page's own bytes
-  pub plain-piece : isSetOperator (getD page (start + 1) 0) ≡ false → pieceOf (drop start page) ≡ take (next - start) (drop start page)
+  pub plain-piece : isSetOperator (getD page (start + 1) 0) ≡ false → recordCopy (drop start page) ≡ take (next - start) (drop start page)
   plain-piece h = same-piece span (piece-plain page start next span (operator-at .0) (operator-at .1) (operator-at .2) h)
 
   absent-at : getD page (start + 2) 0 ≡ 0 → span .item ≡ binary (operator-at .0) none
@@ -166,14 +166,14 @@ module _ {page : List ℕ} {start next : ℕ} (operator : SetOperator page start
   code-at = operator-at (operator .span) (operator .kind) .0
 
   -- without a modifier
-  pub absent-piece : getD page (start + 2) 0 ≡ 0 → pieceOf (drop start page) ≡ join (take (start + 2 - start) (drop start page) ∷ setModifier ∷ [])
+  pub absent-piece : getD page (start + 2) 0 ≡ 0 → recordCopy (drop start page) ≡ join (take (start + 2 - start) (drop start page) ∷ setModifier ∷ [])
   unfolding join
   absent-piece h =
       let none-at = absent-at (operator .span) (operator .kind) h in
       none-written page start next (operator .span) code-at none-at (operator .set)
       ∙ ap (λ (s : List ℕ). s ++ (setModifier ++ [])) (sym (none-front page start next (operator .span) code-at none-at))
 
-  pub absent-length : getD page (start + 2) 0 ≡ 0 → length (pieceOf (drop start page)) ≡ 8
+  pub absent-length : getD page (start + 2) 0 ≡ 0 → length (recordCopy (drop start page)) ≡ 8
   absent-length h = ap length (none-written page start next (operator .span) code-at (absent-at (operator .span) (operator .kind) h) (operator .set))
 
   -- with one
@@ -181,7 +181,7 @@ module _ {page : List ℕ} {start next : ℕ} (operator : SetOperator page start
     modifier-at : (m : BinModifier) × (operator .span .item ≡ binary code-at (some m))
     modifier-at = present-at (operator .span) (operator .kind) present
 
-    pub present-length : length (pieceOf (drop start page)) ≡ next - start
+    pub present-length : length (recordCopy (drop start page)) ≡ next - start
     present-length = some-length page start next (operator .span) code-at (modifier-at .0) (modifier-at .1) (operator .set)
 
     pub present-wide : start + 4 ≤ next

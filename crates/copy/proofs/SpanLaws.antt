@@ -13,7 +13,7 @@ use Rattle.page.specs.Bytes.{pick}
 use Rattle.page.proofs.NumberLaws.{Written}
 use Rattle.records.specs.Record.{number, string, selector, range, subquery, at, offset, unary, paren, Record, leaf, wrapper, binary, aggregate, call, writeRecord}
 use Rattle.records.proofs.RecordLaws.{record-law}
-use Rattle.copy.specs.Piece.{unaries, copied, pieceRead, pieceOf, absorbedRead, absorbedOf, absorbed}
+use Rattle.copy.specs.RecordCopy.{unaries, copied, copyOfRead, recordCopy, absorbedRead, absorbedOf, absorbed}
 use Rattle.copy.specs.Span.{Spans}
 use Rattle.copy.proofs.StartsLaws.{drop-bytes}
 
@@ -27,7 +27,7 @@ part-is page front from to h e =
     size : length (drop from page) ≡ length front + length (drop to page) → length front ≡ to - from
     size g = omega (arith, length-drop from page, length-drop to page)
 
--- the place behind what stands there
+-- the place after what stands there
 pub part-ends : (page front : List ℕ) (from to : ℕ) → to ≤ length page → 0 < length front → drop from page ≡ front ++ drop to page → from + length front ≡ to
 part-ends page front from to h l e = omega (arith, length-drop from page, length-drop to page, ap length e ∙ length-append front (drop to page))
 
@@ -119,9 +119,9 @@ module _ {page : List ℕ} {start next : ℕ} (span : Spans page start next) whe
   pub span-wide : start + 1 ≤ next
   span-wide = omega (arith, part-ends page (kindByte (span .item) ∷ record-head (span .item) .0) start next (span .inside) (omega arith) headed)
 
-  pub span-piece : pieceOf (drop start page) ≡ writeRecord (copied (span .item) (drop next page))
-  unfolding pieceOf
-  span-piece = ap pieceRead (sym (span .reads))
+  pub span-piece : recordCopy (drop start page) ≡ writeRecord (copied (span .item) (drop next page))
+  unfolding recordCopy
+  span-piece = ap copyOfRead (sym (span .reads))
 
   pub span-absorbed : absorbedOf (drop start page) ≡ absorbed (span .item) (drop next page)
   unfolding absorbedOf
@@ -131,10 +131,10 @@ module _ {page : List ℕ} {start next : ℕ} (span : Spans page start next) whe
   absorbed-few = omega (arith, span-absorbed, absorbed-in (span .item) (drop next page), length-drop next page)
 
   -- an unchanged record is the page's own bytes
-  pub same-piece : copied (span .item) (drop next page) ≡ span .item → pieceOf (drop start page) ≡ take (next - start) (drop start page)
+  pub same-piece : copied (span .item) (drop next page) ≡ span .item → recordCopy (drop start page) ≡ take (next - start) (drop start page)
   same-piece e = span-piece ∙ ap writeRecord e ∙ sym (part-is page (writeRecord (span .item)) start next (span .inside) span-written)
 
-  pub other-piece : (getD page start 0 ≡ 0 → ⊥) → (getD page start 0 ≡ 9 → ⊥) → pieceOf (drop start page) ≡ take (next - start) (drop start page)
+  pub other-piece : (getD page start 0 ≡ 0 → ⊥) → (getD page start 0 ≡ 9 → ⊥) → recordCopy (drop start page) ≡ take (next - start) (drop start page)
   other-piece h g =
       same-piece (other-copied (span .item) (drop next page) (λ e. h (span-kind ∙ e)) (λ e. g (span-kind ∙ e)))
 
@@ -142,5 +142,5 @@ module _ {page : List ℕ} {start next : ℕ} (span : Spans page start next) whe
   other-absorbed h = span-absorbed ∙ nothing-absorbed (span .item) (drop next page) (λ e. h (span-kind ∙ e))
 
   -- a piece of the page's own bytes is as long
-  pub same-length : pieceOf (drop start page) ≡ take (next - start) (drop start page) → length (pieceOf (drop start page)) ≡ next - start
+  pub same-length : recordCopy (drop start page) ≡ take (next - start) (drop start page) → length (recordCopy (drop start page)) ≡ next - start
   same-length e = ap length e ∙ part-length page start next (span .inside)

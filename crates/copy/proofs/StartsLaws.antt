@@ -28,11 +28,11 @@ use Rattle.ast.specs.Tables.{Tables}
 use Rattle.ast.proofs.WalkLaws.{CheckedIn, checkPage-in, page-limit}
 use Rattle.ast.proofs.TablesLaws.{fromRecord-next}
 use Rattle.copy.specs.Copy.{copyRecords, copyPage}
-use Rattle.copy.specs.Piece.{pieceRead, pieceOf, absorbedRead, absorbedOf}
+use Rattle.copy.specs.RecordCopy.{copyOfRead, recordCopy, absorbedRead, absorbedOf}
 use Rattle.copy.specs.Span.{Spans}
 use Rattle.copy.specs.Starts.{Starts, copyFrom}
 use Rattle.copy.proofs.CopyLaws.{accepted-walks}
-use Rattle.copy.proofs.PieceLaws.{ReadsTo, nothing-read, readRecords-reads, copyRecord-piece}
+use Rattle.copy.proofs.RecordCopyLaws.{ReadsTo, nothing-read, readRecords-reads, copyRecord-piece}
 
 -- ## A page read to its end
 
@@ -55,7 +55,7 @@ fromRecord-reads (suc i) s [] g h = absurd (let z : ⊥ = omega arith in z)
 fromRecord-reads (suc i) s (r ∷ rs) (t, e, more) h =
     subst (λ (x : List ℕ). ReadsTo (fromRecord i x) (drop i rs)) (ap behind e) (fromRecord-reads i t rs more (omega arith))
 
--- the bytes behind some bytes
+-- the bytes after some bytes
 pub drop-bytes : (k : ℕ) (s : List ℕ) → T (all isByte s) → T (all isByte (drop k s))
 drop-bytes zero s h = h
 drop-bytes (suc k) [] h = h
@@ -73,12 +73,12 @@ copyFrom-start page = refl
 
 -- the first record's piece, and the copy of the records that it does not take in
 copy-front : (s : List ℕ) (rs : List Record) → T (all isByte s) → 0 < length rs → ReadsTo s rs
-    → writeAll writeRecord (copyRecords rs) ≡ pieceOf s ++ writeAll writeRecord (copyRecords (drop (suc (absorbedOf s)) rs))
-unfolding pieceOf absorbedOf
+    → writeAll writeRecord (copyRecords rs) ≡ recordCopy s ++ writeAll writeRecord (copyRecords (drop (suc (absorbedOf s)) rs))
+unfolding recordCopy absorbedOf
 copy-front s [] h l g = absurd (let z : ⊥ = omega arith in z)
 copy-front s (r ∷ rs) h l (t, e, more) =
     ap (writeAll writeRecord) (copyRecord-piece r t rs (behind-bytes s r t h e) more)
-    ∙ ap (λ (x : Read Record). pieceRead x ++ writeAll writeRecord (copyRecords (drop (absorbedRead x) rs))) e
+    ∙ ap (λ (x : Read Record). copyOfRead x ++ writeAll writeRecord (copyRecords (drop (absorbedRead x) rs))) e
 
 -- a sum within a room, and its second part within what the first leaves
 fits-rest : (whole a b left : ℕ) → whole ≡ a + b → a ≤ left → leb whole left ≡ leb b (left - a)
@@ -97,7 +97,7 @@ module _ {page starts : List ℕ} {n : ℕ} (held : Starts page starts n) where
   more-at i h = subst (λ (k : ℕ). 0 < k) (sym (length-drop i (readPage page .records))) (omega (arith, held .count))
 
   pub copyFrom-cut : (i : ℕ) → i < n
-      → Cut (copyFrom page i) (pieceOf (drop (getD starts i 0) page)) (copyFrom page (i + 1 + absorbedOf (drop (getD starts i 0) page)))
+      → Cut (copyFrom page i) (recordCopy (drop (getD starts i 0) page)) (copyFrom page (i + 1 + absorbedOf (drop (getD starts i 0) page)))
   unfolding copyFrom
   copyFrom-cut i l =
       let s = drop (getD starts i 0) page in
@@ -105,7 +105,7 @@ module _ {page starts : List ℕ} {n : ℕ} (held : Starts page starts n) where
       record {
         is =
             copy-front s (drop i (readPage page .records)) (drop-bytes (getD starts i 0) page (held .bytes)) (more-at i l) reads
-            ∙ ap (λ (x : List Record). pieceOf s ++ writeAll writeRecord (copyRecords x)) (drop-drop (suc (absorbedOf s)) i (readPage page .records) ∙ ap (λ (k : ℕ). drop k (readPage page .records)) (further (absorbedOf s)));
+            ∙ ap (λ (x : List Record). recordCopy s ++ writeAll writeRecord (copyRecords x)) (drop-drop (suc (absorbedOf s)) i (readPage page .records) ∙ ap (λ (k : ℕ). drop k (readPage page .records)) (further (absorbedOf s)));
       }
     where
       further : (k : ℕ) → i + suc k ≡ i + 1 + k
@@ -113,7 +113,7 @@ module _ {page starts : List ℕ} {n : ℕ} (held : Starts page starts n) where
 
   -- the same, with the number of records that the piece takes in
   pub copyFrom-next : (i taken : ℕ) → i < n → taken ≡ absorbedOf (drop (getD starts i 0) page)
-      → Cut (copyFrom page i) (pieceOf (drop (getD starts i 0) page)) (copyFrom page (i + 1 + taken))
+      → Cut (copyFrom page i) (recordCopy (drop (getD starts i 0) page)) (copyFrom page (i + 1 + taken))
   copyFrom-next i taken h e = rw e (copyFrom-cut i h)
 
   pub copyFrom-end : (i : ℕ) → n ≤ i → copyFrom page i ≡ []
@@ -167,10 +167,10 @@ module _ {page starts : List ℕ} {n : ℕ} (held : Starts page starts n) where
 
   -- ## Whether the copy fits: what is left of the room, for the records that are left
 
-  pub fits-not : (i left size : ℕ) → i < n → size ≡ length (pieceOf (drop (getD starts i 0) page)) → left < size → leb (length (copyFrom page i)) left ≡ false
+  pub fits-not : (i left size : ℕ) → i < n → size ≡ length (recordCopy (drop (getD starts i 0) page)) → left < size → leb (length (copyFrom page i)) left ≡ false
   fits-not i left size h e l = lt-leb (length (copyFrom page i)) left (omega (arith, cut-length (copyFrom-cut i h)))
 
-  pub fits-more : (i left size taken : ℕ) → i < n → size ≡ length (pieceOf (drop (getD starts i 0) page)) → taken ≡ absorbedOf (drop (getD starts i 0) page) → size ≤ left
+  pub fits-more : (i left size taken : ℕ) → i < n → size ≡ length (recordCopy (drop (getD starts i 0) page)) → taken ≡ absorbedOf (drop (getD starts i 0) page) → size ≤ left
       → leb (length (copyFrom page i)) left ≡ leb (length (copyFrom page (i + 1 + taken))) (left - size)
   fits-more i left size taken h e q l = fits-rest _ size _ left (cut-length (copyFrom-next i taken h q) ∙ ap (λ (k : ℕ). k + length (copyFrom page (i + 1 + taken))) (sym e)) l
 

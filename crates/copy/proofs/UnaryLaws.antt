@@ -6,7 +6,7 @@ use native.Mathlib.Numerals.{add-one}
 use lib.ListN.{length, drop, getD, drop-of-length-le}
 use lib.Seq.{drop-cons}
 use borrow.Author.Tests.{eq-eqb, ne-eqb}
-use Rattle.copy.specs.Piece.{unaries, negatedForm, formBehind}
+use Rattle.copy.specs.RecordCopy.{unaries, negatedForm, formAfter}
 
 module _ (page : List ℕ) (i : ℕ) where
   -- ## unaries
@@ -20,14 +20,14 @@ module _ (page : List ℕ) (i : ℕ) where
   pub unaries-end : length page ≤ i → unaries (drop i page) ≡ 0
   unaries-end h = ap unaries (drop-of-length-le page {i = i} h)
 
-  -- ## formBehind
+  -- ## formAfter
 
   module _ (f : ℕ) where
-    pub formBehind-more : i < length page → getD page i 0 ≡ 7 → formBehind f (drop i page) ≡ formBehind (negatedForm f) (drop (i + 1) page)
-    formBehind-more h e = rw (add-one i, drop-cons page i 0 h, eq-eqb (getD page i 0) 7 e)
+    pub formAfter-more : i < length page → getD page i 0 ≡ 7 → formAfter f (drop i page) ≡ formAfter (negatedForm f) (drop (i + 1) page)
+    formAfter-more h e = rw (add-one i, drop-cons page i 0 h, eq-eqb (getD page i 0) 7 e)
 
-    pub formBehind-stop : i < length page → (getD page i 0 ≡ 7 → ⊥) → formBehind f (drop i page) ≡ f
-    formBehind-stop h e = rw (drop-cons page i 0 h, ne-eqb (getD page i 0) 7 e)
+    pub formAfter-stop : i < length page → (getD page i 0 ≡ 7 → ⊥) → formAfter f (drop i page) ≡ f
+    formAfter-stop h e = rw (drop-cons page i 0 h, ne-eqb (getD page i 0) 7 e)
 
-    pub formBehind-end : length page ≤ i → formBehind f (drop i page) ≡ f
-    formBehind-end h = ap (formBehind f) (drop-of-length-le page {i = i} h)
+    pub formAfter-end : length page ≤ i → formAfter f (drop i page) ≡ f
+    formAfter-end h = ap (formAfter f) (drop-of-length-le page {i = i} h)

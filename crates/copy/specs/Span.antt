@@ -10,7 +10,7 @@ use Rattle.page.specs.Bytes.{all}
 use Rattle.page.specs.Read.{got}
 use Rattle.records.specs.Code.{isSetOperator}
 use Rattle.records.specs.Record.{Record, readRecord}
-use Rattle.copy.specs.Piece.{pieceOf, setCardinality}
+use Rattle.copy.specs.RecordCopy.{recordCopy, setCardinality}
 
 -- a record that reaches from `start` to `next`
 pub record Spans (page : List ℕ) (start next : ℕ) : Type 0 where
@@ -22,7 +22,7 @@ pub record Spans (page : List ℕ) (start next : ℕ) : Type 0 where
 -- such a record, and a buffer with room for its piece from `at` on
 pub record Placing (page out : List ℕ) (start next at : ℕ) : Type 0 where
   pub span : Spans page start next
-  pub room : at + length (pieceOf (drop start page)) ≤ length out
+  pub room : at + length (recordCopy (drop start page)) ≤ length out
 
 -- such a record that is a set operator
 pub record SetOperator (page : List ℕ) (start next : ℕ) : Type 0 where
@@ -30,7 +30,7 @@ pub record SetOperator (page : List ℕ) (start next : ℕ) : Type 0 where
   pub kind : getD page start 0 ≡ 9
   pub set : isSetOperator (getD page (start + 1) 0) ≡ true
 
--- a set operator's modifier is present: behind the code stands no 0
+-- a set operator's modifier is present: after the code stands no 0
 abbrev pub IsPresent : List ℕ → ℕ → Type 0
 IsPresent page start = getD page (start + 2) 0 ≡ 0 → ⊥
 
@@ -38,4 +38,4 @@ IsPresent page start = getD page (start + 2) 0 ≡ 0 → ⊥
 pub record CardinalityAt (page : List ℕ) (start next cut : ℕ) : Type 0 where
   pub behind : start ≤ cut
   pub inside : cut + 1 ≤ next
-  pub piece : pieceOf (drop start page) ≡ join (take (cut - start) (drop start page) ∷ (setCardinality (getD page cut 0) ∷ []) ∷ take (next - (cut + 1)) (drop (cut + 1) page) ∷ [])
+  pub piece : recordCopy (drop start page) ≡ join (take (cut - start) (drop start page) ∷ (setCardinality (getD page cut 0) ∷ []) ∷ take (next - (cut + 1)) (drop (cut + 1) page) ∷ [])

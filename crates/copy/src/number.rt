@@ -1,8 +1,8 @@
-// A number in the copy: its form negated by each unary record behind it, all else as on the page.
+// A number in the copy: its form negated by each unary record after it, all else as on the page.
 ghost use mathlib.Core.Path.{_≡_};
 ghost use lib.ListN.{drop, getD};
 ghost use Rattle.base.specs.Splice.{Wrote};
-ghost use Rattle.copy.specs.Piece.{unaries, negatedForm, formBehind, pieceOf};
+ghost use Rattle.copy.specs.RecordCopy.{unaries, negatedForm, formAfter, recordCopy};
 ghost use Rattle.copy.specs.Span.{Placing};
 
 // How many unary records stand from a position on.
@@ -34,8 +34,8 @@ fn negated_form(form: u8) -> u8
 }
 
 // A form, negated by each unary record from a position on.
-fn form_behind(form: u8, page: &[u8], at: usize) -> u8
-    ensures { λ r. ⌜ r ≡ formBehind form (drop at (now (page .entry))) ⌝ }
+fn form_after(form: u8, page: &[u8], at: usize) -> u8
+    ensures { λ r. ⌜ r ≡ formAfter form (drop at (now (page .entry))) ⌝ }
 {
     let mut negated = form;
     let mut i = at;
@@ -49,13 +49,13 @@ fn form_behind(form: u8, page: &[u8], at: usize) -> u8
     negated
 }
 
-// A number's piece: its kind, its form behind the unary records, and its magnitude as on the page.
+// A number's piece: its kind, its form after the unary records, and its magnitude as on the page.
 pub fn put_number(page: &[u8], start: usize, next: usize, out: &mut [u8], at: usize) -> usize
     requires { ⌜ Placing (now page) (now out) start next at × (getD (now page) start 0 ≡ 0) ⌝ }
-    ensures { λ r. ⌜ Wrote (now (out .entry)) (now (out .exit)) at (pieceOf (drop start (now (page .entry)))) r ⌝ }
+    ensures { λ r. ⌜ Wrote (now (out .entry)) (now (out .exit)) at (recordCopy (drop start (now (page .entry)))) r ⌝ }
 {
     let kind = page::put_byte(0, out, at);
-    let form = page::put_byte(form_behind(page[start + 1], page, next), out, kind);
+    let form = page::put_byte(form_after(page[start + 1], page, next), out, kind);
     let magnitude = start + 2;
     page::put_bytes(&page[magnitude..next], out, form)
 }

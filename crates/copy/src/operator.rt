@@ -1,12 +1,12 @@
 // A binary record in the copy: a set operator (`and`, `or`, `unless`) whose modifier is absent or one-to-one becomes many-to-many.
-use judge::code::is_set_operator;
 use page::put_byte;
 use page::put_bytes;
+use rules::code::is_set_operator;
 ghost use mathlib.Core.Path.{_≡_};
 ghost use Prim.Native.Nat.{_+_};
 ghost use lib.ListN.{drop, getD};
 ghost use Rattle.base.specs.Splice.{Wrote};
-ghost use Rattle.copy.specs.Piece.{setCardinality, pieceOf};
+ghost use Rattle.copy.specs.RecordCopy.{setCardinality, recordCopy};
 ghost use Rattle.copy.specs.Span.{Placing, SetOperator, IsPresent, CardinalityAt};
 
 // An absent modifier, written out: present, no bool, no matching, many-to-many, no fills.
@@ -21,7 +21,7 @@ fn set_cardinality(form: u8) -> u8
     form
 }
 
-// Where the cardinality stands: behind kind, code, the mark of the modifier, bool and matching.
+// Where the cardinality stands: after kind, code, the mark of the modifier, bool and matching.
 fn cardinality_at(page: &[u8], start: usize, next: usize) -> usize
     requires { ⌜ SetOperator (now page) start next × IsPresent (now page) start ⌝ }
     ensures { λ r. ⌜ CardinalityAt (now (page .entry)) start next r ⌝ }
@@ -35,7 +35,7 @@ fn cardinality_at(page: &[u8], start: usize, next: usize) -> usize
 
 fn put_absent(page: &[u8], start: usize, next: usize, out: &mut [u8], at: usize) -> usize
     requires { ⌜ Placing (now page) (now out) start next at × SetOperator (now page) start next × (getD (now page) (start + 2) 0 ≡ 0) ⌝ }
-    ensures { λ r. ⌜ Wrote (now (out .entry)) (now (out .exit)) at (pieceOf (drop start (now (page .entry)))) r ⌝ }
+    ensures { λ r. ⌜ Wrote (now (out .entry)) (now (out .exit)) at (recordCopy (drop start (now (page .entry)))) r ⌝ }
 {
     let modifier = start + 2;
     let written = put_bytes(&page[start..modifier], out, at);
@@ -44,7 +44,7 @@ fn put_absent(page: &[u8], start: usize, next: usize, out: &mut [u8], at: usize)
 
 fn put_present(page: &[u8], start: usize, next: usize, out: &mut [u8], at: usize) -> usize
     requires { ⌜ Placing (now page) (now out) start next at × SetOperator (now page) start next × IsPresent (now page) start ⌝ }
-    ensures { λ r. ⌜ Wrote (now (out .entry)) (now (out .exit)) at (pieceOf (drop start (now (page .entry)))) r ⌝ }
+    ensures { λ r. ⌜ Wrote (now (out .entry)) (now (out .exit)) at (recordCopy (drop start (now (page .entry)))) r ⌝ }
 {
     let cut = cardinality_at(page, start, next);
     let form = put_bytes(&page[start..cut], out, at);
@@ -56,7 +56,7 @@ fn put_present(page: &[u8], start: usize, next: usize, out: &mut [u8], at: usize
 // A binary record's piece.
 pub fn put_operator(page: &[u8], start: usize, next: usize, out: &mut [u8], at: usize) -> usize
     requires { ⌜ Placing (now page) (now out) start next at × (getD (now page) start 0 ≡ 9) ⌝ }
-    ensures { λ r. ⌜ Wrote (now (out .entry)) (now (out .exit)) at (pieceOf (drop start (now (page .entry)))) r ⌝ }
+    ensures { λ r. ⌜ Wrote (now (out .entry)) (now (out .exit)) at (recordCopy (drop start (now (page .entry)))) r ⌝ }
 {
     if is_set_operator(page[start + 1] as u64) {
         if page[start + 2] == 0 {

@@ -1,7 +1,7 @@
 // The whole copy, from record to record by their starts: whether it fits, tested before a byte is written, and its bytes.
 use crate::piece::absorbed_by;
-use crate::piece::piece_len;
-use crate::piece::put_piece;
+use crate::piece::put_record;
+use crate::piece::record_len;
 ghost use mathlib.Core.Path.{_≡_};
 ghost use Prim.Native.Nat.{_≤_, _<_};
 ghost use lib.ListN.{length, getD};
@@ -33,7 +33,7 @@ pub fn copy_fits(page: &[u8], starts: &[u16], n: usize, room: usize) -> bool
     while i < n {
         let start = starts[i] as usize;
         let next = end_of(page, starts, n, i);
-        let size = piece_len(page, start, next);
+        let size = record_len(page, start, next);
         if left < size {
             return false;
         }
@@ -55,7 +55,7 @@ pub fn put_copy(page: &[u8], starts: &[u16], n: usize, out: &mut [u8]) -> usize
         let start = starts[i] as usize;
         let next = end_of(page, starts, n, i);
         let taken = absorbed_by(page, start, next);
-        at = put_piece(page, start, next, out, at);
+        at = put_record(page, start, next, out, at);
         i = i + 1 + taken;
     }
     at

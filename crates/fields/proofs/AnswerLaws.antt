@@ -15,7 +15,7 @@ use Rattle.records.specs.Modifier.{LabelModifier, include, exclude, Cardinality
 use Rattle.records.specs.Time.{Times}
 use Rattle.records.specs.Record.{string, selector, Wrapper, leaf, wrapper, binary}
 use Rattle.text.specs.Display.{displayOperator, displayAggregator}
-use Rattle.text.specs.Seen.{Reads}
+use Rattle.text.specs.LaidOut.{Reads}
 use Rattle.text.proofs.EntryLaws.{wrapped}
 use Rattle.fields.specs.Fields.{CallAt, AggregateAt}
 use Rattle.view.specs.View.{Starts, kindOf, NumberAt, Sets, setsNothing, setsRange, setsAt, setsOffset}
@@ -69,35 +69,35 @@ module _ {page starts : List ℕ} {i : ℕ} (s : Starts page starts (suc i)) whe
     same-kind : kindOf (wrapper v) ≡ kindOf (wrapper w)
     same-kind = ap (λ (x : Wrapper). kindOf (wrapper x)) same-wrapper
 
-  parts-same : {j k : ℕ} {n m : Option ℕ} {t u : Times} → j ≡ k → Sets page starts i j n t → Sets page starts i k m u → (n ≡ m) × (t ≡ u)
-  parts-same e setsNothing setsNothing = (refl, refl)
-  parts-same e setsNothing (setsRange r y) = absurd (passes e r y)
-  parts-same e setsNothing (setsAt r y) = absurd (passes e r y)
-  parts-same e setsNothing (setsOffset r y) = absurd (passes e r y)
-  parts-same e (setsRange q x) setsNothing = absurd (passes (sym e) q x)
-  parts-same e (setsAt q x) setsNothing = absurd (passes (sym e) q x)
-  parts-same e (setsOffset q x) setsNothing = absurd (passes (sym e) q x)
-  parts-same e (setsRange q x) (setsRange r y) =
+  attached-same : {j k : ℕ} {n m : Option ℕ} {t u : Times} → j ≡ k → Sets page starts i j n t → Sets page starts i k m u → (n ≡ m) × (t ≡ u)
+  attached-same e setsNothing setsNothing = (refl, refl)
+  attached-same e setsNothing (setsRange r y) = absurd (passes e r y)
+  attached-same e setsNothing (setsAt r y) = absurd (passes e r y)
+  attached-same e setsNothing (setsOffset r y) = absurd (passes e r y)
+  attached-same e (setsRange q x) setsNothing = absurd (passes (sym e) q x)
+  attached-same e (setsAt q x) setsNothing = absurd (passes (sym e) q x)
+  attached-same e (setsOffset q x) setsNothing = absurd (passes (sym e) q x)
+  attached-same e (setsRange q x) (setsRange r y) =
       let h = same-wrapper e q x r y in
-      let more = parts-same (same-record e q x r y) x y in
+      let more = attached-same (same-record e q x r y) x y in
       (cc, more .1)
-  parts-same e (setsRange q x) (setsAt r y) = absurd (omega (arith, same-kind e q x r y))
-  parts-same e (setsRange q x) (setsOffset r y) = absurd (omega (arith, same-kind e q x r y))
-  parts-same e (setsAt q x) (setsRange r y) = absurd (omega (arith, same-kind e q x r y))
-  parts-same e (setsAt q x) (setsAt r y) =
+  attached-same e (setsRange q x) (setsAt r y) = absurd (omega (arith, same-kind e q x r y))
+  attached-same e (setsRange q x) (setsOffset r y) = absurd (omega (arith, same-kind e q x r y))
+  attached-same e (setsAt q x) (setsRange r y) = absurd (omega (arith, same-kind e q x r y))
+  attached-same e (setsAt q x) (setsAt r y) =
       let h = same-wrapper e q x r y in
-      let more = parts-same (same-record e q x r y) x y in
+      let more = attached-same (same-record e q x r y) x y in
       (more .0, cc)
-  parts-same e (setsAt q x) (setsOffset r y) = absurd (omega (arith, same-kind e q x r y))
-  parts-same e (setsOffset q x) (setsRange r y) = absurd (omega (arith, same-kind e q x r y))
-  parts-same e (setsOffset q x) (setsAt r y) = absurd (omega (arith, same-kind e q x r y))
-  parts-same e (setsOffset q x) (setsOffset r y) =
+  attached-same e (setsAt q x) (setsOffset r y) = absurd (omega (arith, same-kind e q x r y))
+  attached-same e (setsOffset q x) (setsRange r y) = absurd (omega (arith, same-kind e q x r y))
+  attached-same e (setsOffset q x) (setsAt r y) = absurd (omega (arith, same-kind e q x r y))
+  attached-same e (setsOffset q x) (setsOffset r y) =
       let h = same-wrapper e q x r y in
-      let more = parts-same (same-record e q x r y) x y in
+      let more = attached-same (same-record e q x r y) x y in
       (more .0, cc)
 
-  pub parts-one : {j : ℕ} {n m : Option ℕ} {t u : Times} → Sets page starts i j n t → Sets page starts i j m u → (n ≡ m) × (t ≡ u)
-  parts-one = parts-same refl
+  pub attached-one : {j : ℕ} {n m : Option ℕ} {t u : Times} → Sets page starts i j n t → Sets page starts i j m u → (n ≡ m) × (t ≡ u)
+  attached-one = attached-same refl
 
 -- ## Fields that print alike, and are not taken for one another
 

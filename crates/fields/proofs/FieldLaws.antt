@@ -1,4 +1,4 @@
--- What is read behind the kind of a node's foot, field by field. The fields that are not asked for are not read: the
+-- What is read after the kind of a node's foot, field by field. The fields that are not asked for are not read: the
 -- record of the tables has them (`readable`).
 use Prim.Native.Nat.{ℕ, suc, _+_, _<_}
 use native.Mathlib.Omega.{arith}
@@ -26,7 +26,7 @@ use Rattle.float.specs.Fills.{FillExact}
 use Rattle.float.specs.Exact.{ModifierExact}
 use Rattle.ast.specs.Expr.{scalarValue}
 use Rattle.ast.specs.Tables.{treeAt}
-use Rattle.text.specs.Seen.{Reads}
+use Rattle.text.specs.LaidOut.{Reads}
 use Rattle.text.proofs.SoundLaws.{allowed}
 use Rattle.fields.specs.Fields.{CallAt, AggregateAt}
 use Rattle.view.specs.View.{Starts, FootAt, NodeAt}
@@ -41,7 +41,7 @@ use Rattle.view.proofs.ChainedLaws.{chained-here}
 abbrev recordAt : List ℕ → List ℕ → ℕ → List ℕ
 recordAt page starts i = drop (getD starts i 0) page
 
--- those behind its kind
+-- those after its kind
 abbrev fieldsAt : List ℕ → List ℕ → ℕ → List ℕ
 fieldsAt page starts i = drop (getD starts i 0 + 1) page
 

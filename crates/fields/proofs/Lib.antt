@@ -1,3 +1,3 @@
 pub mod FieldLaws
-pub mod PartLaws
+pub mod AttachedLaws
 pub mod AnswerLaws

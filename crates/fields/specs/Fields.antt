@@ -17,9 +17,9 @@ use Rattle.records.specs.Signature.{Function}
 use Rattle.records.specs.Record.{aggregate, call}
 use Rattle.records.specs.Answers.{matchersOn}
 use Rattle.reader.specs.declared.Selector.{Selector}
-use Rattle.text.specs.Seen.{Reads}
+use Rattle.text.specs.LaidOut.{Reads}
 
--- record i is a call, and this part of the page its function's name: behind it stand the kinds that are declared
+-- record i is a call, and this part of the page its function's name: after it stand the kinds that are declared
 pub record CallAt (page starts : List ℕ) (i : ℕ) (name : Span) : Type 0 where
   pub function : Function
   pub count : ℕ

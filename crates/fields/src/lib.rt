@@ -1,19 +1,19 @@
-// What a node's text shows of its records, read where they stand: the fields of the record at its foot, and the parts above it.
-pub mod parts;
+// What a node's text shows of its records, read where they stand: the fields of the record at its foot, and the attached above it.
+pub mod attached;
 
-pub use parts::Parts;
-pub use parts::parts_of;
-use records::Step;
+pub use attached::Attached;
+pub use attached::attached_of;
+use records::OptionalDuration;
 use view::Foot;
 use view::Node;
 ghost use mathlib.Core.Path.{_≡_};
 ghost use mathlib.Core.Bool.{false};
 ghost use Rattle.page.specs.Answers.{spanOn, Lies};
-ghost use Rattle.records.specs.Answers.{literalOf, stepOf, modifierOn, ModifierStored, labelModifierOn, LabelModifierStored};
+ghost use Rattle.records.specs.Answers.{literalOf, optionalDurationOf, modifierOn, ModifierStored, labelModifierOn, LabelModifierStored};
 ghost use Rattle.records.specs.Record.{leaf, string, selector, wrapper, subquery, binary};
 ghost use Rattle.float.specs.Exact.{ModifierExact};
 ghost use Rattle.reader.specs.Answers.{selectorOn};
-ghost use Rattle.text.specs.Seen.{Reads};
+ghost use Rattle.text.specs.LaidOut.{Reads};
 ghost use Rattle.view.specs.View.{NumberAt, NodeAt};
 ghost use Rattle.fields.specs.Fields.{CallAt, AggregateAt, SelectorLies};
 
@@ -97,29 +97,29 @@ pub fn selector_of(page: &[u8], starts: &[u16], node: Node) -> reader::Selector
 // Range and step of a subquery.
 pub struct Spacing {
     pub range: u64,
-    pub step: Step,
+    pub step: OptionalDuration,
 }
 
 pub fn spacing_of(page: &[u8], starts: &[u16], node: Node) -> Spacing
     requires { ⌜ NodeAt (now page) (now starts) node ⌝ }
     requires { ⌜ node .foot ≡ Foot.Subquery ⌝ }
-    ensures { λ r. ⌜ Reads (now (page .entry)) (now (starts .entry)) (node .base) (wrapper (subquery (r .range) (stepOf (r .step)))) ⌝ }
+    ensures { λ r. ⌜ Reads (now (page .entry)) (now (starts .entry)) (node .base) (wrapper (subquery (r .range) (optionalDurationOf (r .step)))) ⌝ }
 {
     let start = view::fields_start(starts, node.base);
     match page::read_number(page, start) {
-        page::Number::Got(range, next) => match records::read_step(page, next) {
-            records::StepField::Got(step, _) => Spacing {
+        page::Number::Got(range, next) => match records::read_optional_duration(page, next) {
+            records::OptionalDurationField::Got(step, _) => Spacing {
                 range: range,
                 step: step,
             },
-            records::StepField::Bad => Spacing {
+            records::OptionalDurationField::Bad => Spacing {
                 range: 0,
-                step: Step::None,
+                step: OptionalDuration::None,
             },
         },
         page::Number::Bad => Spacing {
             range: 0,
-            step: Step::None,
+            step: OptionalDuration::None,
         },
     }
 }

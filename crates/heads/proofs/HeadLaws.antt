@@ -19,7 +19,7 @@ use Rattle.records.specs.declared.modifier.BinModifier.{BinModifier as CodeModi
 use Rattle.float.specs.Exact.{FillsExact, ModifierExact}
 use Rattle.label.specs.Label.{displayMatchers}
 use Rattle.text.specs.Display.{displayBool, displayMatching, displayCardinality, displayFills, displayModifier, displayOperator, displayGrouping, displayAggregator, displayBraces, displaySelector}
-use Rattle.words.proofs.LabelledLaws.{four, never, none-listed, some-listed}
+use Rattle.tokens.proofs.LabelledLaws.{four, never, none-listed, some-listed}
 
 -- ## displayModifier
 

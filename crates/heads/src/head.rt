@@ -1,21 +1,21 @@
 // Operators with their modifier (ast.rs, `get_op_matching_string`) and aggregators with their grouping (`get_op_string`).
 use float::FillValues;
 use float::fill_values;
+use leaves::capped_add;
 use page::put_bytes;
 use records::BinModifier;
 use records::LabelModifier;
 use records::Modifier;
-use util::capped_add;
-use words::cardinality_len;
-use words::fills_len;
-use words::grouping_len;
-use words::matching_len;
-use words::put_cardinality;
-use words::put_fills;
-use words::put_grouping;
-use words::put_matching;
-use words::put_word;
-use words::word_len;
+use tokens::cardinality_len;
+use tokens::fills_len;
+use tokens::grouping_len;
+use tokens::matching_len;
+use tokens::put_cardinality;
+use tokens::put_fills;
+use tokens::put_grouping;
+use tokens::put_matching;
+use tokens::put_token;
+use tokens::token_len;
 ghost use mathlib.Core.Path.{_≡_};
 ghost use Prim.Native.Nat.{_+_, _≤_, min};
 ghost use lib.ListN.{length};
@@ -86,7 +86,7 @@ pub fn operator_len(page: &[u8], code: u64, modifier: Modifier, cap: usize) -> u
     requires { ⌜ ModifierExact (modifierOn (now page) modifier) ⌝ }
     ensures { λ r. ⌜ r ≡ min (length (displayOperator code (modifierOn (now (page .entry)) modifier))) cap ⌝ }
 {
-    let word = word_len(code);
+    let word = token_len(code);
     match modifier {
         Modifier::None => capped_add(word, 0, cap),
         Modifier::Some(own) => {
@@ -105,12 +105,12 @@ pub fn put_operator(page: &[u8], code: u64, modifier: Modifier, out: &mut [u8], 
     ensures { λ r. ⌜ Wrote (now (out .entry)) (now (out .exit)) at (displayOperator code (modifierOn (now (page .entry)) modifier)) r ⌝ }
 {
     match modifier {
-        Modifier::None => put_word(code, out, at),
+        Modifier::None => put_token(code, out, at),
         Modifier::Some(own) => {
             let lhs = own.lhs;
             let rhs = own.rhs;
             let values = fill_values(lhs, rhs);
-            let behind = put_word(code, out, at);
+            let behind = put_token(code, out, at);
             put_modifier(page, own, values, out, behind)
         }
     }
@@ -120,7 +120,7 @@ pub fn aggregator_len(page: &[u8], code: u64, grouping: LabelModifier, cap: usiz
     requires { ⌜ LabelModifierStored (now page) grouping ⌝ }
     ensures { λ r. ⌜ r ≡ min (length (displayAggregator code (labelModifierOn (now (page .entry)) grouping))) cap ⌝ }
 {
-    let word = word_len(code);
+    let word = token_len(code);
     capped_add(word, grouping_len(page, grouping, cap), cap)
 }
 
@@ -135,6 +135,6 @@ pub fn put_aggregator(
     requires { ⌜ at + length (displayAggregator code (labelModifierOn (now page) grouping)) ≤ length (now out) ⌝ }
     ensures { λ r. ⌜ Wrote (now (out .entry)) (now (out .exit)) at (displayAggregator code (labelModifierOn (now (page .entry)) grouping)) r ⌝ }
 {
-    let behind = put_word(code, out, at);
+    let behind = put_token(code, out, at);
     put_grouping(page, grouping, out, behind)
 }

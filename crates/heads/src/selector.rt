@@ -1,11 +1,11 @@
 // Selectors (ast.rs, `VectorSelector`): the name, and the matchers in braces where there are any.
 use label::matchers_len;
 use label::put_matchers;
+use leaves::capped_add;
 use page::put_byte;
 use page::put_bytes;
 use page::text_at;
 use reader::Selector;
-use util::capped_add;
 ghost use mathlib.Core.Path.{_≡_};
 ghost use Prim.Native.Nat.{_+_, _≤_, min};
 ghost use lib.ListN.{length, drop};

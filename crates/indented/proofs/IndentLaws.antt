@@ -30,8 +30,8 @@ length-indent (suc level) = two (length-indent level)
     two : length (indent level) ≡ level * 2 → suc (suc (length (indent level))) ≡ suc level * 2
     two e = omega arith
 
-pub indented-len : (mark : Bool) (level cap r : ℕ) → mark ≡ true → r ≡ min (0 + level * 2) cap → r ≡ min (length (indentIf mark level)) cap
-indented-len mark level cap r m e = rw m (e ∙ ap (λ (n : ℕ). min n cap) (zero-add (level * 2) ∙ sym (length-indent level)))
+pub indented-len : (indents : Bool) (level cap r : ℕ) → indents ≡ true → r ≡ min (0 + level * 2) cap → r ≡ min (length (indentIf indents level)) cap
+indented-len indents level cap r m e = rw m (e ∙ ap (λ (n : ℕ). min n cap) (zero-add (level * 2) ∙ sym (length-indent level)))
 
 -- ## Pieces
 

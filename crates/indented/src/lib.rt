@@ -1,4 +1,4 @@
-// What a node longer than a line writes of its own, by its form: before its operands' texts, between each two and behind them, with
+// What a node longer than a line writes of its own, by its form: before its operands' texts, between each two and after them, with
 // line feeds and two spaces a level. Lengths are capped.
 use pieces::head_len;
 use pieces::operator_len;
@@ -17,12 +17,12 @@ ghost use Rattle.text.specs.Pretty.{indent};
 ghost use Rattle.text.specs.Layout.{head, indentIf, frontAt, betweenAt, rearAt};
 ghost use Rattle.view.specs.View.{NodeAt, layoutAt};
 
-pub fn indent_len(mark: bool, level: usize, cap: usize) -> usize
+pub fn indent_len(indents: bool, level: usize, cap: usize) -> usize
     requires { ⌜ level ≤ 256 ⌝ }
-    ensures { λ r. ⌜ r ≡ min (length (indentIf mark level)) cap ⌝ }
+    ensures { λ r. ⌜ r ≡ min (length (indentIf indents level)) cap ⌝ }
 {
-    if mark {
-        return util::capped_add(0, level * 2, cap);
+    if indents {
+        return leaves::capped_add(0, level * 2, cap);
     }
     0
 }
@@ -39,23 +39,30 @@ fn put_spaces(level: usize, out: &mut [u8], at: usize) -> usize
     put_spaces(level - 1, out, next)
 }
 
-pub fn put_indent(mark: bool, level: usize, out: &mut [u8], at: usize) -> usize
-    requires { ⌜ at + length (indentIf mark level) ≤ length (now out) ⌝ }
-    ensures { λ r. ⌜ Wrote (now (out .entry)) (now (out .exit)) at (indentIf mark level) r ⌝ }
+pub fn put_indent(indents: bool, level: usize, out: &mut [u8], at: usize) -> usize
+    requires { ⌜ at + length (indentIf indents level) ≤ length (now out) ⌝ }
+    ensures { λ r. ⌜ Wrote (now (out .entry)) (now (out .exit)) at (indentIf indents level) r ⌝ }
 {
-    if mark {
+    if indents {
         return put_spaces(level, out, at);
     }
     at
 }
 
 // The indentation and the head.
-fn led_len(page: &[u8], starts: &[u16], node: Node, mark: bool, level: usize, cap: usize) -> usize
+fn led_len(
+    page: &[u8],
+    starts: &[u16],
+    node: Node,
+    indents: bool,
+    level: usize,
+    cap: usize,
+) -> usize
     requires { ⌜ NodeAt (now page) (now starts) node ⌝ }
     requires { ⌜ level ≤ 256 ⌝ }
-    ensures { λ r. ⌜ r ≡ min (length (indentIf mark level ++ head (layoutAt (now (page .entry)) node))) cap ⌝ }
+    ensures { λ r. ⌜ r ≡ min (length (indentIf indents level ++ head (layoutAt (now (page .entry)) node))) cap ⌝ }
 {
-    let lead = indent_len(mark, level, cap);
+    let lead = indent_len(indents, level, cap);
     lead + head_len(page, starts, node, cap - lead)
 }
 
@@ -63,16 +70,16 @@ fn put_led(
     page: &[u8],
     starts: &[u16],
     node: Node,
-    mark: bool,
+    indents: bool,
     level: usize,
     out: &mut [u8],
     at: usize,
 ) -> usize
     requires { ⌜ NodeAt (now page) (now starts) node ⌝ }
-    requires { ⌜ at + length (indentIf mark level ++ head (layoutAt (now page) node)) ≤ length (now out) ⌝ }
-    ensures { λ r. ⌜ Wrote (now (out .entry)) (now (out .exit)) at (indentIf mark level ++ head (layoutAt (now (page .entry)) node)) r ⌝ }
+    requires { ⌜ at + length (indentIf indents level ++ head (layoutAt (now page) node)) ≤ length (now out) ⌝ }
+    ensures { λ r. ⌜ Wrote (now (out .entry)) (now (out .exit)) at (indentIf indents level ++ head (layoutAt (now (page .entry)) node)) r ⌝ }
 {
-    let next = put_indent(mark, level, out, at);
+    let next = put_indent(indents, level, out, at);
     put_head(page, starts, node, out, next)
 }
 
@@ -80,19 +87,23 @@ pub fn front_at_len(
     page: &[u8],
     starts: &[u16],
     node: Node,
-    mark: bool,
+    indents: bool,
     level: usize,
     cap: usize,
 ) -> usize
     requires { ⌜ NodeAt (now page) (now starts) node ⌝ }
     requires { ⌜ level ≤ 256 ⌝ }
-    ensures { λ r. ⌜ r ≡ min (length (frontAt mark level (layoutAt (now (page .entry)) node))) cap ⌝ }
+    ensures { λ r. ⌜ r ≡ min (length (frontAt indents level (layoutAt (now (page .entry)) node))) cap ⌝ }
 {
     match view::form_of(node) {
-        Form::Whole => led_len(page, starts, node, mark, level, cap),
-        Form::Minus => led_len(page, starts, node, mark, level, cap),
+        Form::Whole => led_len(page, starts, node, indents, level, cap),
+        Form::Minus => led_len(page, starts, node, indents, level, cap),
         Form::Suffixed => 0,
-        Form::Enclosed => util::capped_add(led_len(page, starts, node, mark, level, cap), 2, cap),
+        Form::Enclosed => leaves::capped_add(
+            led_len(page, starts, node, indents, level, cap),
+            2,
+            cap,
+        ),
         Form::Infixed => 0,
     }
 }
@@ -106,10 +117,10 @@ pub fn between_at_len(page: &[u8], starts: &[u16], node: Node, level: usize, cap
         Form::Whole => 0,
         Form::Minus => 0,
         Form::Suffixed => 0,
-        Form::Enclosed => util::capped_add(0, 2, cap),
+        Form::Enclosed => leaves::capped_add(0, 2, cap),
         Form::Infixed => {
             let lead = indent_len(true, level, cap);
-            util::capped_add(lead + operator_len(page, starts, node, cap - lead), 2, cap)
+            leaves::capped_add(lead + operator_len(page, starts, node, cap - lead), 2, cap)
         }
     }
 }
@@ -123,7 +134,7 @@ pub fn rear_at_len(page: &[u8], starts: &[u16], node: Node, level: usize, cap: u
         Form::Whole => 0,
         Form::Minus => 0,
         Form::Suffixed => suffix_len(page, starts, node, cap),
-        Form::Enclosed => util::capped_add(indent_len(true, level, cap), 2, cap),
+        Form::Enclosed => leaves::capped_add(indent_len(true, level, cap), 2, cap),
         Form::Infixed => 0,
     }
 }
@@ -132,21 +143,21 @@ pub fn put_front_at(
     page: &[u8],
     starts: &[u16],
     node: Node,
-    mark: bool,
+    indents: bool,
     level: usize,
     out: &mut [u8],
     at: usize,
 ) -> usize
     requires { ⌜ NodeAt (now page) (now starts) node ⌝ }
-    requires { ⌜ at + length (frontAt mark level (layoutAt (now page) node)) ≤ length (now out) ⌝ }
-    ensures { λ r. ⌜ Wrote (now (out .entry)) (now (out .exit)) at (frontAt mark level (layoutAt (now (page .entry)) node)) r ⌝ }
+    requires { ⌜ at + length (frontAt indents level (layoutAt (now page) node)) ≤ length (now out) ⌝ }
+    ensures { λ r. ⌜ Wrote (now (out .entry)) (now (out .exit)) at (frontAt indents level (layoutAt (now (page .entry)) node)) r ⌝ }
 {
     match view::form_of(node) {
-        Form::Whole => put_led(page, starts, node, mark, level, out, at),
-        Form::Minus => put_led(page, starts, node, mark, level, out, at),
+        Form::Whole => put_led(page, starts, node, indents, level, out, at),
+        Form::Minus => put_led(page, starts, node, indents, level, out, at),
         Form::Suffixed => at,
         Form::Enclosed => {
-            let next = put_led(page, starts, node, mark, level, out, at);
+            let next = put_led(page, starts, node, indents, level, out, at);
             page::put_bytes(b"(\n", out, next)
         }
         Form::Infixed => at,

@@ -4,7 +4,7 @@ ghost use Prim.Native.Nat.{_<_};
 ghost use mathlib.Core.Path.{_≡_};
 ghost use mathlib.Core.List.{[], _∷_};
 ghost use Rattle.input.specs.Number.{lowestFirst};
-ghost use Rattle.input.specs.Part.{PartRead};
+ghost use Rattle.input.specs.Block.{BlockRead};
 
 fn wide(b: u8) -> u64
     ensures { λ r. ⌜ (r ≡ b) × (r < 256) ⌝ }
@@ -20,31 +20,31 @@ pub fn number_of(a: u8, b: u8, c: u8, d: u8) -> u64
 }
 
 // A part of so many bytes; the end of the input, before a part begins; or no part: the input ends inside it, or it is larger than the buffer.
-pub enum Part {
+pub enum Block {
     Got(usize),
     End,
     Bad,
 }
 
 // A length of four bytes, and so many bytes into the buffer.
-pub fn read_part(buffer: &mut [u8]) -> Part
-    ensures { λ r. ⌜ PartRead (now (buffer .entry)) (now (buffer .exit)) r ⌝ }
+pub fn read_block(buffer: &mut [u8]) -> Block
+    ensures { λ r. ⌜ BlockRead (now (buffer .entry)) (now (buffer .exit)) r ⌝ }
 {
     let mut bytes = [0u8; 4];
     let got = io::read_full(0, &mut bytes);
     if got == 0 {
-        return Part::End;
+        return Block::End;
     }
     if got < 4 {
-        return Part::Bad;
+        return Block::Bad;
     }
     let size = number_of(bytes[0], bytes[1], bytes[2], bytes[3]) as usize;
     if buffer.len() < size {
-        return Part::Bad;
+        return Block::Bad;
     }
     let read = io::read_full(0, &mut buffer[..size]);
     if read < size {
-        return Part::Bad;
+        return Block::Bad;
     }
-    Part::Got(size)
+    Block::Got(size)
 }

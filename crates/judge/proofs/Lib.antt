@@ -1,3 +1,4 @@
-pub mod StackLaws
-pub mod CodeLaws
-pub mod AggregateLaws
+pub mod ModifierLaws
+pub mod DeclaredLaws
+pub mod CallLaws
+pub mod RecordLaws

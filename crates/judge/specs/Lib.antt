@@ -1,3 +1,2 @@
-pub mod Answers
-pub mod Stack
-pub mod Marks
+pub mod Call
+pub mod Judgeable

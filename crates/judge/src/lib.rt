@@ -1,12 +1,8 @@
-// The refusal table on nodes: what a record asks of its operands, and what it puts back (ast.rs, constructors and `check_ast`).
-pub mod aggregate;
-pub mod binary;
-pub mod code;
-pub mod kind;
-pub mod node;
-pub mod refusal;
-pub mod wrapper;
-
-pub use node::Node;
-pub use refusal::Refusal;
-pub use refusal::Verdict;
+// The refusal table on records: judges that read the page again, for labels, matchers and declared kinds.
+pub mod call;
+pub mod declared;
+pub mod exempt;
+pub mod label;
+pub mod modifier;
+pub mod record;
+pub mod selector;

@@ -12,22 +12,22 @@ use Rattle.page.specs.Text.{Text, isLabel}
 use Rattle.page.specs.Listed.{listed}
 use Rattle.page.specs.Answers.{spanOn}
 use Rattle.page.proofs.ListLaws.{listed-more, listed-none}
-use Rattle.util.specs.Escape.{quote}
+use Rattle.leaves.specs.Escape.{quote}
 use Rattle.records.specs.Matcher.{MatchOp, equal, notEqual, re, notRe, Matcher, readMatcher, matchOpNumber}
 use Rattle.page.proofs.ReadBackLaws.{Got}
 use Rattle.records.proofs.AllowedLaws.{readMatcher-gives}
 use Rattle.records.specs.Allowed.{IsMatcher}
 use Rattle.records.specs.Answers.{opOf, matcherOn, MatcherLies}
 use Rattle.records.specs.declared.matcher.Matcher.{Matcher as CodeMatcher}
-use Rattle.label.specs.Label.{displayLabel, matchOpWord, displayMatcher}
-use Rattle.label.specs.Symbols.{operatorWord, matcherText}
+use Rattle.label.specs.Label.{displayLabel, matchOpToken, displayMatcher}
+use Rattle.label.specs.Symbols.{operatorToken, matcherText}
 use Rattle.label.specs.Key.{unpacked, keyText, printedText, IsKey, AreKeys, keyTexts, PrintsAs, Collected}
 use Rattle.label.specs.declared.key.Printed.{Printed}
 
 -- ## displayMatcher
 
-pub operator-word : (o : MatchOp) → operatorWord (matchOpNumber o) ≡ matchOpWord o
-unfolding operatorWord
+pub operator-word : (o : MatchOp) → operatorToken (matchOpNumber o) ≡ matchOpToken o
+unfolding operatorToken
 operator-word equal = refl
 operator-word notEqual = refl
 operator-word (re b) = refl
@@ -41,7 +41,7 @@ operator-small (notRe b) = omega arith
 
 pub displayMatcher-parts : (m : Matcher) → matcherText (m .name) (matchOpNumber (m .op)) (m .value) ≡ displayMatcher m
 unfolding matcherText displayMatcher
-displayMatcher-parts m = rw (operator-word (m .op)) (sym (append-assoc (displayLabel (m .name)) (matchOpWord (m .op)) (quote (m .value))))
+displayMatcher-parts m = rw (operator-word (m .op)) (sym (append-assoc (displayLabel (m .name)) (matchOpToken (m .op)) (quote (m .value))))
 
 -- what `printed` answers: r and o are what `is_label` and `operator_number` answered
 pub prints : (page : List ℕ) (m : CodeMatcher) (u : Text) (r : Bool) (o : ℕ) → MatcherLies page m → IsMatcher (matcherOn page m)

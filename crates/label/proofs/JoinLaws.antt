@@ -13,10 +13,10 @@ use Rattle.page.specs.Read.{got}
 use Rattle.page.specs.Text.{Text}
 use Rattle.page.specs.Listed.{listed}
 use Rattle.page.proofs.ListLaws.{listed-more, listed-none}
-use Rattle.util.specs.Escape.{quote}
+use Rattle.leaves.specs.Escape.{quote}
 use Rattle.records.specs.Matcher.{Matcher, readMatcher, matchOpNumber}
 use Rattle.label.specs.Label.{displayLabel, displayMatcher, atMost, insert, sort, joinedByCommas, moreByCommas, displayMatchers}
-use Rattle.label.specs.Symbols.{operatorWord, matcherText}
+use Rattle.label.specs.Symbols.{operatorToken, matcherText}
 use Rattle.label.specs.Key.{keyText, keyTexts, Collected, Sorts}
 use Rattle.label.proofs.CollectLaws.{displayMatcher-parts}
 
@@ -31,7 +31,7 @@ module _ (page l : List ℕ) where
       first-of [] h = absurd (not-suc-le-zero h)
       first-of (x ∷ l) h = record { is = refl }
 
-  -- the text of key i, and those behind it
+  -- the text of key i, and those after it
   pub textThen : ℕ → List ℕ
   textThen i = keyText page (getD l i 0) ++ moreByCommas (keyTexts page (drop (i + 1) l))
 
@@ -82,11 +82,11 @@ displayMatchers-length ms = joined-length (sort (map displayMatcher ms)) ∙ ap 
 
 -- ## So many matchers from s on: their length up to a cap
 
-pub matcher-length : (m : Matcher) → length (displayMatcher m) ≡ length (displayLabel (m .name)) + length (operatorWord (matchOpNumber (m .op))) + length (quote (m .value))
+pub matcher-length : (m : Matcher) → length (displayMatcher m) ≡ length (displayLabel (m .name)) + length (operatorToken (matchOpNumber (m .op))) + length (quote (m .value))
 unfolding matcherText
 matcher-length m =
     sym (ap length (displayMatcher-parts m))
-    ∙ omega (arith, length-append (displayLabel (m .name)) (operatorWord (matchOpNumber (m .op)) ++ quote (m .value)), length-append (operatorWord (matchOpNumber (m .op))) (quote (m .value)))
+    ∙ omega (arith, length-append (displayLabel (m .name)) (operatorToken (matchOpNumber (m .op)) ++ quote (m .value)), length-append (operatorToken (matchOpNumber (m .op))) (quote (m .value)))
 
 module _ (n : ℕ) (s : List ℕ) where
   pub matchers-none : n ≤ 0 → length (moreByCommas (map displayMatcher (listed readMatcher n s))) ≡ 0
@@ -116,12 +116,12 @@ module _ (n : ℕ) (s : List ℕ) where
 
 -- what `matcher_len` answers: the lengths of the three parts, added up to the cap
 pub matcher-measured : (m : Matcher) (u v : Text) (cap name value op word with sum : ℕ) → u ≡ m .name → name ≡ min (length (displayLabel u)) cap
-    → v ≡ m .value → value ≡ min (length (quote v)) cap → op ≡ matchOpNumber (m .op) → word ≡ length (operatorWord op)
+    → v ≡ m .value → value ≡ min (length (quote v)) cap → op ≡ matchOpNumber (m .op) → word ≡ length (operatorToken op)
     → with ≡ min (name + word) cap → sum ≡ min (with + value) cap → sum ≡ min (length (displayMatcher m)) cap
 matcher-measured m u v cap name value op word with sum eu en ev evalue eop eword ewith esum =
     let a : length (displayLabel u) ≡ length (displayLabel (m .name)) = ap (λ (t : Text). length (displayLabel t)) eu in
     let b : length (quote v) ≡ length (quote (m .value)) = ap (λ (t : Text). length (quote t)) ev in
-    let d : length (operatorWord op) ≡ length (operatorWord (matchOpNumber (m .op))) = ap (λ (n : ℕ). length (operatorWord n)) eop in
+    let d : length (operatorToken op) ≡ length (operatorToken (matchOpNumber (m .op))) = ap (λ (n : ℕ). length (operatorToken n)) eop in
     omega (arith, matcher-length m)
 
 -- ## The keys collected and sorted give what is displayed

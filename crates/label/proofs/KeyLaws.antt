@@ -7,7 +7,7 @@ use mathlib.Core.Path.{_≡_, refl, sym, ap}
 use lib.Dec.{eqb}
 use lib.ListN.{length}
 use Rattle.base.specs.Splice.{join}
-use Rattle.util.specs.Escape.{quote}
+use Rattle.leaves.specs.Escape.{quote}
 use Rattle.page.specs.Bytes.{pick}
 use Rattle.page.specs.Limits.{pageLimit}
 use Rattle.page.specs.Text.{isLabel}
@@ -15,7 +15,7 @@ use Rattle.page.specs.Answers.{spanOn}
 use Rattle.records.proofs.SpanLaws.{span-size}
 use Rattle.label.specs.declared.key.Printed.{Printed}
 use Rattle.label.specs.Label.{displayLabel, atMost}
-use Rattle.label.specs.Symbols.{operatorWord, matcherText}
+use Rattle.label.specs.Symbols.{operatorToken, matcherText}
 use Rattle.label.specs.Key.{unpacked, printedText, keyText, Prints}
 
 -- ## Sizes of parts
@@ -100,6 +100,6 @@ pub keyText-prints : (page : List ℕ) (k : ℕ) (a : Printed) → a ≡ unpacke
 keyText-prints page k a is w = rw is w
 
 pub keyText-pieces : (page : List ℕ) (k : ℕ) (a : Printed) → a ≡ unpacked k
-    → keyText page k ≡ join (displayLabel (spanOn page (a .name)) ∷ operatorWord (a .op) ∷ quote (spanOn page (a .value)) ∷ [])
+    → keyText page k ≡ join (displayLabel (spanOn page (a .name)) ∷ operatorToken (a .op) ∷ quote (spanOn page (a .value)) ∷ [])
 unfolding keyText printedText matcherText join
-keyText-pieces page k a is = rw (← is) (ap (λ (l : List ℕ). displayLabel (spanOn page (a .name)) ++ (operatorWord (a .op) ++ l)) (sym (append-nil (quote (spanOn page (a .value))))))
+keyText-pieces page k a is = rw (← is) (ap (λ (l : List ℕ). displayLabel (spanOn page (a .name)) ++ (operatorToken (a .op) ++ l)) (sym (append-nil (quote (spanOn page (a .value))))))

@@ -10,7 +10,7 @@ use Rattle.page.specs.Read.{got}
 use Rattle.page.specs.Text.{Text, isLabel, readAnyText}
 use Rattle.page.specs.Listed.{listed}
 use Rattle.page.proofs.ListLaws.{listed-more, listed-none}
-use Rattle.util.specs.Escape.{quote}
+use Rattle.leaves.specs.Escape.{quote}
 use Rattle.label.specs.Label.{displayLabel, displayLabels, displayMoreLabels}
 
 -- a count that is not 0
@@ -28,10 +28,10 @@ pub displayLabel-quoted : (t : Text) (r : Bool) → r ≡ isLabel t → r ≡ fa
 unfolding displayLabel
 displayLabel-quoted t r is no· = rw (← is, no·)
 
--- ## displayMoreLabels, displayLabels: so many labels from s on, the first of them t with rest behind it
+-- ## displayMoreLabels, displayLabels: so many labels from s on, the first of them t with rest after it
 
 module _ (n : ℕ) (s : List ℕ) where
-  -- the first label, and those behind it
+  -- the first label, and those after it
   pub labelThen : Text → List ℕ → List ℕ
   labelThen t rest = displayLabel t ++ displayMoreLabels (listed readAnyText (n - 1) rest)
 

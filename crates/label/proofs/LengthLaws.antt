@@ -10,10 +10,10 @@ use Rattle.page.specs.Number.{writeNumber}
 use Rattle.page.specs.Text.{Text, isLabel, writeText, writeAll}
 use Rattle.page.proofs.LengthLaws.{writeText-some}
 use Rattle.records.specs.Field.{Labels, writeLabels}
-use Rattle.records.specs.Matcher.{MatchOp, equal, notEqual, re, notRe, Matcher, matchOpNumber, writeMark, writeMatcher}
-use Rattle.util.specs.Escape.{quote}
-use Rattle.util.proofs.LengthLaws.{quote-short}
-use Rattle.label.specs.Label.{displayLabel, displayLabels, displayMoreLabels, matchOpWord, displayMatcher, moreByCommas, displayMatchers}
+use Rattle.records.specs.Matcher.{MatchOp, equal, notEqual, re, notRe, Matcher, matchOpNumber, writePatternFlag, writeMatcher}
+use Rattle.leaves.specs.Escape.{quote}
+use Rattle.leaves.proofs.LengthLaws.{quote-short}
+use Rattle.label.specs.Label.{displayLabel, displayLabels, displayMoreLabels, matchOpToken, displayMatcher, moreByCommas, displayMatchers}
 use Rattle.label.proofs.JoinLaws.{more-length, displayMatchers-length}
 
 -- ## Labels
@@ -50,23 +50,23 @@ displayLabels-short ls = omega (arith, displayLabels-more ls, displayMoreLabels-
 
 -- ## Matchers
 
-matchOpWord-short : (o : MatchOp) → length (matchOpWord o) ≤ 2
-matchOpWord-short equal = omega arith
-matchOpWord-short notEqual = omega arith
-matchOpWord-short (re b) = omega arith
-matchOpWord-short (notRe b) = omega arith
+matchOpToken-short : (o : MatchOp) → length (matchOpToken o) ≤ 2
+matchOpToken-short equal = omega arith
+matchOpToken-short notEqual = omega arith
+matchOpToken-short (re b) = omega arith
+matchOpToken-short (notRe b) = omega arith
 
 displayMatcher-short : (m : Matcher) → 1 + length (displayMatcher m) ≤ 4 * length (writeMatcher m)
 unfolding displayMatcher
 displayMatcher-short m =
     omega (
       arith,
-      length-append (displayLabel (m .name) ++ matchOpWord (m .op)) (quote (m .value)),
-      length-append (displayLabel (m .name)) (matchOpWord (m .op)),
+      length-append (displayLabel (m .name) ++ matchOpToken (m .op)) (quote (m .value)),
+      length-append (displayLabel (m .name)) (matchOpToken (m .op)),
       displayLabel-short (m .name),
-      matchOpWord-short (m .op),
+      matchOpToken-short (m .op),
       quote-short (m .value),
-      length-append ((matchOpNumber (m .op) ∷ writeText (m .name)) ++ writeText (m .value)) (writeMark (m .op)),
+      length-append ((matchOpNumber (m .op) ∷ writeText (m .name)) ++ writeText (m .value)) (writePatternFlag (m .op)),
       length-append (matchOpNumber (m .op) ∷ writeText (m .name)) (writeText (m .value)),
       writeText-some (m .name),
       writeText-some (m .value),

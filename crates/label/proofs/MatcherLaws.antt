@@ -11,9 +11,9 @@ use lib.Seq.{getD-append-add}
 use Rattle.base.specs.Cases.{by-flag, by-eq}
 use Rattle.page.specs.Bytes.{pick, all}
 use Rattle.page.specs.Text.{isAlpha, isAlphaNumeric, isLabel}
-use Rattle.util.specs.Escape.{escapeByte, escape}
+use Rattle.leaves.specs.Escape.{escapeByte, escape}
 use Rattle.label.specs.Label.{displayLabel, atMost}
-use Rattle.label.specs.Symbols.{symbol, symbols, operatorWord, matcherText, nameSymbols, matcherSymbols}
+use Rattle.label.specs.Symbols.{symbol, symbols, operatorToken, matcherText, nameSymbols, matcherSymbols}
 use Rattle.label.proofs.SymbolLaws.{flat, flat-order, flat-append, flat-plain, flat-quoted, Valids, valids-append, valids-plain, valids-quoted, symbols-length}
 
 -- ## A label has nothing to escape
@@ -57,8 +57,8 @@ label-plain (b ∷ t) h =
     escape-more b t (plain isAlpha b refl refl refl refl refl (p .0)) (words-plain t (p .1))
 
 -- an operator neither: its number is 0 to 3
-op-plain : (op : ℕ) → escape (operatorWord op) ≡ operatorWord op
-unfolding operatorWord escape escapeByte
+op-plain : (op : ℕ) → escape (operatorToken op) ≡ operatorToken op
+unfolding operatorToken escape escapeByte
 op-plain zero = refl
 op-plain (suc zero) = refl
 op-plain (suc (suc zero)) = refl
@@ -81,13 +81,13 @@ flat-matcher : (bare : Bool) (name : List ℕ) (op : ℕ) (value : List ℕ) →
     → flat (matcherSymbols bare name op value) ≡ matcherText name op value
 unfolding matcherSymbols matcherText
 flat-matcher bare name op value e =
-    flat-append (nameSymbols bare name) (map symbol (operatorWord op) ++ symbols value)
-    ∙ rw (flat-name bare name e, flat-append (map symbol (operatorWord op)) (symbols value), flat-plain (operatorWord op), op-plain op, flat-quoted value)
+    flat-append (nameSymbols bare name) (map symbol (operatorToken op) ++ symbols value)
+    ∙ rw (flat-name bare name e, flat-append (map symbol (operatorToken op)) (symbols value), flat-plain (operatorToken op), op-plain op, flat-quoted value)
 
 valids-matcher : (bare : Bool) (name : List ℕ) (op : ℕ) (value : List ℕ) → Valids (matcherSymbols bare name op value)
 unfolding matcherSymbols
 valids-matcher bare name op value =
-    valids-append (nameSymbols bare name) _ (valids-name bare name) (valids-append (map symbol (operatorWord op)) _ (valids-plain (operatorWord op)) (valids-quoted value))
+    valids-append (nameSymbols bare name) _ (valids-name bare name) (valids-append (map symbol (operatorToken op)) _ (valids-plain (operatorToken op)) (valids-quoted value))
 
 -- the order of two matchers' texts is that of their symbols
 pub matcher-order : (bare : Bool) (name : List ℕ) (op : ℕ) (value : List ℕ) (bare′ : Bool) (name′ : List ℕ) (op′ : ℕ) (value′ : List ℕ)
@@ -100,15 +100,15 @@ matcher-order bare name op value bare′ name′ op′ value′ e e′ =
 
 -- ## the symbols by index: three segments
 
-pub matcher-count : (bare : Bool) (name : List ℕ) (op : ℕ) (value : List ℕ) (n o : ℕ) → n ≡ length (nameSymbols bare name) → o ≡ length (operatorWord op)
+pub matcher-count : (bare : Bool) (name : List ℕ) (op : ℕ) (value : List ℕ) (n o : ℕ) → n ≡ length (nameSymbols bare name) → o ≡ length (operatorToken op)
     → n + o + length value + 2 ≡ length (matcherSymbols bare name op value)
 unfolding matcherSymbols
 matcher-count bare name op value n o en eo =
     omega (
       arith,
-      length-append (nameSymbols bare name) (map symbol (operatorWord op) ++ symbols value),
-      length-append (map symbol (operatorWord op)) (symbols value),
-      length-map (operatorWord op) symbol,
+      length-append (nameSymbols bare name) (map symbol (operatorToken op) ++ symbols value),
+      length-append (map symbol (operatorToken op)) (symbols value),
+      length-map (operatorToken op) symbol,
       symbols-length value,
     )
 
@@ -123,21 +123,21 @@ behind a b n j e h =
     subst (λ (i : ℕ). getD (a ++ b) i 0 ≡ getD b (j - n) 0) k (getD-append-add a b (j - n) 0)
 
 pub segment-op : (bare : Bool) (name : List ℕ) (op : ℕ) (value : List ℕ) (j n o r : ℕ) → n ≡ length (nameSymbols bare name) → n ≤ j
-    → o ≡ length (operatorWord op) → j - n < o → r ≡ getD (map symbol (operatorWord op)) (j - n) 0 → r ≡ getD (matcherSymbols bare name op value) j 0
+    → o ≡ length (operatorToken op) → j - n < o → r ≡ getD (map symbol (operatorToken op)) (j - n) 0 → r ≡ getD (matcherSymbols bare name op value) j 0
 unfolding matcherSymbols
 segment-op bare name op value j n o r en h eo k e =
-    let m = length-map (operatorWord op) symbol in
-    e ∙ sym (behind (nameSymbols bare name) _ n j en h ∙ List·getD-append (map symbol (operatorWord op)) (symbols value) 0 (j - n) (omega arith))
+    let m = length-map (operatorToken op) symbol in
+    e ∙ sym (behind (nameSymbols bare name) _ n j en h ∙ List·getD-append (map symbol (operatorToken op)) (symbols value) 0 (j - n) (omega arith))
 
 pub segment-value : (bare : Bool) (name : List ℕ) (op : ℕ) (value : List ℕ) (j n o r : ℕ) → n ≡ length (nameSymbols bare name) → n ≤ j
-    → o ≡ length (operatorWord op) → o ≤ j - n → r ≡ getD (symbols value) (j - n - o) 0 → r ≡ getD (matcherSymbols bare name op value) j 0
+    → o ≡ length (operatorToken op) → o ≤ j - n → r ≡ getD (symbols value) (j - n - o) 0 → r ≡ getD (matcherSymbols bare name op value) j 0
 unfolding matcherSymbols
 segment-value bare name op value j n o r en h eo k e =
-    let m = length-map (operatorWord op) symbol in
-    e ∙ sym (behind (nameSymbols bare name) _ n j en h ∙ behind (map symbol (operatorWord op)) (symbols value) o (j - n) (eo ∙ sym m) k)
+    let m = length-map (operatorToken op) symbol in
+    e ∙ sym (behind (nameSymbols bare name) _ n j en h ∙ behind (map symbol (operatorToken op)) (symbols value) o (j - n) (eo ∙ sym m) k)
 
 -- what is left for the value
-pub value-room : (bare : Bool) (name : List ℕ) (op : ℕ) (value : List ℕ) (j n o : ℕ) → n ≡ length (nameSymbols bare name) → o ≡ length (operatorWord op)
+pub value-room : (bare : Bool) (name : List ℕ) (op : ℕ) (value : List ℕ) (j n o : ℕ) → n ≡ length (nameSymbols bare name) → o ≡ length (operatorToken op)
     → n ≤ j → o ≤ j - n → j < length (matcherSymbols bare name op value) → j - n - o < length value + 2
 value-room bare name op value j n o en eo h k l = omega (arith, matcher-count bare name op value n o en eo)
 
@@ -181,18 +181,18 @@ quoted-symbol false t j r e is = is
 
 -- ## An operator's bytes, by its number
 
-pub op-symbol : (op j o b r : ℕ) → o ≡ length (operatorWord op) → j < o → b ≡ getD (operatorWord op) j 0 → r ≡ symbol b → r ≡ getD (map symbol (operatorWord op)) j 0
-op-symbol op j o b r eo h e is = is ∙ ap symbol e ∙ sym (bare-at (operatorWord op) j (omega arith))
+pub op-symbol : (op j o b r : ℕ) → o ≡ length (operatorToken op) → j < o → b ≡ getD (operatorToken op) j 0 → r ≡ symbol b → r ≡ getD (map symbol (operatorToken op)) j 0
+op-symbol op j o b r eo h e is = is ∙ ap symbol e ∙ sym (bare-at (operatorToken op) j (omega arith))
 
 -- the words as lists of bytes
 pub record Words (op : ℕ) : Type 0 where
-  pub equal : op ≡ 0 → operatorWord op ≡ 61 ∷ []
-  pub notEqual : op ≡ 1 → operatorWord op ≡ 33 ∷ 61 ∷ []
-  pub re : op ≡ 2 → operatorWord op ≡ 61 ∷ 126 ∷ []
-  pub notRe : op ≡ 3 → operatorWord op ≡ 33 ∷ 126 ∷ []
+  pub equal : op ≡ 0 → operatorToken op ≡ 61 ∷ []
+  pub notEqual : op ≡ 1 → operatorToken op ≡ 33 ∷ 61 ∷ []
+  pub re : op ≡ 2 → operatorToken op ≡ 61 ∷ 126 ∷ []
+  pub notRe : op ≡ 3 → operatorToken op ≡ 33 ∷ 126 ∷ []
 
 pub words : (op : ℕ) → Words op
-unfolding operatorWord
+unfolding operatorToken
 words op = record { equal = λ e. rw e; notEqual = λ e. rw e; re = λ e. rw e; notRe = λ e. rw e }
 
 pub op-last : (op : ℕ) → op < 4 → (op ≡ 0 → ⊥) → (op ≡ 1 → ⊥) → (op ≡ 2 → ⊥) → op ≡ 3
@@ -202,23 +202,23 @@ op-last (suc (suc zero)) h a b d = absurd (d refl)
 op-last (suc (suc (suc zero))) h a b d = refl
 op-last (suc (suc (suc (suc op)))) h a b d = absurd (omega arith)
 
-pub op-first : (op j a : ℕ) (more : List ℕ) → operatorWord op ≡ a ∷ more → j ≡ 0 → a ≡ getD (operatorWord op) j 0
+pub op-first : (op j a : ℕ) (more : List ℕ) → operatorToken op ≡ a ∷ more → j ≡ 0 → a ≡ getD (operatorToken op) j 0
 op-first op j a more e h = rw (e, h)
 
-pub op-only : (op j a : ℕ) → operatorWord op ≡ a ∷ [] → j < length (operatorWord op) → a ≡ getD (operatorWord op) j 0
+pub op-only : (op j a : ℕ) → operatorToken op ≡ a ∷ [] → j < length (operatorToken op) → a ≡ getD (operatorToken op) j 0
 op-only op j a e h = op-first op j a [] e (let k : j < 1 = (rw e at h) in omega arith)
 
-pub op-second : (op j a b : ℕ) → operatorWord op ≡ a ∷ b ∷ [] → (j ≡ 0 → ⊥) → j < length (operatorWord op) → b ≡ getD (operatorWord op) j 0
+pub op-second : (op j a b : ℕ) → operatorToken op ≡ a ∷ b ∷ [] → (j ≡ 0 → ⊥) → j < length (operatorToken op) → b ≡ getD (operatorToken op) j 0
 op-second op zero a b e n h = absurd (n refl)
 op-second op (suc j) a b e n h = let k : suc j < 2 = (rw e at h) in let z : j ≡ 0 = omega arith in rw (e, z)
 
-pub one-byte : (op : ℕ) → op ≡ 0 → 1 ≡ length (operatorWord op)
+pub one-byte : (op : ℕ) → op ≡ 0 → 1 ≡ length (operatorToken op)
 one-byte op e = rw (words op .equal e)
 
-pub two-bytes : (op : ℕ) → op < 4 → (op ≡ 0 → ⊥) → 2 ≡ length (operatorWord op)
+pub two-bytes : (op : ℕ) → op < 4 → (op ≡ 0 → ⊥) → 2 ≡ length (operatorToken op)
 two-bytes op h n =
     by-eq op 1 (λ e. rw (words op .notEqual e))
     (λ m. by-eq op 2 (λ e. rw (words op .re e)) (λ k. rw (words op .notRe (op-last op h n m k))))
 
-pub op-short : (op : ℕ) → op < 4 → length (operatorWord op) ≤ 2
+pub op-short : (op : ℕ) → op < 4 → length (operatorToken op) ≤ 2
 op-short op h = by-eq op 0 (λ e. omega (arith, one-byte op e)) (λ n. omega (arith, two-bytes op h n))

@@ -49,7 +49,7 @@ key-at page [] i b h = absurd (not-suc-le-zero h)
 key-at page (k ∷ l) zero (b, bs) h = b
 key-at page (k ∷ l) (suc i) (b, bs) h = key-at page l i bs (le-of-suc-le-suc h)
 
--- ## The loop of `place`: the item is still to be put among those behind j
+-- ## The loop of `place`: the item is still to be put among those after j
 
 pub record Placing (page : List ℕ) (item at : ℕ) (before present : List ℕ) (j : ℕ) : Type 0 where
   pub inside : j < length present
@@ -86,7 +86,7 @@ place-on {page} {item} {o = o} {j = j} r w h is no· =
       goal = rw (rest, front, append-assoc (take j o) (x ∷ []) (placed f item (drop (j + 1 + 1) o)), ← later f item x (drop (j + 1 + 1) o) (sym is ∙ no·), ← next o j h) (w .goal);
     }
 
--- stored at j, before what stands behind it
+-- stored at j, before what stands after it
 pub place-here : {page : List ℕ} {item at : ℕ} {before o : List ℕ} {j : ℕ} (r : Bool) → Placing page item at before o j → j + 1 < length o
     → r ≡ atMost (keyText page item) (keyText page (getD o (j + 1) 0)) → r ≡ true
     → set o j item ≡ take at before ++ placed (keyText page) item (drop (at + 1) before)
@@ -152,7 +152,7 @@ arrange-on {page} {before} {o} {p} {i} {k} good a e is same =
 pub arrange-end : {page before o : List ℕ} {i : ℕ} → Arranged page before o i → i ≡ 0 → Sorts page before o
 arrange-end a e = record { sorted = rw e at (a .sorted); keys = rw e at (a .keys) }
 
--- those behind key i - 1 are keys, and it is one itself
+-- those after key i - 1 are keys, and it is one itself
 pub behind-keys : {page before o : List ℕ} {i : ℕ} → Arranged page before o i → 0 < i → AreKeys page (drop (i - 1 + 1) o)
 behind-keys {i = i} a h = let e : i - 1 + 1 ≡ i = omega arith in rw e (a .keys)
 

@@ -10,8 +10,8 @@ use lib.Dec.{eqb}
 use lib.ListN.{length, getD, length-append, length-map}
 use Rattle.base.specs.Cases.{by-lt, by-eq}
 use Rattle.page.specs.Bytes.{pick}
-use Rattle.util.specs.Escape.{escapeByte, escapeWith, escape, quote}
-use Rattle.util.proofs.EscapeLaws.{escapeByte-stands, escapeByte-letter}
+use Rattle.leaves.specs.Escape.{escapeByte, escapeWith, escape, quote}
+use Rattle.leaves.proofs.EscapeLaws.{escapeByte-stands, escapeByte-letter}
 use Rattle.label.specs.Label.{atMost}
 use Rattle.label.specs.Symbols.{symbolOf, symbol, symbols}
 

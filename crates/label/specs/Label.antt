@@ -5,7 +5,7 @@ use mathlib.Core.List.{List, [], _∷_, _++_, map}
 use lib.Dec.{eqb, ltb}
 use Rattle.page.specs.Bytes.{pick, bytes, joinRest, join}
 use Rattle.page.specs.Text.{Text, isLabel}
-use Rattle.util.specs.Escape.{quote}
+use Rattle.leaves.specs.Escape.{quote}
 use Rattle.records.specs.Field.{Labels}
 use Rattle.records.specs.Matcher.{MatchOp, equal, notEqual, re, notRe, Matcher}
 
@@ -17,19 +17,19 @@ displayLabel t = pick (isLabel t) t (quote t)
 unfoldable pub displayLabels : Labels → List ℕ
 displayLabels ls = join (bytes ", ") (map displayLabel ls)
 
--- the labels behind the first, each with its separator in front
+-- the labels after the first, each with its separator in front
 unfoldable pub displayMoreLabels : Labels → List ℕ
 displayMoreLabels ls = joinRest (bytes ", ") (map displayLabel ls)
 
-abbrev pub matchOpWord : MatchOp → List ℕ
-matchOpWord equal = bytes "="
-matchOpWord notEqual = bytes "!="
-matchOpWord (re b) = bytes "=~"
-matchOpWord (notRe b) = bytes "!~"
+abbrev pub matchOpToken : MatchOp → List ℕ
+matchOpToken equal = bytes "="
+matchOpToken notEqual = bytes "!="
+matchOpToken (re b) = bytes "=~"
+matchOpToken (notRe b) = bytes "!~"
 
 -- `Display` of `Matcher`
 unfoldable pub displayMatcher : Matcher → List ℕ
-displayMatcher m = displayLabel (m .name) ++ matchOpWord (m .op) ++ quote (m .value)
+displayMatcher m = displayLabel (m .name) ++ matchOpToken (m .op) ++ quote (m .value)
 
 -- the order of texts as bytes
 unfoldable pub atMost : Text → Text → Bool
@@ -45,7 +45,7 @@ unfoldable pub sort : List Text → List Text
 sort [] = []
 sort (t ∷ ts) = insert t (sort ts)
 
--- texts with a comma between each two, and those behind the first, each with its comma in front
+-- texts with a comma between each two, and those after the first, each with its comma in front
 unfoldable pub joinedByCommas : List Text → List ℕ
 joinedByCommas ts = join (bytes ",") ts
 

@@ -9,7 +9,7 @@ use mathlib.Core.List.{List, [], _∷_, _++_, map}
 use lib.ListN.{getD}
 use Rattle.page.specs.Bytes.{pick, bytes}
 use Rattle.page.specs.Text.{Text}
-use Rattle.util.specs.Escape.{escapeByte, quote}
+use Rattle.leaves.specs.Escape.{escapeByte, quote}
 use Rattle.label.specs.Label.{displayLabel, atMost}
 
 -- 256 times the first byte, and the second or 0
@@ -26,18 +26,18 @@ unfoldable pub symbols : Text → List ℕ
 symbols t = 8704 ∷ (map symbol t ++ (8704 ∷ []))
 
 -- the words of document 01's numbers for matchers
-unfoldable pub operatorWord : ℕ → List ℕ
-operatorWord op = bytes (getD ("=" ∷ "!=" ∷ "=~" ∷ "!~" ∷ []) op "")
+unfoldable pub operatorToken : ℕ → List ℕ
+operatorToken op = bytes (getD ("=" ∷ "!=" ∷ "=~" ∷ "!~" ∷ []) op "")
 
 unfoldable pub matcherText : Text → ℕ → Text → List ℕ
-matcherText name op value = displayLabel name ++ (operatorWord op ++ quote value)
+matcherText name op value = displayLabel name ++ (operatorToken op ++ quote value)
 
 -- the symbols of a name: bare, or quoted
 unfoldable pub nameSymbols : Bool → Text → List ℕ
 nameSymbols bare t = pick bare (map symbol t) (symbols t)
 
 unfoldable pub matcherSymbols : Bool → Text → ℕ → Text → List ℕ
-matcherSymbols bare name op value = nameSymbols bare name ++ (map symbol (operatorWord op) ++ symbols value)
+matcherSymbols bare name op value = nameSymbols bare name ++ (map symbol (operatorToken op) ++ symbols value)
 
 -- `insert`, of what the texts are the texts of
 unfoldable pub placed : (ℕ → List ℕ) → ℕ → List ℕ → List ℕ

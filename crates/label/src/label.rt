@@ -1,12 +1,12 @@
 // Labels, quoted where they fail `is_label`, and lists of them joined by `, ` (label/mod.rs, `Display` of `Labels`).
 // A list stays on the page: where its first label starts and how many there are. All can be read, so that no byte is tested again.
+use leaves::capped_add;
+use leaves::put_quoted;
+use leaves::quoted_len;
 use page::is_label;
 use page::put_bytes;
 use page::stored_text;
 use page::text_at;
-use util::capped_add;
-use util::put_quoted;
-use util::quoted_len;
 ghost use mathlib.Core.Path.{_≡_};
 ghost use Prim.Native.Nat.{_+_, _≤_, min};
 ghost use lib.ListN.{length, drop};

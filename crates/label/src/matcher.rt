@@ -6,6 +6,9 @@ use crate::key::unpack;
 use crate::label::label_len;
 use crate::order::operator_count;
 use crate::sort::arrange;
+use leaves::capped_add;
+use leaves::put_quoted;
+use leaves::quoted_len;
 use page::is_label;
 use page::put_byte;
 use page::put_bytes;
@@ -13,9 +16,6 @@ use page::text_at;
 use records::MatchOp;
 use records::Matcher;
 use records::stored_matcher;
-use util::capped_add;
-use util::put_quoted;
-use util::quoted_len;
 ghost use mathlib.Core.Path.{_≡_};
 ghost use mathlib.Core.List.{map};
 ghost use Prim.Native.Nat.{_+_, _≤_, _<_, min};
@@ -28,7 +28,7 @@ ghost use Rattle.records.specs.Matcher.{readMatcher, matchOpNumber};
 ghost use Rattle.records.specs.Allowed.{IsMatcher};
 ghost use Rattle.records.specs.Answers.{opOf, matcherOn, matchersOn, MatcherLies};
 ghost use Rattle.label.specs.Label.{displayLabel, displayMatcher, joinedByCommas, moreByCommas, displayMatchers};
-ghost use Rattle.label.specs.Symbols.{operatorWord};
+ghost use Rattle.label.specs.Symbols.{operatorToken};
 ghost use Rattle.label.specs.Key.{keyText, IsKey, AreKeys, keyTexts, PrintsAs, Collected};
 
 fn operator_number(op: MatchOp) -> u8
@@ -89,8 +89,8 @@ fn put_name(text: &[u8], bare: bool, out: &mut [u8], at: usize) -> usize
 }
 
 fn put_operator(op: u8, out: &mut [u8], at: usize) -> usize
-    requires { ⌜ (op < 4) × (at + length (operatorWord op) ≤ length (now out)) ⌝ }
-    ensures { λ r. ⌜ Wrote (now (out .entry)) (now (out .exit)) at (operatorWord op) r ⌝ }
+    requires { ⌜ (op < 4) × (at + length (operatorToken op) ≤ length (now out)) ⌝ }
+    ensures { λ r. ⌜ Wrote (now (out .entry)) (now (out .exit)) at (operatorToken op) r ⌝ }
 {
     match op {
         0 => put_byte(b'=', out, at),

@@ -1,12 +1,12 @@
 // The order of two matchers' texts, with neither text stored: they are compared symbol by symbol, where a symbol is a byte that stands
 // for itself or a backslash with its letter. A larger symbol has larger bytes, and no symbol's bytes begin another's.
-use util::escape_letter;
+use leaves::escape_letter;
 ghost use mathlib.Core.Path.{_≡_};
 ghost use Prim.Native.Nat.{_+_, _≤_, _<_};
 ghost use lib.ListN.{length, getD};
 ghost use Rattle.page.specs.Text.{isLabel};
 ghost use Rattle.label.specs.Label.{atMost};
-ghost use Rattle.label.specs.Symbols.{symbol, symbols, operatorWord, matcherText, nameSymbols, matcherSymbols};
+ghost use Rattle.label.specs.Symbols.{symbol, symbols, operatorToken, matcherText, nameSymbols, matcherSymbols};
 
 // 256 times the first byte that stands for b, and the second or 0.
 fn symbol(b: u8) -> usize
@@ -55,7 +55,7 @@ fn name_symbol(name: &[u8], bare: bool, j: usize) -> usize
 
 pub fn operator_count(op: u8) -> usize
     requires { ⌜ op < 4 ⌝ }
-    ensures { λ r. ⌜ r ≡ length (operatorWord op) ⌝ }
+    ensures { λ r. ⌜ r ≡ length (operatorToken op) ⌝ }
 {
     if op == 0 {
         return 1;
@@ -65,8 +65,8 @@ pub fn operator_count(op: u8) -> usize
 
 // Byte j of an operator: =, !=, =~ or !~.
 pub fn operator_byte(op: u8, j: usize) -> u8
-    requires { ⌜ (op < 4) × (j < length (operatorWord op)) ⌝ }
-    ensures { λ r. ⌜ r ≡ getD (operatorWord op) j 0 ⌝ }
+    requires { ⌜ (op < 4) × (j < length (operatorToken op)) ⌝ }
+    ensures { λ r. ⌜ r ≡ getD (operatorToken op) j 0 ⌝ }
 {
     match op {
         0 => b'=',

@@ -9,16 +9,16 @@ use lib.Seq.{getD-set-same, getD-set-other}
 use Rattle.base.specs.Cases.{by-eq}
 use Rattle.ast.specs.Tables.{treeAt}
 use Rattle.text.specs.Display.{display}
-use Rattle.measure.specs.Known.{Known}
+use Rattle.measure.specs.Widths.{Widths}
 
 pub recapped : (len w cap r : ℕ) → w ≡ min len 101 → cap ≤ 101 → r ≡ min (w + 0) cap → r ≡ min len cap
 recapped len w cap r e h is = omega (arith, e, h, is)
 
-pub set-size : {page widths before : List ℕ} (i w : ℕ) → Known page widths → Known page before → length (set widths i w) ≡ length before
+pub set-size : {page widths before : List ℕ} (i w : ℕ) → Widths page widths → Widths page before → length (set widths i w) ≡ length before
 set-size {page} {widths} i w known old = length-set widths i w ∙ known .size ∙ sym (old .size)
 
-pub known-set : {page widths : List ℕ} (i w : ℕ) → Known page widths → i < 256 → w ≡ min (length (display (treeAt page i))) 101 → Known page (set widths i w)
-known-set {page} {widths} i w known h e = record {
+pub widths-set : {page widths : List ℕ} (i w : ℕ) → Widths page widths → i < 256 → w ≡ min (length (display (treeAt page i))) 101 → Widths page (set widths i w)
+widths-set {page} {widths} i w known h e = record {
   size = length-set widths i w ∙ known .size;
   right = λ j set. by-eq j i
       (λ same. rw same (getD-set-same widths i w 0 (rw (known .size) h) ∙ e))
@@ -34,5 +34,5 @@ no-width (suc n) zero = refl
 no-width (suc n) (suc i) = no-width n i
 
 -- before anything is measured
-pub known-none : (page : List ℕ) → Known page (unmeasured 256)
-known-none page = record { size = refl; right = λ i set. absurd (set (no-width 256 i)) }
+pub widths-none : (page : List ℕ) → Widths page (unmeasured 256)
+widths-none page = record { size = refl; right = λ i set. absurd (set (no-width 256 i)) }

@@ -12,8 +12,8 @@ ghost use Rattle.ast.specs.Tables.{Tables, stackAt, treeAt};
 ghost use Rattle.text.specs.Display.{display};
 ghost use Rattle.text.specs.Layout.{joined};
 ghost use Rattle.text.specs.Measured.{Measured};
-ghost use Rattle.view.specs.View.{Unvalued};
-ghost use Rattle.measure.specs.Known.{Known};
+ghost use Rattle.view.specs.View.{Numberless};
+ghost use Rattle.measure.specs.Widths.{Widths};
 
 // The width of the tree that record i ends: from the table, or measured where the table does not have it.
 pub fn width(
@@ -22,18 +22,18 @@ pub fn width(
     firsts: &[u8],
     widths: &[u8],
     i: usize,
-    unvalued: bool,
+    numberless: bool,
 ) -> usize
     requires { ⌜ Tables (now page) (now starts) (now firsts) (suc i) ⌝ }
-    requires { ⌜ Known (now page) (now widths) ⌝ }
-    requires { ⌜ Unvalued (now page) i unvalued ⌝ }
+    requires { ⌜ Widths (now page) (now widths) ⌝ }
+    requires { ⌜ Numberless (now page) i numberless ⌝ }
     ensures { λ r. ⌜ r ≡ min (length (display (treeAt (now (page .entry)) i))) 101 ⌝ }
 {
     let known = widths[i] as usize;
     if known != 0 {
         return known;
     }
-    text_len(page, starts, firsts, i, unvalued, 101)
+    text_len(page, starts, firsts, i, numberless, 101)
 }
 
 // Measures the tree that record i ends and all trees below it, puts their widths into the table, and returns its own.
@@ -42,16 +42,16 @@ fn measure(
     starts: &[u16],
     firsts: &[u8],
     i: usize,
-    unvalued: bool,
+    numberless: bool,
     widths: &mut [u8],
 ) -> usize
     requires { ⌜ Tables (now page) (now starts) (now firsts) (suc i) ⌝ }
-    requires { ⌜ Unvalued (now page) i unvalued ⌝ }
-    requires { ⌜ Known (now page) (now widths) ⌝ }
+    requires { ⌜ Numberless (now page) i numberless ⌝ }
+    requires { ⌜ Widths (now page) (now widths) ⌝ }
     ensures { λ r. ⌜ r ≡ min (length (display (treeAt (now (page .entry)) i))) 101 ⌝ }
-    ensures { λ r. ⌜ Known (now (page .entry)) (now (widths .exit)) ⌝ }
+    ensures { λ r. ⌜ Widths (now (page .entry)) (now (widths .exit)) ⌝ }
 {
-    let node = view::view_at(page, starts, i, unvalued);
+    let node = view::view_at(page, starts, i, numberless);
     let end = node.base;
     let count = node.count;
     let front = front_len(page, starts, node, 101);
@@ -75,33 +75,33 @@ fn room_behind(cap: usize, bytes: usize) -> usize
     cap - bytes
 }
 
-// Measures the newest expressions behind the first `end` records, `count` of them, and returns the length of their texts with so many
-// bytes between each two, or `cap` where it is more. `unvalued` is said of the last one.
+// Measures the newest expressions after the first `end` records, `count` of them, and returns the length of their texts with so many
+// bytes between each two, or `cap` where it is more. `numberless` is said of the last one.
 fn measure_operands(
     page: &[u8],
     starts: &[u16],
     firsts: &[u8],
     end: usize,
     count: usize,
-    unvalued: bool,
+    numberless: bool,
     gap: usize,
     cap: usize,
     widths: &mut [u8],
 ) -> usize
     requires { ⌜ Tables (now page) (now starts) (now firsts) end ⌝ }
     requires { ⌜ count ≤ length (stackAt (now page) end) ⌝ }
-    requires { ⌜ Unvalued (now page) (end - 1) unvalued ⌝ }
+    requires { ⌜ Numberless (now page) (end - 1) numberless ⌝ }
     requires { ⌜ cap ≤ 101 ⌝ }
-    requires { ⌜ Known (now page) (now widths) ⌝ }
+    requires { ⌜ Widths (now page) (now widths) ⌝ }
     ensures { λ r. ⌜ Measured (λ separator. joined separator display display (operandsOf count (stackAt (now (page .entry)) end))) gap cap r ⌝ }
-    ensures { λ r. ⌜ Known (now (page .entry)) (now (widths .exit)) ⌝ }
+    ensures { λ r. ⌜ Widths (now (page .entry)) (now (widths .exit)) ⌝ }
 {
     if count == 0 {
         return 0;
     }
     let root = end - 1;
-    let width = measure(page, starts, firsts, root, unvalued, widths);
-    let last = util::capped_add(width, 0, cap);
+    let width = measure(page, starts, firsts, root, numberless, widths);
+    let last = leaves::capped_add(width, 0, cap);
     if count == 1 {
         return last;
     }
@@ -119,7 +119,7 @@ fn measure_operands(
 // The widths of the tree that record i ends and of all trees below it.
 pub fn widths_of(page: &[u8], starts: &[u16], firsts: &[u8], i: usize) -> [u8; 256]
     requires { ⌜ Tables (now page) (now starts) (now firsts) (suc i) ⌝ }
-    ensures { λ r. ⌜ Known (now (page .entry)) r ⌝ }
+    ensures { λ r. ⌜ Widths (now (page .entry)) r ⌝ }
 {
     let mut widths = [0u8; 256];
     measure(page, starts, firsts, i, false, &mut widths);

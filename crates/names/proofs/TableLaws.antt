@@ -74,7 +74,7 @@ first-start n (t ∷ ts) = refl
 between : ℕ → ℕ → List ℕ → List ℕ
 between start end letters = take (end - start) (drop start letters)
 
--- the run stands behind other letters, which end at n
+-- the run stands after other letters, which end at n
 run-behind : (front : List ℕ) (n : ℕ) (ts : List (List ℕ)) (i : ℕ) → length front ≡ n
     → between (getD (startsFrom n ts) i 0) (getD (startsFrom n ts) (suc i) 0) (front ++ run ts) ≡ getD ts i []
 unfolding between

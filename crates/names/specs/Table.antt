@@ -1,4 +1,4 @@
--- Names as they lie in two arrays: the letters of all in one run, and where each begins; behind the last stands the
+-- Names as they lie in two arrays: the letters of all in one run, and where each begins; after the last stands the
 -- end.
 use Prim.Native.Nat.{ℕ, _+_, _-_}
 use mathlib.Core.Bool.{Bool, true, false, _&&_}
@@ -10,7 +10,7 @@ use lib.Dec.{leb}
 abbrev pub longestName : ℕ
 longestName = 128
 
--- each start lies behind the one before, by a name's length at most, and within the letters
+-- each start lies after the one before, by a name's length at most, and within the letters
 abbrev pub ascend : ℕ → ℕ → List ℕ → Bool
 ascend low end [] = true
 ascend low end (n ∷ ns) = leb low n && leb (n - low) longestName && leb n end && ascend n end ns

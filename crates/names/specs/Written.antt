@@ -11,7 +11,7 @@ pub record Named : Type 0 where
   pub word : ℕ
   pub buffer : List ℕ
 
--- 4 times the count of bytes written from the buffer's start; the bytes behind them stay. Refused 5 at 0 where the name
+-- 4 times the count of bytes written from the buffer's start; the bytes after them stay. Refused 5 at 0 where the name
 -- does not fit, and then nothing is written. A number without a name has the empty one, which always fits: 0, and no
 -- byte changes
 abbrev pub nameWritten : List ℕ → List ℕ → Named

@@ -1,4 +1,4 @@
-// Names in one run of letters, and where each begins; behind the last stands the end.
+// Names in one run of letters, and where each begins; after the last stands the end.
 use page::put_bytes;
 ghost use mathlib.Core.Path.{_≡_};
 ghost use lib.Dec.{T};

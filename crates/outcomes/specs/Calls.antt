@@ -22,7 +22,7 @@ pub record Called : Type 0 where
 abbrev pub tooShort : ℕ
 tooShort = 5
 
--- a text written to the start of a buffer: the bytes behind it stay. 5 where it does not fit, and then nothing is written
+-- a text written to the start of a buffer: the bytes after it stay. 5 where it does not fit, and then nothing is written
 abbrev pub written : Kind → ℕ → List ℕ → List ℕ → Called
 written k records text buffer =
     pick (leb (length text) (length buffer))

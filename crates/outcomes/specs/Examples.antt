@@ -12,10 +12,10 @@ use Rattle.records.specs.Record.{readRecord, readPage, writeRecord}
 use Rattle.ast.specs.CheckAst.{checkAst}
 use Rattle.ast.specs.CheckPage.{apply, checkPage, check}
 use Rattle.copy.specs.Copy.{copyPage}
-use Rattle.util.specs.Decimal.{digits, decimal}
-use Rattle.util.specs.Escape.{escapeByte, escape, quote}
-use Rattle.util.specs.Duration.{countOf, countsOf, durationCounts, displayCount, displayCounts, displayDuration}
-use Rattle.util.specs.Numeral.{displayNumber, displayLiteral, displayFill}
+use Rattle.leaves.specs.Decimal.{digits, decimal}
+use Rattle.leaves.specs.Escape.{escapeByte, escape, quote}
+use Rattle.leaves.specs.Duration.{countOf, countsOf, durationCounts, displayCount, displayCounts, displayDuration}
+use Rattle.leaves.specs.Numeral.{displayNumber, displayLiteral, displayFill}
 use Rattle.label.specs.Label.{displayLabel, displayLabels, displayMatcher, atMost, insert, sort, joinedByCommas, displayMatchers}
 use Rattle.text.specs.Display.{display}
 use Rattle.text.specs.Pretty.{pretty}
@@ -70,7 +70,7 @@ examples =
 abbrev lent : List ℕ
 lent = replicate 64 7
 
--- the answer, and the text at the start of the buffer with the buffer's own bytes behind it
+-- the answer, and the text at the start of the buffer with the buffer's own bytes after it
 abbrev writes : Kind → List ℕ → Called → Bool
 writes k t c = answers (c .outcome) && equalBytes (c .buffer ++ replicate (length t) 7) (t ++ lent)
   where

@@ -4,7 +4,7 @@ use mathlib.Core.List.{List, _++_}
 use lib.ListN.{take, replicate}
 use Rattle.page.specs.Bytes.{bytes}
 use Rattle.records.specs.Outcome.{Outcome, answer, refusal}
-use Rattle.util.specs.Decimal.{decimal}
+use Rattle.leaves.specs.Decimal.{decimal}
 use Rattle.outcomes.specs.Calls.{Called, splitText}
 
 -- the buffer that the program lends

@@ -1,4 +1,4 @@
--- Numbers a byte at a time, as `read_up_to` goes: a byte with its high bit set stands before the number of the groups behind it, which
+-- Numbers a byte at a time, as `read_up_to` goes: a byte with its high bit set stands before the number of the groups after it, which
 -- is at most 1/128 of the limit. Then choices of forms. Assumes nothing.
 use Prim.Native.Nat.{ℕ, zero, suc, _+_, _*_, _-_, _/_, _≤_, _<_}
 use mathlib.Core.Path.{_≡_, refl, sym, ap, _∙_}
@@ -41,7 +41,7 @@ read-capped limit v t (got n rest) e =
 pub read-small : (limit v : ℕ) (t s : List ℕ) → got v t ≡ readUpTo limit s → v ≤ limit
 read-small limit v t s e = read-capped limit v t (readGroups s) e
 
--- a byte with its high bit set, before the number behind it
+-- a byte with its high bit set, before the number after it
 abbrev joined : ℕ → ℕ → Read ℕ → Read ℕ
 joined limit b (refused f) = refused f
 joined limit b (got zero rest) = refused badField

@@ -107,7 +107,7 @@ pub readNumber-gives : Gives readNumber IsNumber
 readNumber-gives = gives-bind _ (gives-any readGroups) (λ n h. gives-ensure (leb n numberLimit) badField n (λ t. leb→le n numberLimit t))
 
 module _ {A : Type 0} where
-  -- the bytes of a form stand behind its number
+  -- the bytes of a form stand after its number
   pub reads-choice : (rs : List (Reader A)) (n : ℕ) {u : List ℕ} {a : A} → IsNumber n → Reads (readerAt rs n) u a → Reads (readChoice rs) (writeNumber n ++ u) a
   reads-choice rs n h k = reads-bind (readerAt rs) (readNumber-back n h) k
 

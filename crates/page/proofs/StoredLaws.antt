@@ -43,7 +43,7 @@ module _ {A B : Type 0} (r : Reader A) (f : A → Reader B) (s : List ℕ) (read
 -- ## Texts
 
 module _ (limit : ℕ) (allowed : Text → Bool) where
-  -- the tests of a text's bytes, behind its length
+  -- the tests of a text's bytes, after its length
   by-allowed : (y : Text) (v : List ℕ) (b : Bool) {x : Text} {u : List ℕ} → got x u ≡ ensure b badText y v → got y v ≡ ensure b badText y v
   by-allowed y v true e = refl
   by-allowed y v false e = not-refused e
@@ -72,7 +72,7 @@ module _ (limit : ℕ) (allowed : Text → Bool) where
       let is = by-length n t (leb n (length t)) refl (readable .reads ∙ behind) in
       (is .0, is .1 ∙ sym behind)
 
-  -- where the text starts behind its number on a page
+  -- where the text starts after its number on a page
   pub span-stored : (page : List ℕ) (at n start : ℕ) → Readable (readText limit allowed) (drop at page) → got n (drop start page) ≡ readNumber (drop at page)
       → start ≤ length page
       → (start + n ≤ length page) × (got (take (start + n - start) (drop start page)) (drop (start + n) page) ≡ readText limit allowed (drop at page))

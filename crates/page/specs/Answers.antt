@@ -39,7 +39,7 @@ abbrev pub numberAt : List ℕ → Number → Read ℕ
 numberAt page (number-answer.Got n next) = got n (drop next page)
 numberAt page number-answer.Bad = refused badField
 
--- the position behind; a refusal has none
+-- the position after; a refusal has none
 abbrev pub numberEnd : Number → ℕ
 numberEnd (number-answer.Got n next) = next
 numberEnd number-answer.Bad = 0

@@ -1,7 +1,7 @@
 // Lists stay on the page: code keeps where the first element starts and how many there are, and reads them again from there.
 use crate::fault::Fault;
 
-// Where the first element starts, how many there are, and the position behind the last.
+// Where the first element starts, how many there are, and the position after the last.
 pub enum ListField {
     Got(usize, usize, usize),
     Bad(Fault),

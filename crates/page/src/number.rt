@@ -10,13 +10,13 @@ ghost use Rattle.page.specs.Answers.{numberAt, numberEnd, readUpTo, coun
 // The highest number that a page may hold, 2^53.
 pub const LIMIT: u64 = 9007199254740992;
 
-// A number and the position behind it. Whatever is wrong with a number is a bad field.
+// A number and the position after it. Whatever is wrong with a number is a bad field.
 pub enum Number {
     Got(u64, usize),
     Bad,
 }
 
-// The number at a position, if it is at most `limit`. The groups behind the first make a number of at most `limit / 128`, so the
+// The number at a position, if it is at most `limit`. The groups after the first make a number of at most `limit / 128`, so the
 // calls are no deeper than the limit has groups.
 pub fn read_up_to(page: &[u8], at: usize, limit: u64) -> Number
     ensures { λ r. ⌜ numberAt (now (page .entry)) r ≡ readUpTo limit (drop at (now (page .entry))) ⌝ }
@@ -62,7 +62,7 @@ pub fn read_number(page: &[u8], at: usize) -> Number
     read_up_to(page, at, LIMIT)
 }
 
-// A count of labels, matchers, kinds or arguments, and the position behind it.
+// A count of labels, matchers, kinds or arguments, and the position after it.
 pub enum Count {
     Got(usize, usize),
     Bad(Fault),

@@ -13,7 +13,7 @@ ghost use Rattle.page.specs.Text.{isSelectorName, readAnyText};
 ghost use Rattle.page.specs.Listed.{Readable};
 ghost use Rattle.page.specs.Answers.{limitOf, allowedBy, readTextOf, spanOn, Lies, textAt, textLies, Within};
 
-// A part of the page, from its first byte to the position behind its last.
+// A part of the page, from its first byte to the position after its last.
 pub struct Span {
     pub start: usize,
     pub end: usize,

@@ -1,4 +1,4 @@
--- Lengths and runs of texts that stand one behind the other.
+-- Lengths and runs of texts that stand one after the other.
 use Prim.Native.Nat.{ℕ, _+_, _≤_, min}
 use native.Mathlib.Omega.{arith}
 use mathlib.Core.Path.{_≡_}

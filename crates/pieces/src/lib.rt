@@ -2,12 +2,12 @@
 // Each has a length up to a cap and a writer.
 pub mod times;
 
-use fields::Parts;
+use fields::Attached;
 use fields::aggregator_of;
+use fields::attached_of;
 use fields::function_of;
 use fields::literal_of;
 use fields::operator_of;
-use fields::parts_of;
 use fields::selector_of;
 use fields::spacing_of;
 use fields::string_of;
@@ -24,7 +24,7 @@ ghost use mathlib.Core.List.{_++_};
 ghost use Prim.Native.Nat.{_+_, _≤_, min};
 ghost use lib.ListN.{length};
 ghost use Rattle.base.specs.Splice.{Wrote};
-ghost use Rattle.records.specs.Answers.{stepOf};
+ghost use Rattle.records.specs.Answers.{optionalDurationOf};
 ghost use Rattle.reader.specs.Answers.{selectorOn};
 ghost use Rattle.text.specs.Display.{displaySelector, displayTimes};
 ghost use Rattle.text.specs.Layout.{displayRange, head, operator, suffix};
@@ -33,29 +33,29 @@ ghost use Rattle.view.specs.View.{NodeAt, layoutAt};
 ghost use Rattle.fields.specs.Fields.{SelectorLies};
 
 // A selector with its range, @ and offset.
-fn selector_len(page: &[u8], selector: reader::Selector, parts: Parts, cap: usize) -> usize
+fn selector_len(page: &[u8], selector: reader::Selector, attached: Attached, cap: usize) -> usize
     requires { ⌜ SelectorLies (now page) selector ⌝ }
-    ensures { λ r. ⌜ r ≡ min (length (displaySelector (selectorOn (now (page .entry)) selector) ++ (displayRange (stepOf (parts .range)) ++ displayTimes (timesOf (parts .times))))) cap ⌝ }
+    ensures { λ r. ⌜ r ≡ min (length (displaySelector (selectorOn (now (page .entry)) selector) ++ (displayRange (optionalDurationOf (attached .range)) ++ displayTimes (timesOf (attached .times))))) cap ⌝ }
 {
-    let range = parts.range;
-    let times = parts.times;
+    let range = attached.range;
+    let times = attached.times;
     let behind = range_len(range) + times_len(times);
-    util::capped_add(heads::selector_len(page, selector, cap), behind, cap)
+    leaves::capped_add(heads::selector_len(page, selector, cap), behind, cap)
 }
 
 fn put_selector(
     page: &[u8],
     selector: reader::Selector,
-    parts: Parts,
+    attached: Attached,
     out: &mut [u8],
     at: usize,
 ) -> usize
     requires { ⌜ SelectorLies (now page) selector ⌝ }
-    requires { ⌜ at + length (displaySelector (selectorOn (now page) selector) ++ (displayRange (stepOf (parts .range)) ++ displayTimes (timesOf (parts .times)))) ≤ length (now out) ⌝ }
-    ensures { λ r. ⌜ Wrote (now (out .entry)) (now (out .exit)) at (displaySelector (selectorOn (now (page .entry)) selector) ++ (displayRange (stepOf (parts .range)) ++ displayTimes (timesOf (parts .times)))) r ⌝ }
+    requires { ⌜ at + length (displaySelector (selectorOn (now page) selector) ++ (displayRange (optionalDurationOf (attached .range)) ++ displayTimes (timesOf (attached .times)))) ≤ length (now out) ⌝ }
+    ensures { λ r. ⌜ Wrote (now (out .entry)) (now (out .exit)) at (displaySelector (selectorOn (now (page .entry)) selector) ++ (displayRange (optionalDurationOf (attached .range)) ++ displayTimes (timesOf (attached .times)))) r ⌝ }
 {
-    let range = parts.range;
-    let times = parts.times;
+    let range = attached.range;
+    let times = attached.times;
     let bracket = heads::put_selector(page, selector, out, at);
     let next = put_range(range, out, bracket);
     put_times(times, out, next)
@@ -68,17 +68,21 @@ pub fn head_len(page: &[u8], starts: &[u16], node: Node, cap: usize) -> usize
 {
     let foot = node.foot;
     match foot {
-        Foot::Number => util::capped_add(util::numeral_len(literal_of(page, starts, node)), 0, cap),
+        Foot::Number => leaves::capped_add(
+            leaves::numeral_len(literal_of(page, starts, node)),
+            0,
+            cap,
+        ),
         Foot::String => {
             let text = page::text_at(page, string_of(page, starts, node));
-            util::quoted_len(text, cap)
+            leaves::quoted_len(text, cap)
         }
         Foot::Selector => {
             let selector = selector_of(page, starts, node);
-            selector_len(page, selector, parts_of(page, starts, node), cap)
+            selector_len(page, selector, attached_of(page, starts, node), cap)
         }
         Foot::Subquery => 0,
-        Foot::Unary => util::capped_add(1, 0, cap),
+        Foot::Unary => leaves::capped_add(1, 0, cap),
         Foot::Paren => 0,
         Foot::Binary => 0,
         Foot::Aggregate => {
@@ -88,7 +92,7 @@ pub fn head_len(page: &[u8], starts: &[u16], node: Node, cap: usize) -> usize
         }
         Foot::Call => {
             let name = page::text_at(page, function_of(page, starts, node));
-            util::capped_add(name.len(), 0, cap)
+            leaves::capped_add(name.len(), 0, cap)
         }
     }
 }
@@ -100,14 +104,14 @@ pub fn put_head(page: &[u8], starts: &[u16], node: Node, out: &mut [u8], at: usi
 {
     let foot = node.foot;
     match foot {
-        Foot::Number => util::put_literal(literal_of(page, starts, node), out, at),
+        Foot::Number => leaves::put_literal(literal_of(page, starts, node), out, at),
         Foot::String => {
             let text = page::text_at(page, string_of(page, starts, node));
-            util::put_quoted(text, out, at)
+            leaves::put_quoted(text, out, at)
         }
         Foot::Selector => {
             let selector = selector_of(page, starts, node);
-            put_selector(page, selector, parts_of(page, starts, node), out, at)
+            put_selector(page, selector, attached_of(page, starts, node), out, at)
         }
         Foot::Subquery => at,
         Foot::Unary => page::put_byte(b'-', out, at),
@@ -153,7 +157,7 @@ pub fn put_operator(page: &[u8], starts: &[u16], node: Node, out: &mut [u8], at:
     heads::put_operator(page, own.code, modifier, out, at)
 }
 
-// What stands behind a subquery's operand.
+// What stands after a subquery's operand.
 pub fn suffix_len(page: &[u8], starts: &[u16], node: Node, cap: usize) -> usize
     requires { ⌜ NodeAt (now page) (now starts) node ⌝ }
     ensures { λ r. ⌜ r ≡ min (length (suffix (layoutAt (now (page .entry)) node))) cap ⌝ }
@@ -164,9 +168,9 @@ pub fn suffix_len(page: &[u8], starts: &[u16], node: Node, cap: usize) -> usize
     };
     let own = spacing_of(page, starts, node);
     let step = own.step;
-    let parts = parts_of(page, starts, node);
-    let times = parts.times;
-    util::capped_add(subquery_len(own.range, step, times), 0, cap)
+    let attached = attached_of(page, starts, node);
+    let times = attached.times;
+    leaves::capped_add(subquery_len(own.range, step, times), 0, cap)
 }
 
 pub fn put_suffix(page: &[u8], starts: &[u16], node: Node, out: &mut [u8], at: usize) -> usize
@@ -180,7 +184,7 @@ pub fn put_suffix(page: &[u8], starts: &[u16], node: Node, out: &mut [u8], at: u
     };
     let own = spacing_of(page, starts, node);
     let step = own.step;
-    let parts = parts_of(page, starts, node);
-    let times = parts.times;
+    let attached = attached_of(page, starts, node);
+    let times = attached.times;
     put_subquery(own.range, step, times, out, at)
 }

@@ -1,5 +1,5 @@
 // Ranges, @ times, offsets and the suffix of a subquery (ast.rs, `get_time_suffix_string`): @ stands before offset.
-use records::Step;
+use records::OptionalDuration;
 use text::At;
 use text::Shift;
 use text::Times;
@@ -7,8 +7,8 @@ ghost use mathlib.Core.Path.{_≡_};
 ghost use Prim.Native.Nat.{_+_, _≤_};
 ghost use lib.ListN.{length};
 ghost use Rattle.base.specs.Splice.{Wrote};
-ghost use Rattle.records.specs.Answers.{stepOf};
-ghost use Rattle.util.specs.Duration.{displayDuration};
+ghost use Rattle.records.specs.Answers.{optionalDurationOf};
+ghost use Rattle.leaves.specs.Duration.{displayDuration};
 ghost use Rattle.text.specs.Display.{optional, displayTimes, displaySuffix};
 ghost use Rattle.text.specs.Layout.{displayRange};
 ghost use Rattle.text.specs.Answers.{atOf, shiftOf, timesOf};
@@ -19,7 +19,7 @@ fn at_len(at: At) -> usize
 {
     match at {
         At::None => 0,
-        At::Some(a) => util::at_len(a) + 1,
+        At::Some(a) => leaves::at_len(a) + 1,
     }
 }
 
@@ -31,7 +31,7 @@ fn put_at(time: At, out: &mut [u8], at: usize) -> usize
         At::None => at,
         At::Some(a) => {
             let next = page::put_byte(b' ', out, at);
-            util::put_at(a, out, next)
+            leaves::put_at(a, out, next)
         }
     }
 }
@@ -41,7 +41,7 @@ fn shift_len(offset: Shift) -> usize
 {
     match offset {
         Shift::None => 0,
-        Shift::Some(o) => util::offset_len(o) + 8,
+        Shift::Some(o) => leaves::offset_len(o) + 8,
     }
 }
 
@@ -53,7 +53,7 @@ fn put_shift(offset: Shift, out: &mut [u8], at: usize) -> usize
         Shift::None => at,
         Shift::Some(o) => {
             let next = page::put_bytes(b" offset ", out, at);
-            util::put_offset(o, out, next)
+            leaves::put_offset(o, out, next)
         }
     }
 }
@@ -76,60 +76,66 @@ pub fn put_times(times: Times, out: &mut [u8], at: usize) -> usize
     put_shift(offset, out, next)
 }
 
-pub fn range_len(range: Step) -> usize
-    ensures { λ r. ⌜ (r ≡ length (displayRange (stepOf range))) × (r ≤ 156) ⌝ }
+pub fn range_len(range: OptionalDuration) -> usize
+    ensures { λ r. ⌜ (r ≡ length (displayRange (optionalDurationOf range))) × (r ≤ 156) ⌝ }
 {
     match range {
-        Step::None => 0,
-        Step::Some(n) => util::duration_len(n) + 2,
+        OptionalDuration::None => 0,
+        OptionalDuration::Some(n) => leaves::duration_len(n) + 2,
     }
 }
 
-pub fn put_range(range: Step, out: &mut [u8], at: usize) -> usize
-    requires { ⌜ at + length (displayRange (stepOf range)) ≤ length (now out) ⌝ }
-    ensures { λ r. ⌜ Wrote (now (out .entry)) (now (out .exit)) at (displayRange (stepOf range)) r ⌝ }
+pub fn put_range(range: OptionalDuration, out: &mut [u8], at: usize) -> usize
+    requires { ⌜ at + length (displayRange (optionalDurationOf range)) ≤ length (now out) ⌝ }
+    ensures { λ r. ⌜ Wrote (now (out .entry)) (now (out .exit)) at (displayRange (optionalDurationOf range)) r ⌝ }
 {
     match range {
-        Step::None => at,
-        Step::Some(n) => {
+        OptionalDuration::None => at,
+        OptionalDuration::Some(n) => {
             let number = page::put_byte(b'[', out, at);
-            let closing = util::put_duration(n, out, number);
+            let closing = leaves::put_duration(n, out, number);
             page::put_byte(b']', out, closing)
         }
     }
 }
 
-fn step_len(step: Step) -> usize
-    ensures { λ r. ⌜ (r ≡ length (optional displayDuration (stepOf step))) × (r ≤ 154) ⌝ }
+fn step_len(step: OptionalDuration) -> usize
+    ensures { λ r. ⌜ (r ≡ length (optional displayDuration (optionalDurationOf step))) × (r ≤ 154) ⌝ }
 {
     match step {
-        Step::None => 0,
-        Step::Some(n) => util::duration_len(n),
+        OptionalDuration::None => 0,
+        OptionalDuration::Some(n) => leaves::duration_len(n),
     }
 }
 
-fn put_step(step: Step, out: &mut [u8], at: usize) -> usize
-    requires { ⌜ at + length (optional displayDuration (stepOf step)) ≤ length (now out) ⌝ }
-    ensures { λ r. ⌜ Wrote (now (out .entry)) (now (out .exit)) at (optional displayDuration (stepOf step)) r ⌝ }
+fn put_step(step: OptionalDuration, out: &mut [u8], at: usize) -> usize
+    requires { ⌜ at + length (optional displayDuration (optionalDurationOf step)) ≤ length (now out) ⌝ }
+    ensures { λ r. ⌜ Wrote (now (out .entry)) (now (out .exit)) at (optional displayDuration (optionalDurationOf step)) r ⌝ }
 {
     match step {
-        Step::None => at,
-        Step::Some(n) => util::put_duration(n, out, at),
+        OptionalDuration::None => at,
+        OptionalDuration::Some(n) => leaves::put_duration(n, out, at),
     }
 }
 
-pub fn subquery_len(range: u64, step: Step, times: Times) -> usize
-    ensures { λ r. ⌜ r ≡ length (displaySuffix range (stepOf step) (timesOf times)) ⌝ }
+pub fn subquery_len(range: u64, step: OptionalDuration, times: Times) -> usize
+    ensures { λ r. ⌜ r ≡ length (displaySuffix range (optionalDurationOf step) (timesOf times)) ⌝ }
 {
-    util::duration_len(range) + step_len(step) + times_len(times) + 3
+    leaves::duration_len(range) + step_len(step) + times_len(times) + 3
 }
 
-pub fn put_subquery(range: u64, step: Step, times: Times, out: &mut [u8], at: usize) -> usize
-    requires { ⌜ at + length (displaySuffix range (stepOf step) (timesOf times)) ≤ length (now out) ⌝ }
-    ensures { λ r. ⌜ Wrote (now (out .entry)) (now (out .exit)) at (displaySuffix range (stepOf step) (timesOf times)) r ⌝ }
+pub fn put_subquery(
+    range: u64,
+    step: OptionalDuration,
+    times: Times,
+    out: &mut [u8],
+    at: usize,
+) -> usize
+    requires { ⌜ at + length (displaySuffix range (optionalDurationOf step) (timesOf times)) ≤ length (now out) ⌝ }
+    ensures { λ r. ⌜ Wrote (now (out .entry)) (now (out .exit)) at (displaySuffix range (optionalDurationOf step) (timesOf times)) r ⌝ }
 {
     let number = page::put_byte(b'[', out, at);
-    let colon = util::put_duration(range, out, number);
+    let colon = leaves::put_duration(range, out, number);
     let second = page::put_byte(b':', out, colon);
     let closing = put_step(step, out, second);
     let behind = page::put_byte(b']', out, closing);

@@ -16,13 +16,13 @@ use Rattle.page.specs.Bytes.{pick, bytes}
 use Rattle.page.specs.Limits.{recordLimit}
 use Rattle.records.specs.Kind.{Kind}
 use Rattle.records.specs.Outcome.{Outcome, answer, refusal}
-use Rattle.util.specs.Decimal.{decimal}
-use Rattle.util.proofs.DecimalLaws.{decimal-short-64}
+use Rattle.leaves.specs.Decimal.{decimal}
+use Rattle.leaves.proofs.DecimalLaws.{decimal-short-64}
 use Rattle.ast.specs.Expr.{Expr, valueType}
 use Rattle.ast.specs.Walk.{Checked, accepted, refusedAt}
 use Rattle.ast.specs.CheckPage.{checkPage}
 use Rattle.ast.specs.Table.{isInTable, InTable}
-use Rattle.checking.proofs.ProgressLaws.{too-long}
+use Rattle.walk.proofs.ProgressLaws.{too-long}
 use Rattle.text.specs.Pretty.{prettify}
 use Rattle.outcomes.specs.Calls.{Called, tooShort, written, writing, splitText, Does}
 use Rattle.outcomes.specs.Output.{programBuffer, refusedLine, programLine, programOutput}
@@ -135,7 +135,7 @@ module _ (page out : List ℕ) (size : 65537 ≡ length out) where
         ap (λ (l : List ℕ). l ++ rest) (kept page lent d .2) ∙ sym (drop-append-le n lent rest (kept page lent d .1))
         ∙ ap (drop n) (take-append-drop 65536 out)
 
-    -- the text at the start, and all behind it as it was
+    -- the text at the start, and all after it as it was
     text-wrote : Wrote out (after ++ rest) 0 (take n after) n
     text-wrote =
         record {

@@ -1,10 +1,10 @@
 // What the program `sheet` writes for a page (document 01, 'Text'): split text, or `refused N at R`, and a line feed.
 use calls::split;
-use checking::Outcome;
-use judge::refusal::refusal_number;
+use leaves::decimal::put_decimal;
 use page::put_byte;
 use page::put_bytes;
-use util::decimal::put_decimal;
+use rules::refusal::refusal_number;
+use walk::Outcome;
 ghost use mathlib.Core.Path.{_≡_};
 ghost use Prim.Native.Nat.{_+_, _≤_};
 ghost use lib.ListN.{length};
@@ -33,7 +33,7 @@ fn put_line(page: &[u8], out: &mut [u8]) -> usize
     }
 }
 
-// The program's output at the start of the buffer; the bytes behind it stay.
+// The program's output at the start of the buffer; the bytes after it stay.
 pub fn put_sheet(page: &[u8], out: &mut [u8; 65537]) -> usize
     ensures { λ r. ⌜ Wrote (now (out .entry)) (now (out .exit)) 0 (programOutput (now (page .entry))) r ⌝ }
     ensures { λ r. ⌜ r ≤ length (now (out .exit)) ⌝ }

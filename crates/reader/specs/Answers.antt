@@ -8,8 +8,8 @@ use Rattle.page.specs.Listed.{AllRead}
 use Rattle.page.specs.Answers.{faultOf, spanOn, Lies}
 use Rattle.records.specs.Matcher as matcher
 use Rattle.records.specs.Record as spec
-use Rattle.records.specs.Answers.{matchersOn, literalOf, labelModifierOn, LabelModifierStored, modifierOn, ModifierStored, atModifierOf, offsetOf, stepOf}
-use Rattle.records.specs.Marks.{ListMarked}
+use Rattle.records.specs.Answers.{matchersOn, literalOf, labelModifierOn, LabelModifierStored, modifierOn, ModifierStored, atModifierOf, offsetOf, optionalDurationOf}
+use Rattle.records.specs.MatcherFacts.{ListFacts}
 use Rattle.records.specs.SignatureAnswers.{functionOn, FunctionLies}
 use Rattle.reader.specs.declared.Selector.{Selector}
 use Rattle.reader.specs.declared.Record.{Record}
@@ -28,7 +28,7 @@ recordOn page (code.Number l) = spec.leaf (spec.number (literalOf l))
 recordOn page (code.String s) = spec.leaf (spec.string (spanOn page s))
 recordOn page (code.Selector s) = spec.leaf (spec.selector (selectorOn page s))
 recordOn page (code.Range n) = spec.wrapper (spec.range n)
-recordOn page (code.Subquery n s) = spec.wrapper (spec.subquery n (stepOf s))
+recordOn page (code.Subquery n s) = spec.wrapper (spec.subquery n (optionalDurationOf s))
 recordOn page (code.At a) = spec.wrapper (spec.at (atModifierOf a))
 recordOn page (code.Offset o) = spec.wrapper (spec.offset (offsetOf o))
 recordOn page code.Unary = spec.wrapper spec.unary
@@ -44,7 +44,7 @@ recordAt page (record-answer.Bad f) = refused (faultOf f)
 -- a selector's name lies on the page, its marks are those of its matchers, and these can all be read again
 pub record SelectorRead (page : List ℕ) (s : Selector) : Type 0 where
   pub name : Lies page (s .name)
-  pub marked : ListMarked (matchersOn page (s .matchers) (s .count)) (s .named) (s .empty)
+  pub marked : ListFacts (matchersOn page (s .matchers) (s .count)) (s .named) (s .empty)
   pub stored : AllRead matcher.readMatcher (s .count) (drop (s .matchers) page)
 
 -- a record's own texts lie on the page: a string, a selector's name, a function's name (with the count of its kinds); its labels and matchers

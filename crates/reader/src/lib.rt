@@ -12,8 +12,8 @@ use records::Modifier;
 use records::ModifierField;
 use records::Offset;
 use records::OffsetField;
-use records::Step;
-use records::StepField;
+use records::OptionalDuration;
+use records::OptionalDurationField;
 use records::read_at_modifier;
 use records::read_function;
 use records::read_label_modifier;
@@ -21,7 +21,7 @@ use records::read_literal;
 use records::read_matchers;
 use records::read_modifier;
 use records::read_offset;
-use records::read_step;
+use records::read_optional_duration;
 ghost use mathlib.Core.Path.{_≡_};
 ghost use lib.ListN.{drop};
 ghost use Rattle.page.specs.Read.{readerAt};
@@ -44,7 +44,7 @@ pub enum Record {
     String(page::Span),
     Selector(Selector),
     Range(u64),
-    Subquery(u64, Step),
+    Subquery(u64, OptionalDuration),
     At(AtModifier),
     Offset(Offset),
     Unary,
@@ -54,7 +54,7 @@ pub enum Record {
     Call(Function, usize),
 }
 
-// A record and the position behind it.
+// A record and the position after it.
 pub enum RecordField {
     Got(Record, usize),
     Bad(page::Fault),
@@ -133,9 +133,12 @@ fn read_subquery(page: &[u8], at: usize) -> RecordField
     ensures { λ r. ⌜ recordLies (now (page .entry)) r ⌝ }
 {
     match page::read_number(page, at) {
-        page::Number::Got(range, next) => match read_step(page, next) {
-            StepField::Got(step, end) => RecordField::Got(Record::Subquery(range, step), end),
-            StepField::Bad => RecordField::Bad(page::Fault::BadField),
+        page::Number::Got(range, next) => match read_optional_duration(page, next) {
+            OptionalDurationField::Got(step, end) => RecordField::Got(
+                Record::Subquery(range, step),
+                end,
+            ),
+            OptionalDurationField::Bad => RecordField::Bad(page::Fault::BadField),
         },
         page::Number::Bad => RecordField::Bad(page::Fault::BadField),
     }
@@ -203,7 +206,7 @@ fn read_call(page: &[u8], at: usize) -> RecordField
     }
 }
 
-// The record of a kind, behind the kind's number.
+// The record of a kind, after the kind's number.
 fn read_fields(page: &[u8], at: usize, kind: u64) -> RecordField
     ensures { λ r. ⌜ recordAt (now (page .entry)) r ≡ readerAt recordForms kind (drop at (now (page .entry))) ⌝ }
     ensures { λ r. ⌜ recordLies (now (page .entry)) r ⌝ }

@@ -1,4 +1,4 @@
--- Laws of lists as numbers (specs/Numbers): where a text stands, by the bytes that are left behind it; a list, an element at a time.
+-- Laws of lists as numbers (specs/Numbers): where a text stands, by the bytes that are left after it; a list, an element at a time.
 -- Assumes nothing.
 use Prim.Native.Nat.{ℕ, _-_, _≤_, _<_}
 use native.Mathlib.Omega.{arith}
@@ -18,7 +18,7 @@ use Rattle.page.specs.declared.text.Span.{Span}
 use Rattle.page.specs.declared.text.Text.{Text}
 use Rattle.page.specs.declared.text.Text.the-variants.{Got, Bad}
 use Rattle.page.proofs.ListLaws.{listed-more, listed-refused, listed-none}
-use Rattle.record_lines.specs.Numbers.{spanNumbers, readLabelNumbers, readMarkNumbers, readMatcherTexts, readMatcherNumbers}
+use Rattle.record_lines.specs.Numbers.{spanNumbers, readLabelNumbers, readPatternFlagNumbers, readMatcherTexts, readMatcherNumbers}
 
 -- ## A text
 
@@ -47,9 +47,9 @@ label-refused page from e a = let refuses = rw e at (a .0) in rw (← refuses)
 -- ## A matcher
 
 module _ (page : List ℕ) (op : ℕ) (s : List ℕ) where
-  -- behind its operator
+  -- after its operator
   pub texts-read : (t u : List ℕ) {n v : List ℕ} → got n t ≡ readLabelNumbers page s → got v u ≡ readLabelNumbers page t
-      → andThen (readMarkNumbers op u) (λ mark. return (op ∷ n ++ v ++ mark)) ≡ readMatcherTexts page op s
+      → andThen (readPatternFlagNumbers op u) (λ mark. return (op ∷ n ++ v ++ mark)) ≡ readMatcherTexts page op s
   unfolding readMatcherTexts
   texts-read t u e f = rw (← e, ← f)
 

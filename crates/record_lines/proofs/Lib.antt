@@ -1,3 +1,3 @@
 pub mod LineLaws
 pub mod ElementLaws
-pub mod ShownLaws
+pub mod ElementsShownLaws

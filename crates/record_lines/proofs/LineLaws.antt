@@ -8,7 +8,7 @@ use mathlib.Core.Path.{_≡_, refl, sym, ap, _∙_}
 use borrow.Author.Tests.{le-leb, lt-leb}
 use lib.ListN.{length, length-append}
 use Rattle.base.specs.Splice.{splice, Wrote, Cut, join, splice-nil, splice-splice, length-splice}
-use Rattle.util.specs.Decimal.{decimal}
+use Rattle.leaves.specs.Decimal.{decimal}
 use Rattle.record_lines.specs.Line.{Line, lineAt, put, putAll, Puts, spaced, Shows}
 
 -- ## put
@@ -46,7 +46,7 @@ putAll-room (t ∷ ts) a at h =
     ∙ putAll-room ts (splice a at t) (at + length t) (omega arith)
     ∙ rw (splice-splice a at t (join ts) (omega arith), all, add-assoc at (length t) (length (join ts)))
 
--- where the line has room for all its texts, it is these as they stand, all else is as it was, and the position is the one behind them
+-- where the line has room for all its texts, it is these as they stand, all else is as it was, and the position is the one after them
 pub puts-wrote : {a b : List ℕ} {at n : ℕ} {ts : List (List ℕ)} → Puts a at ts b n → at + length (join ts) ≤ length a → Wrote a b at (join ts) n
 puts-wrote {a} {b} {at} {n} {ts} p h =
     let e : lineAt b n ≡ lineAt (splice a at (join ts)) (at + length (join ts)) = sym (p .is) ∙ putAll-room ts a at h in

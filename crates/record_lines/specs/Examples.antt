@@ -12,24 +12,24 @@ use Rattle.page.specs.Bytes.{bytes, all, equal}
 use Rattle.page.specs.Read.{badField}
 use Rattle.page.specs.Listed.{listed}
 use Rattle.page.specs.declared.text.Span.{Span}
-use Rattle.util.specs.Decimal.{digits, decimal}
+use Rattle.leaves.specs.Decimal.{digits, decimal}
 use Rattle.records.specs.declared.kind.Kind.the-variants.{Scalar}
 use Rattle.records.specs.declared.literal.Literal.the-variants.{Whole, Negative}
 use Rattle.records.specs.declared.literal.Fill.the-variants as fill
 use Rattle.records.specs.declared.modifier.LabelModifier.the-variants.{Include, Exclude}
 use Rattle.records.specs.declared.modifier.Cardinality.the-variants.{OneToMany}
 use Rattle.records.specs.declared.modifier.Modifier.the-variants as modifier
-use Rattle.records.specs.declared.time.Step.the-variants as step
+use Rattle.records.specs.declared.time.OptionalDuration.the-variants as step
 use Rattle.records.specs.declared.time.AtModifier.the-variants.{Before}
 use Rattle.records.specs.declared.time.Offset.the-variants.{Neg}
 use Rattle.records.specs.declared.signature.Variadic.the-variants.{UpTo}
 use Rattle.reader.specs.declared.Record.{Record}
 use Rattle.reader.specs.declared.Record.the-variants as code
 use Rattle.record_lines.specs.Line.{Line, put, putAll, Puts, spaced}
-use Rattle.record_lines.specs.Numbers.{readLabelNumbers, readMarkNumbers, readMatcherTexts, readMatcherNumbers, readKindNumbers, listNumbers}
+use Rattle.record_lines.specs.Numbers.{readLabelNumbers, readPatternFlagNumbers, readMatcherTexts, readMatcherNumbers, readKindNumbers, listNumbers}
 use Rattle.record_lines.specs.Lines.{recordLine, faultLine, endLine}
 
--- a page with one record, what is read of it, the position behind it, and its line
+-- a page with one record, what is read of it, the position after it, and its line
 record Example : Type 0 where
   page : List ℕ
   shown : Record
@@ -84,7 +84,7 @@ abbrev holds : Example → Bool
 holds e = equal (join (recordLine (e .page) (e .shown) (e .next))) (bytes (e .line))
 
 twelveKinds : T (all holds examples && equal (join (faultLine badField 1)) (bytes "fault 1 at 1\n") && equal (join (endLine 12)) (bytes "end 12\n"))
-unfolding join listed digits decimal spaced readLabelNumbers readMarkNumbers readMatcherTexts readMatcherNumbers readKindNumbers listNumbers
+unfolding join listed digits decimal spaced readLabelNumbers readPatternFlagNumbers readMatcherTexts readMatcherNumbers readKindNumbers listNumbers
 twelveKinds = tt
 
 -- ## Lines that the contract of `record_line` rules out
@@ -99,5 +99,5 @@ endForSize p = subst (λ (l : Line). T (equal (l .buffer) (bytes "3 1 2 1\n"))) 
 
 -- the flag of `!~` shown as 0
 flagForgotten : RuledOut twoMatchers selector 14 "14 2 2 0 2 1 5 1 7 1 3 10 1 12 1 0\n"
-unfolding splice put putAll join listed digits decimal spaced readLabelNumbers readMarkNumbers readMatcherTexts readMatcherNumbers listNumbers
+unfolding splice put putAll join listed digits decimal spaced readLabelNumbers readPatternFlagNumbers readMatcherTexts readMatcherNumbers listNumbers
 flagForgotten p = subst (λ (l : Line). T (equal (l .buffer) (bytes "14 2 2 0 2 1 5 1 7 1 3 10 1 12 1 1\n"))) (p .is) tt

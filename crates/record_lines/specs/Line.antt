@@ -1,5 +1,5 @@
 -- A line put together in a buffer, text by text, from a position on. A text that does not fit is left out.
---     putAll texts (lineAt buffer at)     the buffer and the position behind the line, after these texts
+--     putAll texts (lineAt buffer at)     the buffer and the position after the line, after these texts
 --     Puts before at texts after next     what a writer says: it put these texts
 --     Shows before at numbers after next  the same of numbers, each as a space and its digits
 -- Where all of them fit, the line is the texts one after another (`puts-wrote`, proofs/LineLaws).
@@ -10,7 +10,7 @@ use lib.Dec.{leb}
 use lib.ListN.{length}
 use Rattle.base.specs.Splice.{splice}
 use Rattle.page.specs.Bytes.{pick}
-use Rattle.util.specs.Decimal.{decimal}
+use Rattle.leaves.specs.Decimal.{decimal}
 
 pub record Line : Type 0 where
   pub buffer : List ℕ
@@ -29,7 +29,7 @@ putAll (t ∷ ts) l = putAll ts (put t l)
 pub record Puts (before : List ℕ) (at : ℕ) (texts : List (List ℕ)) (after : List ℕ) (next : ℕ) : Type 0 where
   pub is : putAll texts (lineAt before at) ≡ lineAt after next
 
--- each number behind a space
+-- each number after a space
 unfoldable pub spaced : List ℕ → List (List ℕ)
 spaced [] = []
 spaced (n ∷ ns) = (32 ∷ []) ∷ decimal n ∷ spaced ns

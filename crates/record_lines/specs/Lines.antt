@@ -3,12 +3,12 @@ use Prim.Native.Nat.{ℕ}
 use mathlib.Core.List.{List, [], _∷_, _++_}
 use Rattle.page.specs.Bytes.{bytes}
 use Rattle.page.specs.Read.{FieldFault, faultNumber}
-use Rattle.util.specs.Decimal.{decimal}
+use Rattle.leaves.specs.Decimal.{decimal}
 use Rattle.reader.specs.declared.Record.{Record}
 use Rattle.record_lines.specs.Line.{spaced}
 use Rattle.record_lines.specs.Numbers.{recordNumbers}
 
--- the position behind the record, and its numbers
+-- the position after the record, and its numbers
 abbrev pub recordLine : List ℕ → Record → ℕ → List (List ℕ)
 recordLine page r next = decimal next ∷ spaced (recordNumbers page r) ++ (bytes "\n" ∷ [])
 

@@ -26,8 +26,8 @@ use Rattle.records.specs.declared.modifier.Cardinality.the-variants.{OneToOne, 
 use Rattle.records.specs.declared.modifier.BinModifier.{BinModifier}
 use Rattle.records.specs.declared.modifier.Modifier.{Modifier}
 use Rattle.records.specs.declared.modifier.Modifier.the-variants as modifier
-use Rattle.records.specs.declared.time.Step.{Step}
-use Rattle.records.specs.declared.time.Step.the-variants as step
+use Rattle.records.specs.declared.time.OptionalDuration.{OptionalDuration}
+use Rattle.records.specs.declared.time.OptionalDuration.the-variants as step
 use Rattle.records.specs.declared.time.AtModifier.{AtModifier}
 use Rattle.records.specs.declared.time.AtModifier.the-variants.{Start, End, After, Before}
 use Rattle.records.specs.declared.time.Offset.{Offset}
@@ -62,22 +62,22 @@ fillNumbers (fill.Some l) = 1 ∷ literalNumbers l
 -- ## Lists, read again from their first element on
 
 -- The numbers stop at an element that cannot be read; of a record that was read none is left out (`labels-shown`, `matchers-shown`,
--- `kinds-shown`, proofs/ShownLaws).
+-- `kinds-shown`, proofs/ElementsShownLaws).
 
 -- a text, where it stands: the bytes that are left tell how far the reader has come
 unfoldable pub readLabelNumbers : List ℕ → Reader (List ℕ)
 readLabelNumbers page = readAnyText >>= λ t rest. got ((length page - length rest - length t) ∷ length t ∷ []) rest
 
 -- the flag of a pattern, `=~` and `!~`
-unfoldable pub readMarkNumbers : ℕ → Reader (List ℕ)
-readMarkNumbers op = pick (ltb op 2) (return []) (readFlag >>= λ b. return (flagNumber b ∷ []))
+unfoldable pub readPatternFlagNumbers : ℕ → Reader (List ℕ)
+readPatternFlagNumbers op = pick (ltb op 2) (return []) (readFlag >>= λ b. return (flagNumber b ∷ []))
 
 -- what follows the operator of a matcher
 unfoldable pub readMatcherTexts : List ℕ → ℕ → Reader (List ℕ)
 readMatcherTexts page op = do
   name ← readLabelNumbers page
   value ← readLabelNumbers page
-  mark ← readMarkNumbers op
+  mark ← readPatternFlagNumbers op
   return (op ∷ name ++ value ++ mark)
 
 unfoldable pub readMatcherNumbers : List ℕ → Reader (List ℕ)
@@ -120,7 +120,7 @@ modifierNumbers page (modifier.Some m) = 1 ∷ binModifierNumbers page m
 
 -- ## Times and signatures
 
-abbrev pub stepNumbers : Step → List ℕ
+abbrev pub stepNumbers : OptionalDuration → List ℕ
 stepNumbers step.None = 0 ∷ []
 stepNumbers (step.Some n) = 1 ∷ n ∷ []
 

@@ -11,7 +11,7 @@ ghost use mathlib.Core.Path.{_≡_};
 ghost use mathlib.Core.List.{_∷_, _++_};
 ghost use lib.ListN.{drop};
 ghost use Rattle.page.specs.Read.{andThen, return};
-ghost use Rattle.record_lines.specs.Numbers.{spanNumbers, readLabelNumbers, readKindNumbers, readMarkNumbers, readMatcherTexts, readMatcherNumbers};
+ghost use Rattle.record_lines.specs.Numbers.{spanNumbers, readLabelNumbers, readKindNumbers, readPatternFlagNumbers, readMatcherTexts, readMatcherNumbers};
 ghost use Rattle.record_lines.specs.Answers.{elementAt, readElement};
 
 // A label where it stands; the number of a matcher's operator, where its name and its value stand, and the flag of a pattern; the number
@@ -22,7 +22,7 @@ pub enum Element {
     Kind(u64),
 }
 
-// An element and the position behind it.
+// An element and the position after it.
 pub enum ElementField {
     Got(Element, usize),
     Bad(Fault),
@@ -48,9 +48,9 @@ fn read_kind(page: &[u8], at: usize) -> ElementField
     }
 }
 
-// The rest of a matcher, behind its value: a pattern has a flag.
-fn read_mark(page: &[u8], op: u64, name: Span, value: Span) -> ElementField
-    ensures { λ r. ⌜ elementAt (now (page .entry)) r ≡ andThen (readMarkNumbers op (drop (value .end) (now (page .entry)))) (λ mark. return (op ∷ spanNumbers name ++ spanNumbers value ++ mark)) ⌝ }
+// The rest of a matcher, after its value: a pattern has a flag.
+fn read_pattern_flag(page: &[u8], op: u64, name: Span, value: Span) -> ElementField
+    ensures { λ r. ⌜ elementAt (now (page .entry)) r ≡ andThen (readPatternFlagNumbers op (drop (value .end) (now (page .entry)))) (λ mark. return (op ∷ spanNumbers name ++ spanNumbers value ++ mark)) ⌝ }
 {
     if op < 2 {
         let plain = Element::Matcher(op, name, value, Numbers::None);
@@ -65,13 +65,13 @@ fn read_mark(page: &[u8], op: u64, name: Span, value: Span) -> ElementField
     }
 }
 
-// The rest of a matcher, behind its operator.
+// The rest of a matcher, after its operator.
 fn read_texts(page: &[u8], at: usize, op: u64) -> ElementField
     ensures { λ r. ⌜ elementAt (now (page .entry)) r ≡ readMatcherTexts (now (page .entry)) op (drop at (now (page .entry))) ⌝ }
 {
     match read_text(page, at, TextClass::Any) {
         Text::Got(name) => match read_text(page, name.end, TextClass::Any) {
-            Text::Got(value) => read_mark(page, op, name, value),
+            Text::Got(value) => read_pattern_flag(page, op, name, value),
             Text::Bad(f) => ElementField::Bad(f),
         },
         Text::Bad(f) => ElementField::Bad(f),

@@ -26,7 +26,7 @@ fn fault_number(f: page::Fault) -> u64
     }
 }
 
-// The line of a record, with the position behind it.
+// The line of a record, with the position after it.
 pub fn record_line(page: &[u8], r: reader::Record, next: usize, line: &mut [u8]) -> usize
     ensures { λ end. ⌜ Puts (now (line .entry)) 0 (recordLine (now (page .entry)) r next) (now (line .exit)) end ⌝ }
 {

@@ -1,8 +1,8 @@
 // A line put together in a buffer, text by text. What does not fit is left out.
-use util::decimal::decimal_len;
-use util::decimal::put_decimal;
+use leaves::decimal::decimal_len;
+use leaves::decimal::put_decimal;
 ghost use mathlib.Core.List.{[], _∷_};
-ghost use Rattle.util.specs.Decimal.{decimal};
+ghost use Rattle.leaves.specs.Decimal.{decimal};
 ghost use Rattle.record_lines.specs.Line.{Puts, Shows};
 
 pub fn put_text(text: &[u8], line: &mut [u8], at: usize) -> usize

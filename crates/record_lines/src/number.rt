@@ -4,7 +4,7 @@ use records::AtModifier;
 use records::Kind;
 use records::Literal;
 use records::Offset;
-use records::Step;
+use records::OptionalDuration;
 use records::Variadic;
 ghost use mathlib.Core.Path.{_≡_};
 ghost use Prim.Native.Nat.{_-_};
@@ -88,12 +88,12 @@ pub fn put_literal(literal: Literal, line: &mut [u8], at: usize) -> usize
     put_numbers(literal_numbers(literal), line, at)
 }
 
-pub fn step_numbers(step: Step) -> Numbers
+pub fn step_numbers(step: OptionalDuration) -> Numbers
     ensures { λ r. ⌜ numbersOf r ≡ stepNumbers step ⌝ }
 {
     match step {
-        Step::None => Numbers::One(0),
-        Step::Some(n) => Numbers::Two(1, n),
+        OptionalDuration::None => Numbers::One(0),
+        OptionalDuration::Some(n) => Numbers::Two(1, n),
     }
 }
 

@@ -17,7 +17,7 @@ use reader::Selector;
 use records::Function;
 use records::LabelModifier;
 use records::Modifier;
-use records::Step;
+use records::OptionalDuration;
 ghost use mathlib.Core.Path.{_≡_};
 ghost use mathlib.Core.List.{[], _∷_, _++_};
 ghost use Rattle.record_lines.specs.Line.{Shows};
@@ -38,7 +38,7 @@ fn put_selector(page: &[u8], s: Selector, line: &mut [u8], at: usize) -> usize
     )
 }
 
-fn put_subquery(range: u64, step: Step, line: &mut [u8], at: usize) -> usize
+fn put_subquery(range: u64, step: OptionalDuration, line: &mut [u8], at: usize) -> usize
     ensures { λ r. ⌜ Shows (now (line .entry)) at (range ∷ stepNumbers step) (now (line .exit)) r ⌝ }
 {
     let next = put_spaced(range, line, at);

@@ -1,4 +1,4 @@
--- The parts of a matcher that can be read: its operator is the first byte, then come two texts that can be read, and behind a pattern a mark
+-- The parts of a matcher that can be read: its operator is the first byte, then come two texts that can be read, and after a pattern a flag
 -- that is one byte. Assumes nothing.
 use Prim.Native.Nat.{ℕ, zero, suc, _+_, _≤_, _<_}
 use mathlib.Core.Path.{_≡_, refl, sym, ap, _∙_}
@@ -13,7 +13,7 @@ use Rattle.page.specs.Listed.{Readable}
 use Rattle.page.proofs.StoredLaws.{first-readable, next-readable, Chosen, choice-stored}
 use Rattle.records.specs.Field.{flagForms, readFlag}
 use Rattle.records.specs.Matcher.{matcherOf, equal, notEqual, re, notRe, matcherForms, readMatcher}
-use Rattle.records.proofs.MarkLaws.{by-operator}
+use Rattle.records.proofs.MatcherFactsLaws.{by-operator}
 
 -- ## Flags
 
@@ -64,8 +64,8 @@ module _ (page : List ℕ) (at : ℕ) (readable : Readable readMatcher (drop at 
         (getD page at 0) operator-few form
 
     module _ {v : Text} {u : List ℕ} (value : got v u ≡ readAnyText t) where
-      pub mark-stored : (getD page at 0 ≡ 0 → ⊥) → (getD page at 0 ≡ 1 → ⊥) → Readable readFlag u
-      mark-stored none one =
+      pub pattern-flag-stored : (getD page at 0 ≡ 0 → ⊥) → (getD page at 0 ≡ 1 → ⊥) → Readable readFlag u
+      pattern-flag-stored none one =
           by-operator (λ k. (k ≡ 0 → ⊥) → (k ≡ 1 → ⊥) → Readable (readerAt matcherForms k) (drop (at + 1) page) → Readable readFlag u)
           (λ a b h. absurd (a refl))
           (λ a b h. absurd (b refl))
@@ -82,9 +82,9 @@ module _ (page : List ℕ) (at : ℕ) (readable : Readable readMatcher (drop at 
       pub is-not-equal : getD page at 0 ≡ 1 → got (matcherOf notEqual n v) u ≡ readMatcher (drop at page)
       is-not-equal e = sym (by-form e ∙ rw (← name, ← value))
 
-      module _ {b : Bool} {w : List ℕ} (mark : got b w ≡ readFlag u) where
+      module _ {b : Bool} {w : List ℕ} (flag : got b w ≡ readFlag u) where
         pub is-pattern : getD page at 0 ≡ 2 → got (matcherOf (re b) n v) w ≡ readMatcher (drop at page)
-        is-pattern e = sym (by-form e ∙ rw (← name, ← value, ← mark))
+        is-pattern e = sym (by-form e ∙ rw (← name, ← value, ← flag))
 
         pub is-negated : (getD page at 0 ≡ 0 → ⊥) → (getD page at 0 ≡ 1 → ⊥) → (getD page at 0 ≡ 2 → ⊥) → got (matcherOf (notRe b) n v) w ≡ readMatcher (drop at page)
-        is-negated none one two = sym (by-form {op = 3} (omega (arith, none, one, two, operator-few)) ∙ rw (← name, ← value, ← mark))
+        is-negated none one two = sym (by-form {op = 3} (omega (arith, none, one, two, operator-few)) ∙ rw (← name, ← value, ← flag))

@@ -56,10 +56,10 @@ use Rattle.records.specs.declared.time.Offset.{Offset}
 use Rattle.records.specs.declared.time.Offset.the-variants.{Pos, Neg}
 use Rattle.records.specs.declared.time.OffsetField.{OffsetField}
 use Rattle.records.specs.declared.time.OffsetField.the-variants as offset-answer
-use Rattle.records.specs.declared.time.Step.{Step}
-use Rattle.records.specs.declared.time.Step.the-variants as step
-use Rattle.records.specs.declared.time.StepField.{StepField}
-use Rattle.records.specs.declared.time.StepField.the-variants as step-answer
+use Rattle.records.specs.declared.time.OptionalDuration.{OptionalDuration}
+use Rattle.records.specs.declared.time.OptionalDuration.the-variants as step
+use Rattle.records.specs.declared.time.OptionalDurationField.{OptionalDurationField}
+use Rattle.records.specs.declared.time.OptionalDurationField.the-variants as step-answer
 
 -- ## Flags and kinds
 
@@ -229,10 +229,10 @@ abbrev pub offsetAt : List ℕ → OffsetField → Read time.Offset
 offsetAt page (offset-answer.Got o next) = got (offsetOf o) (drop next page)
 offsetAt page offset-answer.Bad = refused badField
 
-abbrev pub stepOf : Step → Option ℕ
-stepOf step.None = none
-stepOf (step.Some n) = some n
+abbrev pub optionalDurationOf : OptionalDuration → Option ℕ
+optionalDurationOf step.None = none
+optionalDurationOf (step.Some n) = some n
 
-abbrev pub stepAt : List ℕ → StepField → Read (Option ℕ)
-stepAt page (step-answer.Got s next) = got (stepOf s) (drop next page)
-stepAt page step-answer.Bad = refused badField
+abbrev pub optionalDurationAt : List ℕ → OptionalDurationField → Read (Option ℕ)
+optionalDurationAt page (step-answer.Got s next) = got (optionalDurationOf s) (drop next page)
+optionalDurationAt page step-answer.Bad = refused badField

@@ -7,7 +7,7 @@ ghost use Rattle.page.specs.Answers.{listAt, listStored};
 ghost use Rattle.records.specs.Field.{readFlag, readKind};
 ghost use Rattle.records.specs.Answers.{flagAt, kindAt};
 
-// 0 or 1, and the position behind it.
+// 0 or 1, and the position after it.
 pub enum Flag {
     Got(bool, usize),
     Bad,
@@ -33,7 +33,7 @@ pub enum Kind {
     String,
 }
 
-// A kind and the position behind it.
+// A kind and the position after it.
 pub enum KindField {
     Got(Kind, usize),
     Bad,

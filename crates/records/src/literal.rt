@@ -14,7 +14,7 @@ pub enum Literal {
     NegInf,
 }
 
-// A literal and the position behind it.
+// A literal and the position after it.
 pub enum LiteralField {
     Got(Literal, usize),
     Bad,

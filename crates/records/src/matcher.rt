@@ -8,9 +8,9 @@ ghost use Rattle.page.specs.Read.{repeat, readerAt};
 ghost use Rattle.page.specs.Text.{readList};
 ghost use Rattle.page.specs.Answers.{spanOn, Lies};
 ghost use Rattle.records.specs.Matcher.{readMatcher, isMetricLabel};
-ghost use Rattle.records.specs.Marks.{readMarks, patternMarks, markForms, marksAt, matchersAt, matchersMarked};
+ghost use Rattle.records.specs.MatcherFacts.{readMatcherFacts, patternFacts, factForms, matcherFactsAt, matchersAt, matchersStored};
 
-// How a matcher compares; a pattern has the mark that it matches empty text.
+// How a matcher compares; a pattern has the flag that it matches empty text.
 pub enum MatchOp {
     Equal,
     NotEqual,
@@ -25,8 +25,8 @@ pub struct Matcher {
     pub value: page::Span,
 }
 
-// What the check asks of a matcher: whether it is named `__name__`, whether it accepts empty text, and the position behind it.
-pub enum Marks {
+// What the check asks of a matcher: whether it is named `__name__`, whether it accepts empty text, and the position after it.
+pub enum MatcherFacts {
     Got(bool, bool, usize),
     Bad(page::Fault),
 }
@@ -38,62 +38,62 @@ fn is_metric_label(page: &[u8], name: page::Span) -> bool
     page::same_text(page::text_at(page, name), b"__name__")
 }
 
-// The mark of a pattern, inverted by `!~`.
-fn mark_pattern(page: &[u8], at: usize, op: u64, named: bool) -> Marks
-    ensures { λ r. ⌜ marksAt (now (page .entry)) r ≡ patternMarks op named (drop at (now (page .entry))) ⌝ }
+// The flag of a pattern, inverted by `!~`.
+fn read_pattern_facts(page: &[u8], at: usize, op: u64, named: bool) -> MatcherFacts
+    ensures { λ r. ⌜ matcherFactsAt (now (page .entry)) r ≡ patternFacts op named (drop at (now (page .entry))) ⌝ }
 {
     match read_flag(page, at) {
-        Flag::Got(mark, next) => {
+        Flag::Got(flag, next) => {
             if op == 2 {
-                return Marks::Got(named, mark, next);
+                return MatcherFacts::Got(named, flag, next);
             }
-            Marks::Got(named, !mark, next)
+            MatcherFacts::Got(named, !flag, next)
         }
-        Flag::Bad => Marks::Bad(page::Fault::BadField),
+        Flag::Bad => MatcherFacts::Bad(page::Fault::BadField),
     }
 }
 
-// The rest of a matcher, behind its name.
-fn mark_value(page: &[u8], at: usize, op: u64, named: bool) -> Marks
+// The rest of a matcher, after its name.
+fn read_value_facts(page: &[u8], at: usize, op: u64, named: bool) -> MatcherFacts
     requires { ⌜ op ≤ 3 ⌝ }
-    ensures { λ r. ⌜ marksAt (now (page .entry)) r ≡ readerAt (markForms named) op (drop at (now (page .entry))) ⌝ }
+    ensures { λ r. ⌜ matcherFactsAt (now (page .entry)) r ≡ readerAt (factForms named) op (drop at (now (page .entry))) ⌝ }
 {
     match page::read_text(page, at, page::TextClass::Any) {
         page::Text::Got(value) => {
             if op == 0 {
-                return Marks::Got(named, value.start == value.end, value.end);
+                return MatcherFacts::Got(named, value.start == value.end, value.end);
             }
             if op == 1 {
-                return Marks::Got(named, value.start != value.end, value.end);
+                return MatcherFacts::Got(named, value.start != value.end, value.end);
             }
-            mark_pattern(page, value.end, op, named)
+            read_pattern_facts(page, value.end, op, named)
         }
-        page::Text::Bad(f) => Marks::Bad(f),
+        page::Text::Bad(f) => MatcherFacts::Bad(f),
     }
 }
 
-// A matcher read for its marks alone.
-pub fn mark_matcher(page: &[u8], at: usize) -> Marks
-    ensures { λ r. ⌜ marksAt (now (page .entry)) r ≡ readMarks (drop at (now (page .entry))) ⌝ }
+// A matcher read for its facts alone.
+pub fn read_matcher_facts(page: &[u8], at: usize) -> MatcherFacts
+    ensures { λ r. ⌜ matcherFactsAt (now (page .entry)) r ≡ readMatcherFacts (drop at (now (page .entry))) ⌝ }
 {
     match page::read_number(page, at) {
         page::Number::Got(op, next) => {
             if 3 < op {
-                return Marks::Bad(page::Fault::BadField);
+                return MatcherFacts::Bad(page::Fault::BadField);
             }
             match page::read_text(page, next, page::TextClass::Any) {
                 page::Text::Got(name) => {
-                    mark_value(page, name.end, op, is_metric_label(page, name))
+                    read_value_facts(page, name.end, op, is_metric_label(page, name))
                 }
-                page::Text::Bad(f) => Marks::Bad(f),
+                page::Text::Bad(f) => MatcherFacts::Bad(f),
             }
         }
-        page::Number::Bad => Marks::Bad(page::Fault::BadField),
+        page::Number::Bad => MatcherFacts::Bad(page::Fault::BadField),
     }
 }
 
 // Where the first matcher starts and how many there are, whether one is named `__name__`, whether all accept empty text, and the
-// position behind the last.
+// position after the last.
 pub enum Matchers {
     Got(usize, usize, bool, bool, usize),
     Bad(page::Fault),
@@ -102,21 +102,21 @@ pub enum Matchers {
 // So many matchers from a position on.
 pub fn matchers_from(page: &[u8], start: usize, count: usize) -> Matchers
     ensures { λ r. ⌜ matchersAt (now (page .entry)) r ≡ repeat count readMatcher (drop start (now (page .entry))) ⌝ }
-    ensures { λ r. ⌜ matchersMarked (now (page .entry)) r ⌝ }
+    ensures { λ r. ⌜ matchersStored (now (page .entry)) r ⌝ }
 {
     let mut left = count;
     let mut at = start;
     let mut named = false;
     let mut empty = true;
     while 0 < left {
-        match mark_matcher(page, at) {
-            Marks::Got(name, accepts, next) => {
+        match read_matcher_facts(page, at) {
+            MatcherFacts::Got(name, accepts, next) => {
                 named = named | name;
                 empty = empty & accepts;
                 at = next;
                 left = left - 1;
             }
-            Marks::Bad(f) => {
+            MatcherFacts::Bad(f) => {
                 return Matchers::Bad(f);
             }
         }
@@ -127,7 +127,7 @@ pub fn matchers_from(page: &[u8], start: usize, count: usize) -> Matchers
 // A count, and so many matchers.
 pub fn read_matchers(page: &[u8], at: usize) -> Matchers
     ensures { λ r. ⌜ matchersAt (now (page .entry)) r ≡ readList readMatcher (drop at (now (page .entry))) ⌝ }
-    ensures { λ r. ⌜ matchersMarked (now (page .entry)) r ⌝ }
+    ensures { λ r. ⌜ matchersStored (now (page .entry)) r ⌝ }
 {
     match page::read_count(page, at) {
         page::Count::Got(count, start) => matchers_from(page, start, count),

@@ -1,4 +1,4 @@
-// A matcher that can be read: its operator and its mark are one byte each, its texts end where their lengths say. No byte is tested again.
+// A matcher that can be read: its operator and its flag are one byte each, its texts end where their lengths say. No byte is tested again.
 use crate::matcher::MatchOp;
 use crate::matcher::Matcher;
 ghost use mathlib.Core.Path.{_≡_};
@@ -8,7 +8,7 @@ ghost use Rattle.page.specs.Listed.{Readable};
 ghost use Rattle.records.specs.Matcher.{readMatcher};
 ghost use Rattle.records.specs.Answers.{matcherOn, MatcherLies};
 
-// A matcher and the position behind it.
+// A matcher and the position after it.
 pub struct StoredMatcher {
     pub matcher: Matcher,
     pub next: usize,
@@ -43,9 +43,9 @@ pub fn stored_matcher(page: &[u8], at: usize) -> StoredMatcher
     if op == 1 {
         return with_op(MatchOp::NotEqual, name, value, next);
     }
-    let mark = page[next] == 1;
+    let flag = page[next] == 1;
     if op == 2 {
-        return with_op(MatchOp::Re(mark), name, value, next + 1);
+        return with_op(MatchOp::Re(flag), name, value, next + 1);
     }
-    with_op(MatchOp::NotRe(mark), name, value, next + 1)
+    with_op(MatchOp::NotRe(flag), name, value, next + 1)
 }

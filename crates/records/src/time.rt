@@ -4,9 +4,9 @@ ghost use lib.ListN.{drop};
 ghost use Rattle.page.specs.Number.{readNumber};
 ghost use Rattle.records.specs.Field.{readOption};
 ghost use Rattle.records.specs.Time.{readTime, readNegativeTime, readAtModifier, readOffset};
-ghost use Rattle.records.specs.Answers.{amountAt, atModifierAt, offsetAt, stepAt};
+ghost use Rattle.records.specs.Answers.{amountAt, atModifierAt, offsetAt, optionalDurationAt};
 
-// A number within a limit of its own, and the position behind it.
+// A number within a limit of its own, and the position after it.
 pub enum Amount {
     Got(u64, usize),
     Bad(page::Fault),
@@ -114,28 +114,31 @@ pub fn read_offset(page: &[u8], at: usize) -> OffsetField
 }
 
 // A subquery's step, if there is one.
-pub enum Step {
+pub enum OptionalDuration {
     None,
     Some(u64),
 }
 
-pub enum StepField {
-    Got(Step, usize),
+pub enum OptionalDurationField {
+    Got(OptionalDuration, usize),
     Bad,
 }
 
-pub fn read_step(page: &[u8], at: usize) -> StepField
-    ensures { λ r. ⌜ stepAt (now (page .entry)) r ≡ readOption readNumber (drop at (now (page .entry))) ⌝ }
+pub fn read_optional_duration(page: &[u8], at: usize) -> OptionalDurationField
+    ensures { λ r. ⌜ optionalDurationAt (now (page .entry)) r ≡ readOption readNumber (drop at (now (page .entry))) ⌝ }
 {
     match page::read_number(page, at) {
         page::Number::Got(present, next) => match present {
-            0 => StepField::Got(Step::None, next),
+            0 => OptionalDurationField::Got(OptionalDuration::None, next),
             1 => match page::read_number(page, next) {
-                page::Number::Got(n, end) => StepField::Got(Step::Some(n), end),
-                page::Number::Bad => StepField::Bad,
+                page::Number::Got(n, end) => OptionalDurationField::Got(
+                    OptionalDuration::Some(n),
+                    end,
+                ),
+                page::Number::Bad => OptionalDurationField::Bad,
             },
-            _ => StepField::Bad,
+            _ => OptionalDurationField::Bad,
         },
-        page::Number::Bad => StepField::Bad,
+        page::Number::Bad => OptionalDurationField::Bad,
     }
 }

@@ -7,7 +7,7 @@ use Rattle.records.specs.Kind.{Kind}
 use Rattle.records.specs.Outcome.{Outcome, answer}
 use Rattle.ast.specs.CheckPage.{outcomeOf, check}
 use Rattle.ast.specs.Part.{emptyPart, labelPart}
-use Rattle.checking.proofs.ProgressLaws.{too-long}
+use Rattle.walk.proofs.ProgressLaws.{too-long}
 
 pub part-accepted : (page : List ℕ) {k : Kind} {n : ℕ} → answer k n ≡ check page → labelPart page (check page) ≡ emptyPart
 unfolding labelPart

@@ -1,13 +1,13 @@
 // The label of refusal 19 (document 01, 'Outcomes of a page'): the part of the page itself that holds it.
-use checking::Outcome;
-use checking::check;
-use judge::refusal::refusal_number;
 use page::Span;
 use page::text_at;
+use rules::refusal::refusal_number;
+use walk::Outcome;
+use walk::check;
 ghost use mathlib.Core.Path.{_≡_};
 ghost use Rattle.ast.specs.CheckPage.{check};
 ghost use Rattle.ast.specs.Part.{labelPart, partOf};
-ghost use Rattle.joint.specs.Answers.{IsPart};
+ghost use Rattle.joint_label.specs.Answers.{IsPart};
 
 // Where it starts and ends; no bytes where the page is not refused with 19. Only the outcome says whether there is a label.
 pub fn label_span(page: &[u8]) -> Span
@@ -16,7 +16,7 @@ pub fn label_span(page: &[u8]) -> Span
     match check(page) {
         Outcome::Accepted(_, _) => Span { start: 0, end: 0 },
         Outcome::Refused(refusal, index) => {
-            joint::joint_label(page, refusal_number(refusal), index)
+            joint_label::joint_label(page, refusal_number(refusal), index)
         }
     }
 }

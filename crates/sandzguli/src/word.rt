@@ -1,11 +1,11 @@
 // An outcome as one 64-bit word, for C (house format).
-use checking::Outcome;
-use judge::refusal::refusal_number;
 use records::Kind;
+use rules::refusal::refusal_number;
+use walk::Outcome;
 ghost use mathlib.Core.Path.{_≡_};
 ghost use Rattle.records.specs.Kind.{kindNumber};
 ghost use Rattle.records.specs.Answers.{kindOf};
-ghost use Rattle.checking.specs.Answers.{outcomeMeant};
+ghost use Rattle.walk.specs.Answers.{outcomeMeant};
 ghost use Rattle.sandzguli.specs.Words.{outcomeWord, FitsWord};
 
 fn kind_number(kind: Kind) -> u64

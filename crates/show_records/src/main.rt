@@ -3,7 +3,7 @@
 // Standard input is a stream of pages, each a length of four bytes, lowest first, and so many bytes, at most 65,536. For each page a line is
 // written for each record, from the left to the page's end or the first record that cannot be read (no limit on the count of records):
 //
-//     NEXT KIND FIELDS..     the position behind the record, its kind 0 to 11, and its fields in the order of the page
+//     NEXT KIND FIELDS..     the position after the record, its kind 0 to 11, and its fields in the order of the page
 //     fault N at R           record R is refused with N, 1, 3 or 4
 //     end R                  the page ends after R records
 //
@@ -12,8 +12,8 @@
 // kinds, 0 to 2 (2 with the upper), the result kind and the count of arguments.
 //
 // Input that is no such stream, as a page without its length, is answered on standard error by a sentence that says what is wanted.
-use input::Part;
-use input::read_part;
+use input::Block;
+use input::read_block;
 use reader::RecordField;
 use reader::read_record;
 use record_lines::end_line;
@@ -70,13 +70,13 @@ fn say_what_is_wanted() {
 
 // Shows the next page, and answers whether there was one.
 fn show_next(buffer: &mut [u8], line: &mut [u8]) -> bool {
-    match read_part(buffer) {
-        Part::Got(size) => {
+    match read_block(buffer) {
+        Block::Got(size) => {
             show_page(&buffer[..size], line);
             true
         }
-        Part::End => false,
-        Part::Bad => {
+        Block::End => false,
+        Block::Bad => {
             say_what_is_wanted();
             false
         }

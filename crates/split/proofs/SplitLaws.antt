@@ -9,10 +9,10 @@ use Rattle.base.specs.Splice.{Run, start, join}
 use Rattle.records.specs.Stack.{operandsOf}
 use Rattle.ast.specs.Tables.{Tables, stackAt, treeAt}
 use Rattle.text.specs.Display.{display}
-use Rattle.text.specs.Layout.{Layout, indentIf, frontAt, betweenAt, rearAt, innerMark, innerLevel, marked, joined}
-use Rattle.text.specs.Seen.{Seen}
+use Rattle.text.specs.Layout.{Layout, indentIf, frontAt, betweenAt, rearAt, innerIndents, innerLevel, prettyIndented, joined}
+use Rattle.text.specs.LaidOut.{LaidOut}
 use Rattle.text.specs.Measured.{Measured}
-use Rattle.text.proofs.NodeLaws.{marked-line, marked-pieces}
+use Rattle.text.proofs.NodeLaws.{prettyIndented-line, prettyIndented-pieces}
 use Rattle.text.proofs.LengthLaws.{len-node}
 use Rattle.text.proofs.WriteLaws.{run-three}
 use Rattle.split.specs.Operands.{operandsAt}
@@ -26,29 +26,29 @@ over-line n r e h = omega arith
 
 -- ## On one line
 
-module _ {page starts firsts : List ℕ} {i : ℕ} (t : Tables page starts firsts (suc i)) (mark : Bool) (level : ℕ) (h : length (display (treeAt page i)) ≤ 100) where
-  pub len-line : (cap line lead r : ℕ) → line ≡ min (length (display (treeAt page i))) 101 → lead ≡ min (length (indentIf mark level)) cap → r ≡ min (lead + line) cap
-      → r ≡ min (length (marked mark level (treeAt page i))) cap
-  len-line cap line lead r e p q = omega (arith, h, ap length (marked-line t mark level h) ∙ length-append (indentIf mark level) (display (treeAt page i)))
+module _ {page starts firsts : List ℕ} {i : ℕ} (t : Tables page starts firsts (suc i)) (indents : Bool) (level : ℕ) (h : length (display (treeAt page i)) ≤ 100) where
+  pub len-line : (cap line lead r : ℕ) → line ≡ min (length (display (treeAt page i))) 101 → lead ≡ min (length (indentIf indents level)) cap → r ≡ min (lead + line) cap
+      → r ≡ min (length (prettyIndented indents level (treeAt page i))) cap
+  len-line cap line lead r e p q = omega (arith, h, ap length (prettyIndented-line t indents level h) ∙ length-append (indentIf indents level) (display (treeAt page i)))
 
-  pub run-line : (o : List ℕ) (at : ℕ) → at + length (marked mark level (treeAt page i)) ≤ length o
-      → Run o o at (marked mark level (treeAt page i)) (indentIf mark level ∷ display (treeAt page i) ∷ []) at
+  pub run-line : (o : List ℕ) (at : ℕ) → at + length (prettyIndented indents level (treeAt page i)) ≤ length o
+      → Run o o at (prettyIndented indents level (treeAt page i)) (indentIf indents level ∷ display (treeAt page i) ∷ []) at
   unfolding join
-  run-line o at room = start room (marked-line t mark level h ∙ ap (λ (s : List ℕ). indentIf mark level ++ s) (sym (append-nil (display (treeAt page i)))))
+  run-line o at room = start room (prettyIndented-line t indents level h ∙ ap (λ (s : List ℕ). indentIf indents level ++ s) (sym (append-nil (display (treeAt page i)))))
 
 -- ## By pieces
 
-module _ {page starts firsts : List ℕ} {i : ℕ} {own : Layout} {end count : ℕ} (t : Tables page starts firsts (suc i)) (s : Seen page i own end count)
-    (mark : Bool) (level : ℕ) (h : 100 < length (display (treeAt page i))) where
-  pub len-split : (gap cap x y z : ℕ) → x ≡ min (length (frontAt mark level own)) cap
+module _ {page starts firsts : List ℕ} {i : ℕ} {own : Layout} {end count : ℕ} (t : Tables page starts firsts (suc i)) (s : LaidOut page i own end count)
+    (indents : Bool) (level : ℕ) (h : 100 < length (display (treeAt page i))) where
+  pub len-split : (gap cap x y z : ℕ) → x ≡ min (length (frontAt indents level own)) cap
       → gap ≡ min (length (betweenAt level own)) (cap - x)
-      → Measured (λ separator. joined separator (marked (innerMark mark own) (innerLevel level own)) (marked true (innerLevel level own)) (operandsOf count (stackAt page end))) gap (cap - x) y
+      → Measured (λ separator. joined separator (prettyIndented (innerIndents indents own) (innerLevel level own)) (prettyIndented true (innerLevel level own)) (operandsOf count (stackAt page end))) gap (cap - x) y
       → z ≡ min (length (rearAt level own)) (cap - x - y)
-      → x + y + z ≡ min (length (marked mark level (treeAt page i))) cap
+      → x + y + z ≡ min (length (prettyIndented indents level (treeAt page i))) cap
   len-split gap cap x y z a b c d =
-      len-node (marked (innerMark mark own) (innerLevel level own)) (marked true (innerLevel level own)) _ (frontAt mark level own) (betweenAt level own) (rearAt level own)
-      (marked-pieces s t mark level h) gap cap x y z a b c d
+      len-node (prettyIndented (innerIndents indents own) (innerLevel level own)) (prettyIndented true (innerLevel level own)) _ (frontAt indents level own) (betweenAt level own) (rearAt level own)
+      (prettyIndented-pieces s t indents level h) gap cap x y z a b c d
 
-  pub run-split : (o : List ℕ) (at : ℕ) → at + length (marked mark level (treeAt page i)) ≤ length o
-      → Run o o at (marked mark level (treeAt page i)) (frontAt mark level own ∷ operandsAt own mark level count page end ∷ rearAt level own ∷ []) at
-  run-split o at room = run-three (frontAt mark level own) (operandsAt own mark level count page end) (rearAt level own) o at (marked-pieces s t mark level h) room
+  pub run-split : (o : List ℕ) (at : ℕ) → at + length (prettyIndented indents level (treeAt page i)) ≤ length o
+      → Run o o at (prettyIndented indents level (treeAt page i)) (frontAt indents level own ∷ operandsAt own indents level count page end ∷ rearAt level own ∷ []) at
+  run-split o at room = run-three (frontAt indents level own) (operandsAt own indents level count page end) (rearAt level own) o at (prettyIndented-pieces s t indents level h) room

@@ -2,21 +2,21 @@
 use Prim.Native.Nat.{ℕ}
 use mathlib.Core.Bool.{Bool}
 use mathlib.Core.List.{List}
-use Rattle.text.specs.Layout.{innerMark, innerLevel}
+use Rattle.text.specs.Layout.{innerIndents, innerLevel}
 use Rattle.view.specs.View.{layoutAt}
 use Rattle.view.specs.declared.Node.{Node}
 use Rattle.split.specs.declared.place.Place.{Place}
 
-abbrev pub withUnvalued : Bool → Place → Place
-withUnvalued unvalued place = record { unvalued = unvalued; mark = place .mark; level = place .level }
+abbrev pub withNumberless : Bool → Place → Place
+withNumberless numberless place = record { numberless = numberless; indents = place .indents; level = place .level }
 
-abbrev pub withMark : Bool → Place → Place
-withMark mark place = record { unvalued = place .unvalued; mark = mark; level = place .level }
+abbrev pub withIndents : Bool → Place → Place
+withIndents indents place = record { numberless = place .numberless; indents = indents; level = place .level }
 
--- mark and level by the node's; `unvalued` is said of the operand already
+-- indents and level by the node's; `numberless` is said of the operand already
 abbrev pub innerPlace : List ℕ → Node → Place → Place
 innerPlace page node place = record {
-  unvalued = place .unvalued;
-  mark = innerMark (place .mark) (layoutAt page node);
+  numberless = place .numberless;
+  indents = innerIndents (place .indents) (layoutAt page node);
   level = innerLevel (place .level) (layoutAt page node);
 }

@@ -1,8 +1,8 @@
 // The length of split text, up to a cap.
 use crate::place::Place;
 use crate::place::inner_place;
-use crate::place::with_mark;
-use crate::place::with_unvalued;
+use crate::place::with_indents;
+use crate::place::with_numberless;
 use indented::between_at_len;
 use indented::front_at_len;
 use indented::indent_len;
@@ -14,10 +14,10 @@ ghost use Prim.Native.Nat.{suc, _+_, _-_, _≤_, min};
 ghost use lib.ListN.{length};
 ghost use Rattle.records.specs.Stack.{operandsOf};
 ghost use Rattle.ast.specs.Tables.{Tables, stackAt, treeAt};
-ghost use Rattle.text.specs.Layout.{marked, joined};
+ghost use Rattle.text.specs.Layout.{prettyIndented, joined};
 ghost use Rattle.text.specs.Measured.{Measured};
-ghost use Rattle.measure.specs.Known.{Known};
-ghost use Rattle.view.specs.View.{Unvalued};
+ghost use Rattle.measure.specs.Widths.{Widths};
+ghost use Rattle.view.specs.View.{Numberless};
 
 // The length of the split text of the tree that record i ends, or `cap` where it is more.
 pub fn split_len(
@@ -30,35 +30,35 @@ pub fn split_len(
     cap: usize,
 ) -> usize
     requires { ⌜ Tables (now page) (now starts) (now firsts) (suc i) ⌝ }
-    requires { ⌜ Known (now page) (now widths) ⌝ }
-    requires { ⌜ Unvalued (now page) i (place .unvalued) ⌝ }
+    requires { ⌜ Widths (now page) (now widths) ⌝ }
+    requires { ⌜ Numberless (now page) i (place .numberless) ⌝ }
     requires { ⌜ place .level + i ≤ 256 ⌝ }
-    ensures { λ r. ⌜ r ≡ min (length (marked (place .mark) (place .level) (treeAt (now (page .entry)) i))) cap ⌝ }
+    ensures { λ r. ⌜ r ≡ min (length (prettyIndented (place .indents) (place .level) (treeAt (now (page .entry)) i))) cap ⌝ }
 {
     if cap == 0 {
         return 0;
     }
     let level = place.level;
-    let line = width(page, starts, firsts, widths, i, place.unvalued);
+    let line = width(page, starts, firsts, widths, i, place.numberless);
     if line <= 100 {
-        let lead = indent_len(place.mark, level, cap);
-        return util::capped_add(lead, line, cap);
+        let lead = indent_len(place.indents, level, cap);
+        return leaves::capped_add(lead, line, cap);
     }
-    let node = view::view_at(page, starts, i, place.unvalued);
+    let node = view::view_at(page, starts, i, place.numberless);
     let end = node.base;
     let count = node.count;
-    let front = front_at_len(page, starts, node, place.mark, level, cap);
+    let front = front_at_len(page, starts, node, place.indents, level, cap);
     let left = cap - front;
     let gap = between_at_len(page, starts, node, level, left);
     let minus = view::is_minus(node);
-    let operand = inner_place(page, starts, node, with_unvalued(place, minus));
+    let operand = inner_place(page, starts, node, with_numberless(place, minus));
     let inner = split_operands_len(page, starts, firsts, widths, end, count, operand, gap, left);
     let rear = rear_at_len(page, starts, node, level, left - inner);
     front + inner + rear
 }
 
-// The length of the split texts of the newest expressions behind the first `end` records, `count` of them, with so many bytes between
-// each two, or `cap` where it is more. `unvalued` is said of the last one, the mark of the first.
+// The length of the split texts of the newest expressions after the first `end` records, `count` of them, with so many bytes between
+// each two, or `cap` where it is more. `numberless` is said of the last one, the indents of the first.
 fn split_operands_len(
     page: &[u8],
     starts: &[u16],
@@ -71,11 +71,11 @@ fn split_operands_len(
     cap: usize,
 ) -> usize
     requires { ⌜ Tables (now page) (now starts) (now firsts) end ⌝ }
-    requires { ⌜ Known (now page) (now widths) ⌝ }
+    requires { ⌜ Widths (now page) (now widths) ⌝ }
     requires { ⌜ count ≤ length (stackAt (now page) end) ⌝ }
-    requires { ⌜ Unvalued (now page) (end - 1) (place .unvalued) ⌝ }
+    requires { ⌜ Numberless (now page) (end - 1) (place .numberless) ⌝ }
     requires { ⌜ place .level + end ≤ 257 ⌝ }
-    ensures { λ r. ⌜ Measured (λ separator. joined separator (marked (place .mark) (place .level)) (marked true (place .level)) (operandsOf count (stackAt (now (page .entry)) end))) gap cap r ⌝ }
+    ensures { λ r. ⌜ Measured (λ separator. joined separator (prettyIndented (place .indents) (place .level)) (prettyIndented true (place .level)) (operandsOf count (stackAt (now (page .entry)) end))) gap cap r ⌝ }
 {
     if count == 0 {
         return 0;
@@ -84,8 +84,8 @@ fn split_operands_len(
     if count == 1 {
         return split_len(page, starts, firsts, widths, root, place, cap);
     }
-    let behind = with_mark(place, true);
-    let last = split_len(page, starts, firsts, widths, root, behind, cap);
+    let others = with_indents(place, true);
+    let last = split_len(page, starts, firsts, widths, root, others, cap);
     let left = cap - last;
     if left <= gap {
         return cap;
@@ -94,7 +94,7 @@ fn split_operands_len(
     let end = firsts[root] as usize;
     let fewer = count - 1;
     let room = left - gap;
-    let before = with_unvalued(place, false);
+    let before = with_numberless(place, false);
     let rest = split_operands_len(page, starts, firsts, widths, end, fewer, before, gap, room);
     last + gap + rest
 }

@@ -1,5 +1,5 @@
-// Split text (parser/mod.rs, `Prettier`): a node longer than a line is written on several lines, its operands a level deeper. The mark
-// says whether the first line is indented: it is not behind the minus of a unary expression.
+// Split text (parser/mod.rs, `Prettier`): a node longer than a line is written on several lines, its operands a level deeper. The indents
+// says whether the first line is indented: it is not after the minus of a unary expression.
 pub mod length;
 pub mod place;
 pub mod whole;
@@ -11,20 +11,20 @@ pub use whole::prettify_len;
 pub use whole::put_prettify;
 ghost use mathlib.Core.Path.{_≡_};
 ghost use Prim.Native.Nat.{suc, _≤_};
-ghost use Rattle.text.specs.Layout.{innerMark, innerLevel};
+ghost use Rattle.text.specs.Layout.{innerIndents, innerLevel};
 ghost use Rattle.view.specs.View.{NodeAt, layoutAt};
 
-// The mark of the first operand.
-fn inner_mark(page: &[u8], starts: &[u16], node: Node, mark: bool) -> bool
+// The indents of the first operand.
+fn inner_indents(page: &[u8], starts: &[u16], node: Node, indents: bool) -> bool
     requires { ⌜ NodeAt (now page) (now starts) node ⌝ }
-    ensures { λ r. ⌜ r ≡ innerMark mark (layoutAt (now (page .entry)) node) ⌝ }
+    ensures { λ r. ⌜ r ≡ innerIndents indents (layoutAt (now (page .entry)) node) ⌝ }
 {
     match view::form_of(node) {
         Form::Whole => true,
         Form::Minus => false,
-        Form::Suffixed => mark,
+        Form::Suffixed => indents,
         Form::Enclosed => true,
-        Form::Infixed => mark,
+        Form::Infixed => indents,
     }
 }
 

@@ -8,12 +8,12 @@ ghost use lib.ListN.{length};
 ghost use Rattle.base.specs.Splice.{Wrote};
 ghost use Rattle.ast.specs.Tables.{Tables, treeAt};
 ghost use Rattle.text.specs.Pretty.{prettify};
-ghost use Rattle.measure.specs.Known.{Known};
+ghost use Rattle.measure.specs.Widths.{Widths};
 
 // The place of a whole query.
 const WHOLE: Place = Place {
-    unvalued: false,
-    mark: true,
+    numberless: false,
+    indents: true,
     level: 0,
 };
 
@@ -27,7 +27,7 @@ pub fn prettify_len(
     cap: usize,
 ) -> usize
     requires { ⌜ Tables (now page) (now starts) (now firsts) (suc i) ⌝ }
-    requires { ⌜ Known (now page) (now widths) ⌝ }
+    requires { ⌜ Widths (now page) (now widths) ⌝ }
     ensures { λ r. ⌜ r ≡ min (length (prettify (treeAt (now (page .entry)) i))) cap ⌝ }
 {
     split_len(page, starts, firsts, widths, i, WHOLE, cap)
@@ -43,7 +43,7 @@ pub fn put_prettify(
     out: &mut [u8],
 ) -> usize
     requires { ⌜ Tables (now page) (now starts) (now firsts) (suc i) ⌝ }
-    requires { ⌜ Known (now page) (now widths) ⌝ }
+    requires { ⌜ Widths (now page) (now widths) ⌝ }
     requires { ⌜ length (prettify (treeAt (now page) i)) ≤ length (now out) ⌝ }
     ensures { λ r. ⌜ Wrote (now (out .entry)) (now (out .exit)) 0 (prettify (treeAt (now (page .entry)) i)) r ⌝ }
 {

@@ -1,8 +1,8 @@
 // Writes split text into a buffer.
 use crate::place::Place;
 use crate::place::inner_place;
-use crate::place::with_mark;
-use crate::place::with_unvalued;
+use crate::place::with_indents;
+use crate::place::with_numberless;
 use canonical::write_text;
 use indented::put_between_at;
 use indented::put_front_at;
@@ -13,12 +13,12 @@ ghost use Prim.Native.Nat.{suc, _+_, _-_, _≤_};
 ghost use lib.ListN.{length};
 ghost use Rattle.base.specs.Splice.{Wrote};
 ghost use Rattle.ast.specs.Tables.{Tables, stackAt, treeAt};
-ghost use Rattle.text.specs.Layout.{marked};
-ghost use Rattle.measure.specs.Known.{Known};
-ghost use Rattle.view.specs.View.{NodeAt, Unvalued};
+ghost use Rattle.text.specs.Layout.{prettyIndented};
+ghost use Rattle.measure.specs.Widths.{Widths};
+ghost use Rattle.view.specs.View.{NodeAt, Numberless};
 ghost use Rattle.split.specs.Operands.{Operands};
 
-// Writes the split text of the tree that record i ends, and returns the place behind it.
+// Writes the split text of the tree that record i ends, and returns the place after it.
 pub fn write_split(
     page: &[u8],
     starts: &[u16],
@@ -30,29 +30,29 @@ pub fn write_split(
     at: usize,
 ) -> usize
     requires { ⌜ Tables (now page) (now starts) (now firsts) (suc i) ⌝ }
-    requires { ⌜ Known (now page) (now widths) ⌝ }
-    requires { ⌜ Unvalued (now page) i (place .unvalued) ⌝ }
+    requires { ⌜ Widths (now page) (now widths) ⌝ }
+    requires { ⌜ Numberless (now page) i (place .numberless) ⌝ }
     requires { ⌜ place .level + i ≤ 256 ⌝ }
-    requires { ⌜ at + length (marked (place .mark) (place .level) (treeAt (now page) i)) ≤ length (now out) ⌝ }
-    ensures { λ r. ⌜ Wrote (now (out .entry)) (now (out .exit)) at (marked (place .mark) (place .level) (treeAt (now (page .entry)) i)) r ⌝ }
+    requires { ⌜ at + length (prettyIndented (place .indents) (place .level) (treeAt (now page) i)) ≤ length (now out) ⌝ }
+    ensures { λ r. ⌜ Wrote (now (out .entry)) (now (out .exit)) at (prettyIndented (place .indents) (place .level) (treeAt (now (page .entry)) i)) r ⌝ }
 {
-    let line = width(page, starts, firsts, widths, i, place.unvalued);
+    let line = width(page, starts, firsts, widths, i, place.numberless);
     if line <= 100 {
-        let text = put_indent(place.mark, place.level, out, at);
-        return write_text(page, starts, firsts, i, place.unvalued, out, text);
+        let text = put_indent(place.indents, place.level, out, at);
+        return write_text(page, starts, firsts, i, place.numberless, out, text);
     }
-    let own = view::view_at(page, starts, i, place.unvalued);
+    let own = view::view_at(page, starts, i, place.numberless);
     let end = own.base;
     let count = own.count;
     let minus = view::is_minus(own);
-    let kept = with_unvalued(place, minus);
-    let at = put_front_at(page, starts, own, place.mark, place.level, out, at);
-    let behind = write_split_operands(page, starts, firsts, widths, own, end, count, kept, out, at);
-    put_rear_at(page, starts, own, place.level, out, behind)
+    let kept = with_numberless(place, minus);
+    let at = put_front_at(page, starts, own, place.indents, place.level, out, at);
+    let others = write_split_operands(page, starts, firsts, widths, own, end, count, kept, out, at);
+    put_rear_at(page, starts, own, place.level, out, others)
 }
 
-// Writes the split texts of the newest expressions behind the first `end` records, `count` of them, with what the node writes between
-// each two. Mark and level are the node's; `unvalued` is said of the last operand.
+// Writes the split texts of the newest expressions after the first `end` records, `count` of them, with what the node writes between
+// each two. Mark and level are the node's; `numberless` is said of the last operand.
 fn write_split_operands(
     page: &[u8],
     starts: &[u16],
@@ -66,13 +66,13 @@ fn write_split_operands(
     at: usize,
 ) -> usize
     requires { ⌜ Tables (now page) (now starts) (now firsts) end ⌝ }
-    requires { ⌜ Known (now page) (now widths) ⌝ }
+    requires { ⌜ Widths (now page) (now widths) ⌝ }
     requires { ⌜ NodeAt (now page) (now starts) own ⌝ }
     requires { ⌜ count ≤ length (stackAt (now page) end) ⌝ }
-    requires { ⌜ Unvalued (now page) (end - 1) (place .unvalued) ⌝ }
+    requires { ⌜ Numberless (now page) (end - 1) (place .numberless) ⌝ }
     requires { ⌜ place .level + end ≤ 256 ⌝ }
-    requires { ⌜ at + length (Operands (now page) own (place .mark) (place .level) count end) ≤ length (now out) ⌝ }
-    ensures { λ r. ⌜ Wrote (now (out .entry)) (now (out .exit)) at (Operands (now (page .entry)) own (place .mark) (place .level) count end) r ⌝ }
+    requires { ⌜ at + length (Operands (now page) own (place .indents) (place .level) count end) ≤ length (now out) ⌝ }
+    ensures { λ r. ⌜ Wrote (now (out .entry)) (now (out .exit)) at (Operands (now (page .entry)) own (place .indents) (place .level) count end) r ⌝ }
 {
     if count == 0 {
         return at;
@@ -85,9 +85,9 @@ fn write_split_operands(
     // the others end where the last one begins
     let end = firsts[root] as usize;
     let fewer = count - 1;
-    let rest = with_unvalued(place, false);
+    let rest = with_numberless(place, false);
     let gap = write_split_operands(page, starts, firsts, widths, own, end, fewer, rest, out, at);
     let next = put_between_at(page, starts, own, place.level, out, gap);
-    let last = with_mark(inner, true);
+    let last = with_indents(inner, true);
     write_split(page, starts, firsts, widths, root, last, out, next)
 }

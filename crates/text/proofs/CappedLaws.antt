@@ -10,7 +10,7 @@ use Rattle.text.specs.Measured.{Measured}
 pub capped-then : (a b cap x y : ℕ) → x ≡ min a cap → y ≡ min b (cap - x) → x + y ≡ min (a + b) cap
 capped-then a b cap x y p q = omega arith
 
--- what a node writes before, its operands' texts, what it writes behind
+-- what a node writes before, its operands' texts, what it writes after
 pub capped-pieces : (f j r : List ℕ) (cap x y z : ℕ) → x ≡ min (length f) cap → y ≡ min (length j) (cap - x) → z ≡ min (length r) (cap - x - y)
     → x + y + z ≡ min (length (f ++ (j ++ r))) cap
 capped-pieces f j r cap x y z p q s =

@@ -12,7 +12,7 @@ use Rattle.ast.specs.Construct.{rangeAfter, newMatrixSelector, setAt, atExpr, s
 use Rattle.ast.specs.CheckPage.{wrap}
 use Rattle.ast.specs.Tables.{treeAt, Tables}
 use Rattle.text.specs.Chain.{orElse, overlaid, withAt, withOffset, ranged, settled}
-use Rattle.text.specs.Seen.{Reads}
+use Rattle.text.specs.LaidOut.{Reads}
 use Rattle.text.proofs.TreeLaws.{checkedExpr}
 use Rattle.text.proofs.EntryLaws.{tree-of, wrapped}
 

@@ -18,7 +18,7 @@ use Rattle.ast.specs.Expr.{Expr, Aggregate, AggregateParam, Unary, Binary, Pare
 use Rattle.ast.specs.Construct.{newUnary}
 use Rattle.ast.specs.CheckPage.{leafExpr, wrap, apply}
 use Rattle.ast.specs.Tables.{newest as newestEntry, stackAt, treeAt, Entry, Tables}
-use Rattle.text.specs.Seen.{Reads}
+use Rattle.text.specs.LaidOut.{Reads}
 use Rattle.text.proofs.OperandLaws.{fewer, Newest, newest}
 use Rattle.text.proofs.TreeLaws.{checkedExpr, Pushed, leaf-ok, wrapper-ok}
 

@@ -21,8 +21,8 @@ use Rattle.records.specs.Time.{Times}
 use Rattle.records.specs.Signature.{Function, writeVariadic, writeFunction}
 use Rattle.records.specs.Record.{Leaf, number, string, selector, Wrapper, range, subquery, at, offset, unary, paren, leaf, binary, aggregate, call, writeRecord}
 use Rattle.records.specs.Allowed.{IsLeaf, IsWrapper, IsOptionOf, IsBinModifier}
-use Rattle.util.specs.Duration.{displayDuration}
-use Rattle.util.proofs.LengthLaws.{quote-short, displayLiteral-short}
+use Rattle.leaves.specs.Duration.{displayDuration}
+use Rattle.leaves.proofs.LengthLaws.{quote-short, displayLiteral-short}
 use Rattle.ast.specs.Refusal.{ok}
 use Rattle.ast.specs.Expr.{Expr, Aggregate, AggregateParam, Unary, Binary, Paren, Subquery, NumberLiteral, StringLiteral, VectorSelector, MatrixSelector, Call, argsOf, scalarValue}
 use Rattle.ast.specs.Construct.{newAggregateOf, noTimes}
@@ -34,7 +34,7 @@ use Rattle.text.specs.Chain.{overlaid, withAt, withOffset, settled}
 use Rattle.text.proofs.DisplayLaws.{displayOperator-checked}
 use Rattle.text.proofs.TreeLaws.{checkedExpr}
 use Rattle.text.proofs.EntryLaws.{negated, UnaryOf, unary-of}
-use Rattle.text.proofs.SeenLaws.{number-is}
+use Rattle.text.proofs.LaidOutLaws.{number-is}
 use Rattle.text.proofs.ChainLaws.{settled-nothing, range-settled, at-settled, offset-settled}
 use Rattle.text.proofs.ShortLaws.{displayOperator-short, displayRange-short, at-times-short, offset-times-short, displaySuffix-short, times-short, displayLiteral-negate, displaySelector-short}
 

@@ -4,7 +4,7 @@ pub mod TrimLaws
 pub mod PrettyLaws
 pub mod TreeLaws
 pub mod EntryLaws
-pub mod SeenLaws
+pub mod LaidOutLaws
 pub mod ChainLaws
 pub mod ValueLaws
 pub mod SoundLaws

@@ -35,7 +35,7 @@ fewer t h = record {
 
 -- ## The newest expression
 
--- behind so many records: the newest expression is the last record's, and the others are those before its first record
+-- after so many records: the newest expression is the last record's, and the others are those before its first record
 pub record Newest (page firsts : List ℕ) (end : ℕ) : Type 0 where
   pub some : 0 < end
   pub low : getD firsts (end - 1) 0 < end
@@ -76,7 +76,7 @@ module _ (separator : List ℕ) (first other : Expr → List ℕ) where
       some [] k = absurd (none (operandsOf m s) k)
       some (x ∷ es) k = joined-last separator first other x es e
 
-  -- the newest expressions behind so many records, so many of them
+  -- the newest expressions after so many records, so many of them
   module _ {page starts firsts : List ℕ} {end : ℕ} (t : Tables page starts firsts end) (count : ℕ) (enough : count ≤ length (stackAt page end)) where
     pub operands-some : (count ≡ 0 → ⊥) → Newest page firsts end
     operands-some n0 = newest t (omega arith)

@@ -1,4 +1,4 @@
--- Split text by pieces, with a mark that says whether the first line is indented. A node that fits a line prints as its canonical text,
+-- Split text by pieces, with a indents that says whether the first line is indented. A node that fits a line prints as its canonical text,
 -- unary expressions and subqueries too, since their operands are shorter still; a longer one by the pieces of its layout.
 use Prim.Native.Nat.{ℕ, suc, _+_, _≤_, _<_}
 use native.Mathlib.Omega.{arith}
@@ -11,7 +11,7 @@ use Rattle.page.specs.Bytes.{pick, bytes, join, joinRest}
 use Rattle.ast.specs.Expr.{Expr, Args, noArgs, arg, Aggregate, AggregateParam, Unary, Binary, Paren, Subquery, NumberLiteral, StringLiteral, VectorSelector, MatrixSelector, Call}
 use Rattle.text.specs.Display.{display, displayAggregator, displayOperator, displaySuffix}
 use Rattle.text.specs.Pretty.{maxCharactersPerLine, indent, trimStart, needsSplit, enclosedLines, pretty, prettyAll}
-use Rattle.text.specs.Layout.{Layout, layoutOf, argsList, children, indentIf, frontAt, betweenAt, rearAt, innerMark, innerLevel, marked, joined}
+use Rattle.text.specs.Layout.{Layout, layoutOf, argsList, children, indentIf, frontAt, betweenAt, rearAt, innerIndents, innerLevel, prettyIndented, joined}
 use Rattle.text.proofs.TrimLaws.{Begins, begins, begins-append, trim-indent, trim-append, Sound, display-begins}
 
 -- ## On one line
@@ -35,23 +35,23 @@ one-line (VectorSelector v t) s level h = refl
 one-line (MatrixSelector v t r) s level h = refl
 one-line (Call f es) s level h = rw (le-ltb _ _ h)
 
--- ## The mark
+-- ## The indents
 
--- a text that is its indentation and then begins with no white character: with the mark or without
-marked-is : (e : Expr) (level : ℕ) {text : List ℕ} → pretty e level ≡ indent level ++ text → Begins text → (mark : Bool) → marked mark level e ≡ indentIf mark level ++ text
-unfolding marked
-marked-is e level p b true = p
-marked-is e level p b false = ap trimStart p ∙ trim-indent level b
+-- a text that is its indentation and then begins with no white character: with the indents or without
+prettyIndented-is : (e : Expr) (level : ℕ) {text : List ℕ} → pretty e level ≡ indent level ++ text → Begins text → (indents : Bool) → prettyIndented indents level e ≡ indentIf indents level ++ text
+unfolding prettyIndented
+prettyIndented-is e level p b true = p
+prettyIndented-is e level p b false = ap trimStart p ∙ trim-indent level b
 
 -- the same, where an operand's text stands first
-marked-first : (e inner : Expr) (level below : ℕ) (rest : List ℕ) → pretty e level ≡ pretty inner below ++ rest → Begins (trimStart (pretty inner below))
-    → (mark : Bool) → marked mark level e ≡ marked mark below inner ++ rest
-unfolding marked
-marked-first e inner level below rest p b true = p
-marked-first e inner level below rest p b false = ap trimStart p ∙ trim-append (pretty inner below) rest b
+prettyIndented-first : (e inner : Expr) (level below : ℕ) (rest : List ℕ) → pretty e level ≡ pretty inner below ++ rest → Begins (trimStart (pretty inner below))
+    → (indents : Bool) → prettyIndented indents level e ≡ prettyIndented indents below inner ++ rest
+unfolding prettyIndented
+prettyIndented-first e inner level below rest p b true = p
+prettyIndented-first e inner level below rest p b false = ap trimStart p ∙ trim-append (pretty inner below) rest b
 
-pub short : (e : Expr) → Sound e → (level : ℕ) → length (display e) ≤ maxCharactersPerLine → (mark : Bool) → marked mark level e ≡ indentIf mark level ++ display e
-short e s level h = marked-is e level (one-line e s level h) (display-begins e s)
+pub short : (e : Expr) → Sound e → (level : ℕ) → length (display e) ≤ maxCharactersPerLine → (indents : Bool) → prettyIndented indents level e ≡ indentIf indents level ++ display e
+short e s level h = prettyIndented-is e level (one-line e s level h) (display-begins e s)
 
 -- ## Operands in brackets
 
@@ -61,16 +61,16 @@ enclosedBody level head operands = head ++ (bytes "(\n" ++ (join (bytes ",\n") o
 enclosed-lines : (level : ℕ) (head : List ℕ) (operands : List (List ℕ)) → enclosedLines level head operands ≡ indent level ++ enclosedBody level head operands
 enclosed-lines level head operands = simp append-assoc
 
-enclosed-pieces : (mark : Bool) (level : ℕ) (head : List ℕ) (operands : List (List ℕ)) → indentIf mark level ++ enclosedBody level head operands
-    ≡ (indentIf mark level ++ head ++ bytes "(\n") ++ (join (bytes ",\n") operands ++ (bytes "\n" ++ indent level ++ bytes ")"))
-enclosed-pieces mark level head operands = simp append-assoc
+enclosed-pieces : (indents : Bool) (level : ℕ) (head : List ℕ) (operands : List (List ℕ)) → indentIf indents level ++ enclosedBody level head operands
+    ≡ (indentIf indents level ++ head ++ bytes "(\n") ++ (join (bytes ",\n") operands ++ (bytes "\n" ++ indent level ++ bytes ")"))
+enclosed-pieces indents level head operands = simp append-assoc
 
-prettyAll-map : (es : Args) (level : ℕ) → prettyAll es level ≡ map (marked true level) (argsList es)
-unfolding pretty marked
+prettyAll-map : (es : Args) (level : ℕ) → prettyAll es level ≡ map (prettyIndented true level) (argsList es)
+unfolding pretty prettyIndented
 prettyAll-map noArgs level = refl
 prettyAll-map (arg e es) level = ap (λ (ts : List (List ℕ)). pretty e level ∷ ts) (prettyAll-map es level)
 
-texts-map : (level : ℕ) (es : List Expr) → joined (bytes ",\n") (marked true level) (marked true level) es ≡ join (bytes ",\n") (map (marked true level) es)
+texts-map : (level : ℕ) (es : List Expr) → joined (bytes ",\n") (prettyIndented true level) (prettyIndented true level) es ≡ join (bytes ",\n") (map (prettyIndented true level) es)
 unfolding joined
 texts-map level [] = refl
 texts-map level (e ∷ es) = refl
@@ -124,59 +124,59 @@ pretty-begins (Call f es) s level =
 -- ## A node longer than a line
 
 abbrev Pieces : Bool → ℕ → Expr → Layout → List ℕ
-Pieces mark level e n =
-    frontAt mark level n
-    ++ (joined (betweenAt level n) (marked (innerMark mark n) (innerLevel level n)) (marked true (innerLevel level n)) (children e)
+Pieces indents level e n =
+    frontAt indents level n
+    ++ (joined (betweenAt level n) (prettyIndented (innerIndents indents n) (innerLevel level n)) (prettyIndented true (innerLevel level n)) (children e)
     ++ rearAt level n)
 
 enclosed-long : (e : Expr) (level : ℕ) (head : List ℕ) (operands : List (List ℕ)) → pretty e level ≡ enclosedLines level head operands
-    → Begins (enclosedBody level head operands) → (mark : Bool)
-    → marked mark level e ≡ (indentIf mark level ++ head ++ bytes "(\n") ++ (join (bytes ",\n") operands ++ (bytes "\n" ++ indent level ++ bytes ")"))
-enclosed-long e level head operands p b mark =
-    marked-is e level (p ∙ enclosed-lines level head operands) b mark ∙ enclosed-pieces mark level head operands
+    → Begins (enclosedBody level head operands) → (indents : Bool)
+    → prettyIndented indents level e ≡ (indentIf indents level ++ head ++ bytes "(\n") ++ (join (bytes ",\n") operands ++ (bytes "\n" ++ indent level ++ bytes ")"))
+enclosed-long e level head operands p b indents =
+    prettyIndented-is e level (p ∙ enclosed-lines level head operands) b indents ∙ enclosed-pieces indents level head operands
 
 infixed-pieces : (feed l i operator r : List ℕ) → l ++ (feed ++ (i ++ operator ++ (feed ++ r))) ≡ (l ++ ((feed ++ i ++ operator ++ feed) ++ r ++ [])) ++ []
 infixed-pieces feed l i operator r = simp (append-assoc, append-nil)
 
 -- a leaf
-whole-long : (e : Expr) (level : ℕ) (text : List ℕ) → pretty e level ≡ indent level ++ text → Begins text → (mark : Bool)
-    → marked mark level e ≡ indentIf mark level ++ text ++ []
-whole-long e level text p b mark = marked-is e level p b mark ∙ sym (append-nil _)
+whole-long : (e : Expr) (level : ℕ) (text : List ℕ) → pretty e level ≡ indent level ++ text → Begins text → (indents : Bool)
+    → prettyIndented indents level e ≡ indentIf indents level ++ text ++ []
+whole-long e level text p b indents = prettyIndented-is e level p b indents ∙ sym (append-nil _)
 
-pub long : (e : Expr) → Sound e → (level : ℕ) → maxCharactersPerLine < length (display e) → (mark : Bool) → marked mark level e ≡ Pieces mark level e (layoutOf e)
-unfolding pretty joined marked display
-long (Aggregate c m e) s level h mark =
+pub long : (e : Expr) → Sound e → (level : ℕ) → maxCharactersPerLine < length (display e) → (indents : Bool) → prettyIndented indents level e ≡ Pieces indents level e (layoutOf e)
+unfolding pretty joined prettyIndented display
+long (Aggregate c m e) s level h indents =
     let operands = pretty e (suc level) ∷ [] in
     let p : pretty (Aggregate c m e) level ≡ enclosedLines level (displayAggregator c m) operands = rw (lt-ltb _ _ h) in
-    enclosed-long (Aggregate c m e) level _ operands p (begins-append _ (begins-append _ s)) mark
-long (AggregateParam c m p e) s level h mark =
+    enclosed-long (Aggregate c m e) level _ operands p (begins-append _ (begins-append _ s)) indents
+long (AggregateParam c m p e) s level h indents =
     let operands = pretty p (suc level) ∷ pretty e (suc level) ∷ [] in
     let q : pretty (AggregateParam c m p e) level ≡ enclosedLines level (displayAggregator c m) operands = rw (lt-ltb _ _ h) in
-    enclosed-long (AggregateParam c m p e) level _ operands q (begins-append _ (begins-append _ s)) mark
-long (Unary e) s level h mark =
-    marked-is (Unary e) level (append-assoc (indent level) (bytes "-") (trimStart (pretty e level))) (begins 45 _ (omega arith)) mark
-    ∙ sym (append-assoc (indentIf mark level) (bytes "-") (trimStart (pretty e level)))
-    ∙ ap (λ (t : List ℕ). indentIf mark level ++ bytes "-" ++ t) (sym (append-nil (trimStart (pretty e level))) ∙ sym (append-nil _))
-long (Binary c m l r) s level h mark =
+    enclosed-long (AggregateParam c m p e) level _ operands q (begins-append _ (begins-append _ s)) indents
+long (Unary e) s level h indents =
+    prettyIndented-is (Unary e) level (append-assoc (indent level) (bytes "-") (trimStart (pretty e level))) (begins 45 _ (omega arith)) indents
+    ∙ sym (append-assoc (indentIf indents level) (bytes "-") (trimStart (pretty e level)))
+    ∙ ap (λ (t : List ℕ). indentIf indents level ++ bytes "-" ++ t) (sym (append-nil (trimStart (pretty e level))) ∙ sym (append-nil _))
+long (Binary c m l r) s level h indents =
     let rest = bytes "\n" ++ (indent level ++ displayOperator c m ++ (bytes "\n" ++ pretty r (suc level))) in
     let p : pretty (Binary c m l r) level ≡ pretty l (suc level) ++ rest = rw (lt-ltb _ _ h) (simp (append-assoc, append-nil)) in
-    marked-first (Binary c m l r) l level (suc level) rest p (pretty-begins l s (suc level) .rest) mark
-    ∙ infixed-pieces (bytes "\n") (marked mark (suc level) l) (indent level) (displayOperator c m) (pretty r (suc level))
-long (Paren e) s level h mark =
+    prettyIndented-first (Binary c m l r) l level (suc level) rest p (pretty-begins l s (suc level) .rest) indents
+    ∙ infixed-pieces (bytes "\n") (prettyIndented indents (suc level) l) (indent level) (displayOperator c m) (pretty r (suc level))
+long (Paren e) s level h indents =
     let operands = pretty e (suc level) ∷ [] in
     let p : pretty (Paren e) level ≡ enclosedLines level [] operands = rw (lt-ltb _ _ h) in
-    enclosed-long (Paren e) level [] operands p (begins 40 _ (omega arith)) mark
-long (Subquery e r t u) s level h mark =
-    marked-first (Subquery e r t u) e level level (displaySuffix r t u) refl (pretty-begins e s level .rest) mark
-    ∙ ap (λ (x : List ℕ). x ++ displaySuffix r t u) (sym (append-nil (marked mark level e)))
-long (NumberLiteral l) s level h mark = whole-long (NumberLiteral l) level _ refl (display-begins (NumberLiteral l) s) mark
-long (StringLiteral t) s level h mark = whole-long (StringLiteral t) level _ refl (display-begins (StringLiteral t) s) mark
-long (VectorSelector v t) s level h mark = whole-long (VectorSelector v t) level _ refl (display-begins (VectorSelector v t) s) mark
-long (MatrixSelector v t r) s level h mark =
-    whole-long (MatrixSelector v t r) level _ (ap (λ (x : List ℕ). indent level ++ x) (simp append-assoc)) (begins-append _ s) mark
-long (Call f es) s level h mark =
+    enclosed-long (Paren e) level [] operands p (begins 40 _ (omega arith)) indents
+long (Subquery e r t u) s level h indents =
+    prettyIndented-first (Subquery e r t u) e level level (displaySuffix r t u) refl (pretty-begins e s level .rest) indents
+    ∙ ap (λ (x : List ℕ). x ++ displaySuffix r t u) (sym (append-nil (prettyIndented indents level e)))
+long (NumberLiteral l) s level h indents = whole-long (NumberLiteral l) level _ refl (display-begins (NumberLiteral l) s) indents
+long (StringLiteral t) s level h indents = whole-long (StringLiteral t) level _ refl (display-begins (StringLiteral t) s) indents
+long (VectorSelector v t) s level h indents = whole-long (VectorSelector v t) level _ refl (display-begins (VectorSelector v t) s) indents
+long (MatrixSelector v t r) s level h indents =
+    whole-long (MatrixSelector v t r) level _ (ap (λ (x : List ℕ). indent level ++ x) (simp append-assoc)) (begins-append _ s) indents
+long (Call f es) s level h indents =
     let operands = prettyAll es (suc level) in
     let p : pretty (Call f es) level ≡ enclosedLines level (f .name) operands = rw (lt-ltb _ _ h) in
-    enclosed-long (Call f es) level _ operands p (begins-append _ s) mark
-    ∙ ap (λ (t : List ℕ). (indentIf mark level ++ f .name ++ bytes "(\n") ++ (t ++ (bytes "\n" ++ indent level ++ bytes ")")))
+    enclosed-long (Call f es) level _ operands p (begins-append _ s) indents
+    ∙ ap (λ (t : List ℕ). (indentIf indents level ++ f .name ++ bytes "(\n") ++ (t ++ (bytes "\n" ++ indent level ++ bytes ")")))
     (ap (join (bytes ",\n")) (prettyAll-map es (suc level)) ∙ sym (texts-map (suc level) (argsList es)))

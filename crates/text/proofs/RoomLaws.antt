@@ -16,7 +16,7 @@ use Rattle.records.specs.Record.{Record, leaf, wrapper, binary, aggregate, call
 use Rattle.records.specs.Allowed.{IsAllowed}
 use Rattle.records.proofs.RecordLaws.{WrittenAs, page-law}
 use Rattle.records.proofs.PageLaws.{readPage-allowed}
-use Rattle.util.specs.Numeral.{displayNumber, displayLiteral}
+use Rattle.leaves.specs.Numeral.{displayNumber, displayLiteral}
 use Rattle.ast.specs.Refusal.{Result, refused, ok}
 use Rattle.ast.specs.Expr.{Expr}
 use Rattle.ast.specs.CheckPage.{apply}

@@ -22,10 +22,10 @@ use Rattle.records.specs.Matcher.{Matcher, Selector, writeMatcher}
 use Rattle.records.specs.Modifier.{LabelModifier, include, exclude, writeLabelModifier, Cardinality, oneToOne, manyToMany, manyToOne, oneToMany, writeCardinality, BinModifier, writeBinModifier}
 use Rattle.records.specs.Time.{Times, AtModifier, Offset}
 use Rattle.records.specs.Allowed.{IsOptionOf, IsFill, IsBinModifier, IsAtModifier, IsOffset}
-use Rattle.util.specs.Numeral.{displayNumber, displayLiteral, displayFill}
-use Rattle.util.specs.Duration.{displayDuration}
-use Rattle.util.specs.Time.{displayAt, displayOffset}
-use Rattle.util.proofs.LengthLaws.{displayFill-short, displayDuration-short, displayAt-short, displayOffset-short}
+use Rattle.leaves.specs.Numeral.{displayNumber, displayLiteral, displayFill}
+use Rattle.leaves.specs.Duration.{displayDuration}
+use Rattle.leaves.specs.Time.{displayAt, displayOffset}
+use Rattle.leaves.proofs.LengthLaws.{displayFill-short, displayDuration-short, displayAt-short, displayOffset-short}
 use Rattle.label.specs.Label.{displayLabels, displayMatchers}
 use Rattle.label.proofs.LengthLaws.{displayLabels-short, displayMatchers-short}
 use Rattle.ast.specs.Construct.{noTimes}
@@ -189,7 +189,7 @@ displayTimes-overlaid t u =
       orElse-short offsetText (t .offset) (u .offset),
     )
 
--- a text with such behind it
+-- a text with such after it
 pub times-short : (front : List ℕ) (t u : Times) → length (front ++ displayTimes (overlaid t u)) ≤ length (front ++ displayTimes t) + length (displayTimes u)
 times-short front t u = omega (arith, length-append front (displayTimes (overlaid t u)), length-append front (displayTimes t), displayTimes-overlaid t u)
 

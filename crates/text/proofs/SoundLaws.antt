@@ -35,7 +35,7 @@ use Rattle.text.specs.Chain.{withAt, withOffset, settled}
 use Rattle.text.proofs.TrimLaws.{Begins, begins, begins-append, trim-none, Sound, display-begins}
 use Rattle.text.proofs.TreeLaws.{checkedExpr, Pushed, leaf-ok, wrapper-ok, binary-ok, aggregate-ok, call-ok}
 use Rattle.text.proofs.EntryLaws.{negated, UnaryOf, unary-of}
-use Rattle.text.proofs.SeenLaws.{number-is}
+use Rattle.text.proofs.LaidOutLaws.{number-is}
 use Rattle.text.proofs.ChainLaws.{settled-nothing, range-settled, at-settled, offset-settled}
 
 stackAt-none : (page : List ℕ) → stackAt page 0 ≡ []

@@ -10,9 +10,9 @@ use lib.Dec.{eqb, ltb}
 use Rattle.page.specs.Bytes.{pick, any}
 use Rattle.records.specs.Code.{word}
 use Rattle.records.specs.Literal.{Literal, plus, minus, nan, whole, infinite}
-use Rattle.util.specs.Decimal.{digits, decimal}
-use Rattle.util.specs.Escape.{quote}
-use Rattle.util.specs.Numeral.{displayNumber, displayLiteral}
+use Rattle.leaves.specs.Decimal.{digits, decimal}
+use Rattle.leaves.specs.Escape.{quote}
+use Rattle.leaves.specs.Numeral.{displayNumber, displayLiteral}
 use Rattle.ast.specs.Expr.{Expr, Aggregate, AggregateParam, Unary, Binary, Paren, Subquery, NumberLiteral, StringLiteral, VectorSelector, MatrixSelector, Call}
 use Rattle.text.specs.Display.{display, displaySelector}
 use Rattle.text.specs.Pretty.{indent, whiteCharacters, trimStart}

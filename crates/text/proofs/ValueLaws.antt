@@ -16,9 +16,9 @@ use Rattle.ast.specs.CheckPage.{wrap}
 use Rattle.ast.specs.Tables.{treeAt, Tables}
 use Rattle.text.specs.Layout.{Layout, whole, negation, suffixed, enclosed, infixed, layoutOf}
 use Rattle.text.specs.Chain.{withAt, withOffset, settled}
-use Rattle.text.specs.Seen.{Reads}
+use Rattle.text.specs.LaidOut.{Reads}
 use Rattle.text.proofs.EntryLaws.{leaf-tree, wrapped, negated, unary-value}
-use Rattle.text.proofs.SeenLaws.{number-is, seen-subquery, seen-paren, seen-binary, seen-aggregate, seen-call}
+use Rattle.text.proofs.LaidOutLaws.{number-is, laidOut-subquery, laidOut-paren, laidOut-binary, laidOut-aggregate, laidOut-call}
 use Rattle.text.proofs.ChainLaws.{settled-nothing, chain-range, chain-at, chain-offset}
 
 -- ## The sign
@@ -49,8 +49,8 @@ module _ {page starts firsts : List ℕ} {j : ℕ} (t : Tables page starts first
 -- ## All other records
 
 -- by cases on what a tree is worth
-unvalued : (e : Expr) → ((l : Literal) → e ≡ NumberLiteral l → ⊥) → scalarValue e ≡ none
-unvalued e never = by (scalarValue e) refl
+numberless : (e : Expr) → ((l : Literal) → e ≡ NumberLiteral l → ⊥) → scalarValue e ≡ none
+numberless e never = by (scalarValue e) refl
   where
     by : (v : Option Literal) → scalarValue e ≡ v → scalarValue e ≡ none
     by none h = h
@@ -64,8 +64,8 @@ Joins (suffixed t) = Unit {0}
 Joins (enclosed head) = Unit {0}
 Joins (infixed operator) = Unit {0}
 
-joins-unvalued : (e : Expr) {own : Layout} → layoutOf e ≡ own → Joins own → scalarValue e ≡ none
-joins-unvalued e is j = unvalued e (λ l k. rw (← is, k) at j)
+joins-numberless : (e : Expr) {own : Layout} → layoutOf e ≡ own → Joins own → scalarValue e ≡ none
+joins-numberless e is j = numberless e (λ l k. rw (← is, k) at j)
 
 pub settled-value : (n : Option ℕ) (u : Times) (e : Expr) → scalarValue (settled n u e) ≡ scalarValue e
 unfolding settled
@@ -104,7 +104,7 @@ module _ {page starts firsts : List ℕ} {j : ℕ} (t : Tables page starts first
   part w n u r refuses moves =
       let p = wrapped t w r .pushed in
       ap scalarValue (sym (settled-nothing (treeAt page j)) ∙ moves) ∙ settled-value n u (treeAt page (j - 1))
-      ∙ unvalued (treeAt page (j - 1)) (λ l k. refuses l (p .node) (rw k at (p .makes)))
+      ∙ numberless (treeAt page (j - 1)) (λ l k. refuses l (p .node) (rw k at (p .makes)))
 
   itself : treeAt page j ≡ settled none noTimes (treeAt page j)
   itself = sym (settled-nothing (treeAt page j))
@@ -114,11 +114,11 @@ module _ {page starts firsts : List ℕ} {j : ℕ} (t : Tables page starts first
   valueless (leaf (string x)) h r = ap scalarValue (leaf-tree t (string x) r)
   valueless (leaf (selector s)) h r = ap scalarValue (leaf-tree t (selector s) r)
   valueless (wrapper (range q)) h r = part (range q) (some q) noTimes r (λ l node k. let z : _≡_ {A = ℕ} 0 1 = cc in omega arith) (chain-range t none noTimes q r)
-  valueless (wrapper (subquery q s)) h r = joins-unvalued (treeAt page j) (seen-subquery t j (omega arith) none noTimes itself q s r .layout) tt
+  valueless (wrapper (subquery q s)) h r = joins-numberless (treeAt page j) (laidOut-subquery t j (omega arith) none noTimes itself q s r .layout) tt
   valueless (wrapper (at a)) h r = part (at a) none (withAt a noTimes) r (λ l node k. let z : _≡_ {A = ℕ} 0 1 = cc in omega arith) (chain-at t none noTimes a r)
   valueless (wrapper (offset o)) h r = part (offset o) none (withOffset o noTimes) r (λ l node k. let z : _≡_ {A = ℕ} 0 1 = cc in omega arith) (chain-offset t none noTimes o r)
   valueless (wrapper unary) h r = absurd h
-  valueless (wrapper paren) h r = joins-unvalued (treeAt page j) (seen-paren t j (omega arith) none noTimes itself r .layout) tt
-  valueless (binary c m) h r = joins-unvalued (treeAt page j) (seen-binary t j (omega arith) none noTimes itself c m r .layout) tt
-  valueless (aggregate c m n) h r = joins-unvalued (treeAt page j) (seen-aggregate t j (omega arith) none noTimes itself c m n r .layout) tt
-  valueless (call f n) h r = joins-unvalued (treeAt page j) (seen-call t j (omega arith) none noTimes itself f n r .layout) tt
+  valueless (wrapper paren) h r = joins-numberless (treeAt page j) (laidOut-paren t j (omega arith) none noTimes itself r .layout) tt
+  valueless (binary c m) h r = joins-numberless (treeAt page j) (laidOut-binary t j (omega arith) none noTimes itself c m r .layout) tt
+  valueless (aggregate c m n) h r = joins-numberless (treeAt page j) (laidOut-aggregate t j (omega arith) none noTimes itself c m n r .layout) tt
+  valueless (call f n) h r = joins-numberless (treeAt page j) (laidOut-call t j (omega arith) none noTimes itself f n r .layout) tt

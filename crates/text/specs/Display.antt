@@ -7,14 +7,14 @@ use mathlib.Core.Option.{Option, none, some}
 use Rattle.page.specs.Bytes.{pick, bytes, join}
 use Rattle.records.specs.Code.{word}
 use Rattle.records.specs.Literal.{Literal, equalAsFloats}
-use Rattle.util.specs.Numeral.{displayLiteral, displayFill}
+use Rattle.leaves.specs.Numeral.{displayLiteral, displayFill}
 use Rattle.records.specs.Field.{Labels}
 use Rattle.records.specs.Matcher.{Matcher, Selector}
 use Rattle.records.specs.Modifier.{LabelModifier, include, exclude, Cardinality, oneToOne, manyToMany, manyToOne, oneToMany, BinModifier}
 use Rattle.records.specs.Time.{Times}
-use Rattle.util.specs.Duration.{displayDuration}
-use Rattle.util.specs.Time.{displayAt, displayOffset}
-use Rattle.util.specs.Escape.{quote}
+use Rattle.leaves.specs.Duration.{displayDuration}
+use Rattle.leaves.specs.Time.{displayAt, displayOffset}
+use Rattle.leaves.specs.Escape.{quote}
 use Rattle.label.specs.Label.{displayLabels, displayMatchers}
 use Rattle.ast.specs.Expr.{Expr, Args, noArgs, arg, Aggregate, AggregateParam, Unary, Binary, Paren, Subquery, NumberLiteral, StringLiteral, VectorSelector, MatrixSelector, Call}
 
@@ -29,7 +29,7 @@ module _ {A : Type 0} where
 abbrev pub labelled : String → Labels → List ℕ
 labelled w ls = bytes w ++ bytes " (" ++ displayLabels ls ++ bytes ")"
 
--- `BinModifier`: the Rust writes each part with a space behind it, trims the end and puts one space in front. No part begins or
+-- `BinModifier`: the Rust writes each part with a space after it, trims the end and puts one space in front. No part begins or
 -- ends in a space, so each part here has its space in front
 abbrev pub displayBool : Bool → List ℕ
 displayBool true = bytes " bool"

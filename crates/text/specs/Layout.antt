@@ -1,4 +1,4 @@
--- How a node's text is put together from its operands' texts: what the node writes before them, between each two and behind them.
+-- How a node's text is put together from its operands' texts: what the node writes before them, between each two and after them.
 -- There are five ways; the texts of pages are written by these alone, whatever the record. That they give `display` and `pretty` is
 -- proved in proofs/DisplayLaws and proofs/PrettyLaws.
 use Prim.Native.Nat.{ℕ, suc}
@@ -6,9 +6,9 @@ use mathlib.Core.Bool.{Bool, true, false}
 use mathlib.Core.List.{List, [], _∷_, _++_, map}
 use mathlib.Core.Option.{Option, none, some}
 use Rattle.page.specs.Bytes.{pick, bytes, join}
-use Rattle.util.specs.Numeral.{displayLiteral}
-use Rattle.util.specs.Duration.{displayDuration}
-use Rattle.util.specs.Escape.{quote}
+use Rattle.leaves.specs.Numeral.{displayLiteral}
+use Rattle.leaves.specs.Duration.{displayDuration}
+use Rattle.leaves.specs.Escape.{quote}
 use Rattle.ast.specs.Expr.{Expr, Args, noArgs, arg, Aggregate, AggregateParam, Unary, Binary, Paren, Subquery, NumberLiteral, StringLiteral, VectorSelector, MatrixSelector, Call}
 use Rattle.text.specs.Display.{displayAggregator, displayOperator, displaySuffix, displaySelector, displayTimes}
 use Rattle.text.specs.Pretty.{indent, pretty, trimStart}
@@ -18,7 +18,7 @@ pub data Layout : Type 0 where
   whole : List ℕ → Layout
   -- a minus before the operand
   negation : Layout
-  -- behind the operand: the suffix
+  -- after the operand: the suffix
   suffixed : List ℕ → Layout
   -- operands in brackets: what stands before the bracket
   enclosed : List ℕ → Layout
@@ -107,18 +107,18 @@ rear (suffixed t) = t
 rear (enclosed h) = bytes ")"
 rear (infixed o) = []
 
--- ## Split text of a node longer than a line, at a level. The mark says whether the first line is indented: it is not behind the minus
+-- ## Split text of a node longer than a line, at a level. The indents says whether the first line is indented: it is not after the minus
 -- of a unary expression (`trim_start`)
 
 abbrev pub indentIf : Bool → ℕ → List ℕ
-indentIf mark level = pick mark (indent level) []
+indentIf indents level = pick indents (indent level) []
 
 abbrev pub frontAt : Bool → ℕ → Layout → List ℕ
-frontAt mark level (whole t) = indentIf mark level ++ t
-frontAt mark level negation = indentIf mark level ++ bytes "-"
-frontAt mark level (suffixed t) = []
-frontAt mark level (enclosed h) = indentIf mark level ++ h ++ bytes "(\n"
-frontAt mark level (infixed o) = []
+frontAt indents level (whole t) = indentIf indents level ++ t
+frontAt indents level negation = indentIf indents level ++ bytes "-"
+frontAt indents level (suffixed t) = []
+frontAt indents level (enclosed h) = indentIf indents level ++ h ++ bytes "(\n"
+frontAt indents level (infixed o) = []
 
 abbrev pub betweenAt : ℕ → Layout → List ℕ
 betweenAt level (whole t) = []
@@ -134,13 +134,13 @@ rearAt level (suffixed t) = t
 rearAt level (enclosed h) = bytes "\n" ++ indent level ++ bytes ")"
 rearAt level (infixed o) = []
 
--- the mark of the first operand; all others are indented
-abbrev pub innerMark : Bool → Layout → Bool
-innerMark mark (whole t) = true
-innerMark mark negation = false
-innerMark mark (suffixed t) = mark
-innerMark mark (enclosed h) = true
-innerMark mark (infixed o) = mark
+-- the indents of the first operand; all others are indented
+abbrev pub innerIndents : Bool → Layout → Bool
+innerIndents indents (whole t) = true
+innerIndents indents negation = false
+innerIndents indents (suffixed t) = indents
+innerIndents indents (enclosed h) = true
+innerIndents indents (infixed o) = indents
 
 -- the level of the operands
 abbrev pub innerLevel : ℕ → Layout → ℕ
@@ -151,9 +151,9 @@ innerLevel level (enclosed h) = suc level
 innerLevel level (infixed o) = suc level
 
 -- the split text, with or without its first indentation
-unfoldable pub marked : Bool → ℕ → Expr → List ℕ
-marked true level e = pretty e level
-marked false level e = trimStart (pretty e level)
+unfoldable pub prettyIndented : Bool → ℕ → Expr → List ℕ
+prettyIndented true level e = pretty e level
+prettyIndented false level e = trimStart (pretty e level)
 
 -- ## Texts of operands
 

@@ -2,6 +2,6 @@ pub mod Display
 pub mod Pretty
 pub mod Layout
 pub mod Chain
-pub mod Seen
+pub mod LaidOut
 pub mod Answers
 pub mod Measured

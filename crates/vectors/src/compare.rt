@@ -1,12 +1,12 @@
 // What the calls answer, beside what the entry says.
-use checking::walk::Walked;
-use checking::walk::walk;
 use page::same_text;
 use sandzguli::face::sandzguli_canonical;
 use sandzguli::face::sandzguli_check;
 use sandzguli::face::sandzguli_copy;
 use sandzguli::face::sandzguli_joint_label;
 use sandzguli::face::sandzguli_split;
+use walk::walk::Walked;
+use walk::walk::walk;
 
 // The lowest word of a refusal, 2^63.
 const REFUSED: u64 = 9223372036854775808;

@@ -9,8 +9,8 @@ mod word;
 use compare::Call;
 use compare::check_equal;
 use compare::writes_equal;
-use input::Part;
-use input::read_part;
+use input::Block;
+use input::read_block;
 use word::Word;
 use word::read_word;
 
@@ -22,10 +22,10 @@ enum Replayed {
 
 // The next text of the entry, and whether the call writes it.
 fn replay_text(call: Call, page: &[u8], outcome: u64, text: &mut [u8], out: &mut [u8]) -> bool {
-    match read_part(text) {
-        Part::Got(size) => writes_equal(call, page, outcome, &text[..size], out),
-        Part::End => false,
-        Part::Bad => false,
+    match read_block(text) {
+        Block::Got(size) => writes_equal(call, page, outcome, &text[..size], out),
+        Block::End => false,
+        Block::Bad => false,
     }
 }
 
@@ -49,10 +49,10 @@ fn replay_entry(page: &[u8], text: &mut [u8], out: &mut [u8]) -> Replayed {
 }
 
 fn replay_next(page: &mut [u8], text: &mut [u8], out: &mut [u8]) -> Replayed {
-    match read_part(page) {
-        Part::Got(size) => replay_entry(&page[..size], text, out),
-        Part::End => Replayed::End,
-        Part::Bad => Replayed::Different,
+    match read_block(page) {
+        Block::Got(size) => replay_entry(&page[..size], text, out),
+        Block::End => Replayed::End,
+        Block::Bad => Replayed::Different,
     }
 }
 

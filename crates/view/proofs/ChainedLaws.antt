@@ -10,17 +10,17 @@ use Rattle.records.specs.Time.{Times}
 use Rattle.records.specs.Record.{number, string, selector, Wrapper, range, subquery, at, offset, unary, paren, Record, leaf, wrapper, binary, aggregate, call}
 use Rattle.ast.specs.Tables.{treeAt}
 use Rattle.text.specs.Chain.{settled}
-use Rattle.text.specs.Seen.{Reads}
+use Rattle.text.specs.LaidOut.{Reads}
 use Rattle.text.proofs.EntryLaws.{wrapped}
 use Rattle.text.proofs.ChainLaws.{settled-nothing, chain-range, chain-at, chain-offset}
-use Rattle.view.specs.View.{Starts, kindOf, KindAt, isPart, PartAt, Sets, setsNothing, setsRange, setsAt, setsOffset, Chained}
+use Rattle.view.specs.View.{Starts, kindOf, KindAt, isAttached, AttachedAt, Sets, setsNothing, setsRange, setsAt, setsOffset, Chained}
 use Rattle.view.proofs.ViewLaws.{starts-fewer}
 
 -- record j is the one asked for, or one above it is
-passed : {page starts : List ℕ} {j k : ℕ} {w : Wrapper} → j - 1 < k → Reads page starts j (wrapper w) → isPart (kindOf (wrapper w)) ≡ true → (j < k → PartAt page starts k)
-    → PartAt page starts k
+passed : {page starts : List ℕ} {j k : ℕ} {w : Wrapper} → j - 1 < k → Reads page starts j (wrapper w) → isAttached (kindOf (wrapper w)) ≡ true → (j < k → AttachedAt page starts k)
+    → AttachedAt page starts k
 passed {page} {starts} {j} {k} h r part more =
-    by-lt j k more (λ le. subst (PartAt page starts) (omega (arith, h, le)) (record { kind = _; stands = record { item = _; reads = r; same = refl }; part = part }))
+    by-lt j k more (λ le. subst (AttachedAt page starts) (omega (arith, h, le)) (record { kind = _; stands = record { item = _; reads = r; same = refl }; part = part }))
 
 module _ {page starts : List ℕ} {i : ℕ} where
   pub sets-low : {j : ℕ} {n : Option ℕ} {u : Times} → Sets page starts i j n u → j ≤ i
@@ -29,12 +29,12 @@ module _ {page starts : List ℕ} {i : ℕ} where
   sets-low (setsAt r s) = omega (arith, sets-low s)
   sets-low (setsOffset r s) = omega (arith, sets-low s)
 
-  -- all records passed are parts
-  pub sets-part : {j k : ℕ} {n : Option ℕ} {u : Times} → Sets page starts i j n u → j < k → k ≤ i → PartAt page starts k
-  sets-part setsNothing above low = absurd (let z : ⊥ = omega (arith, above, low) in z)
-  sets-part (setsRange r t) above low = passed above r refl (λ h. sets-part t h low)
-  sets-part (setsAt r t) above low = passed above r refl (λ h. sets-part t h low)
-  sets-part (setsOffset r t) above low = passed above r refl (λ h. sets-part t h low)
+  -- all records passed are attached
+  pub sets-attached : {j k : ℕ} {n : Option ℕ} {u : Times} → Sets page starts i j n u → j < k → k ≤ i → AttachedAt page starts k
+  sets-attached setsNothing above low = absurd (let z : ⊥ = omega (arith, above, low) in z)
+  sets-attached (setsRange r t) above low = passed above r refl (λ h. sets-attached t h low)
+  sets-attached (setsAt r t) above low = passed above r refl (λ h. sets-attached t h low)
+  sets-attached (setsOffset r t) above low = passed above r refl (λ h. sets-attached t h low)
 
   module _ (s : Starts page starts (suc i)) where
     pub sets-here : {j : ℕ} {n : Option ℕ} {u : Times} → Sets page starts i j n u → Starts page starts (suc j)
@@ -55,7 +55,7 @@ module _ {page starts : List ℕ} {i : ℕ} where
       pub chained-here : Starts page starts (suc j)
       chained-here = sets-here (chain .sets)
 
-      by-item : (item : Record) → Reads page starts j item → isPart (kindOf item) ≡ true → (0 < j) × Chained page starts i (j - 1)
+      by-item : (item : Record) → Reads page starts j item → isAttached (kindOf item) ≡ true → (0 < j) × Chained page starts i (j - 1)
       by-item (leaf (number l)) r h = absurd (false≢true h)
       by-item (leaf (string t)) r h = absurd (false≢true h)
       by-item (leaf (selector v)) r h = absurd (false≢true h)
@@ -70,5 +70,5 @@ module _ {page starts : List ℕ} {i : ℕ} where
       by-item (call f n) r h = absurd (false≢true h)
 
       -- a part is not the first record, and the chain goes on below it
-      pub chained-part : {kind : ℕ} → KindAt page starts j kind → isPart kind ≡ true → (0 < j) × Chained page starts i (j - 1)
-      chained-part at· part = by-item (at· .item) (at· .reads) (ap isPart (at· .same) ∙ part)
+      pub chained-part : {kind : ℕ} → KindAt page starts j kind → isAttached kind ≡ true → (0 < j) × Chained page starts i (j - 1)
+      chained-part at· part = by-item (at· .item) (at· .reads) (ap isAttached (at· .same) ∙ part)

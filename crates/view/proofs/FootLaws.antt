@@ -9,15 +9,15 @@ use mathlib.Core.Option.{Option, none}
 use lib.ListN.{getD}
 use Rattle.records.specs.Time.{Times}
 use Rattle.records.specs.Record.{number, string, selector, range, subquery, at, offset, unary, paren, Record, leaf, wrapper, binary, aggregate, call, operands}
-use Rattle.util.specs.Numeral.{displayLiteral}
-use Rattle.util.specs.Escape.{quote}
+use Rattle.leaves.specs.Numeral.{displayLiteral}
+use Rattle.leaves.specs.Escape.{quote}
 use Rattle.ast.specs.Expr.{scalarValue}
 use Rattle.ast.specs.Tables.{treeAt}
 use Rattle.text.specs.Display.{displaySelector, displayTimes, displaySuffix, displayOperator, displayAggregator}
 use Rattle.text.specs.Layout.{Layout, whole, negation, suffixed, enclosed, infixed, displayRange, layoutOf, head, operator, suffix}
-use Rattle.text.specs.Seen.{Reads, Seen}
-use Rattle.text.proofs.SeenLaws.{seen-number, seen-string, seen-selector, seen-subquery, seen-paren, seen-literal, seen-unary, seen-binary, seen-aggregate, seen-call}
-use Rattle.view.specs.View.{Starts, kindOf, KindAt, isPart, Sets, Valued, FootAt, formOf, formed}
+use Rattle.text.specs.LaidOut.{Reads, LaidOut}
+use Rattle.text.proofs.LaidOutLaws.{laidOut-number, laidOut-string, laidOut-selector, laidOut-subquery, laidOut-paren, laidOut-literal, laidOut-unary, laidOut-binary, laidOut-aggregate, laidOut-call}
+use Rattle.view.specs.View.{Starts, kindOf, KindAt, isAttached, Sets, Valued, FootAt, formOf, formed}
 use Rattle.view.specs.declared.Foot.{Foot}
 use Rattle.view.specs.declared.Foot.the-variants as foot
 use Rattle.view.specs.declared.form.Form.{Form}
@@ -43,27 +43,27 @@ layoutBy (aggregate c m k) n u = enclosed (displayAggregator c m)
 layoutBy (call f k) n u = enclosed (f .name)
 
 module _ {page starts : List ℕ} {i j : ℕ} {n : Option ℕ} {u : Times} (s : Starts page starts (suc i)) (above : Sets page starts i j n u) where
-  pub seen-item : (item : Record) → Reads page starts j item → isPart (kindOf item) ≡ false → (kindOf item ≡ 7 → scalarValue (treeAt page j) ≡ none)
-      → Seen page i (layoutBy item n u) j (operands item)
-  seen-item (leaf (number l)) r h v = seen-number (s .tables) j (sets-low above) n u (sets-tree s above) l r
-  seen-item (leaf (string t)) r h v = seen-string (s .tables) j (sets-low above) n u (sets-tree s above) t r
-  seen-item (leaf (selector t)) r h v = seen-selector (s .tables) j (sets-low above) n u (sets-tree s above) t r
-  seen-item (wrapper (range q)) r h v = absurd (true≢false h)
-  seen-item (wrapper (subquery q t)) r h v = seen-subquery (s .tables) j (sets-low above) n u (sets-tree s above) q t r
-  seen-item (wrapper (at a)) r h v = absurd (true≢false h)
-  seen-item (wrapper (offset o)) r h v = absurd (true≢false h)
-  seen-item (wrapper unary) r h v = seen-unary (s .tables) j (sets-low above) n u (sets-tree s above) r (v refl)
-  seen-item (wrapper paren) r h v = seen-paren (s .tables) j (sets-low above) n u (sets-tree s above) r
-  seen-item (binary c m) r h v = seen-binary (s .tables) j (sets-low above) n u (sets-tree s above) c m r
-  seen-item (aggregate c m k) r h v = seen-aggregate (s .tables) j (sets-low above) n u (sets-tree s above) c m k r
-  seen-item (call f k) r h v = seen-call (s .tables) j (sets-low above) n u (sets-tree s above) f k r
+  pub laidOut-item : (item : Record) → Reads page starts j item → isAttached (kindOf item) ≡ false → (kindOf item ≡ 7 → scalarValue (treeAt page j) ≡ none)
+      → LaidOut page i (layoutBy item n u) j (operands item)
+  laidOut-item (leaf (number l)) r h v = laidOut-number (s .tables) j (sets-low above) n u (sets-tree s above) l r
+  laidOut-item (leaf (string t)) r h v = laidOut-string (s .tables) j (sets-low above) n u (sets-tree s above) t r
+  laidOut-item (leaf (selector t)) r h v = laidOut-selector (s .tables) j (sets-low above) n u (sets-tree s above) t r
+  laidOut-item (wrapper (range q)) r h v = absurd (true≢false h)
+  laidOut-item (wrapper (subquery q t)) r h v = laidOut-subquery (s .tables) j (sets-low above) n u (sets-tree s above) q t r
+  laidOut-item (wrapper (at a)) r h v = absurd (true≢false h)
+  laidOut-item (wrapper (offset o)) r h v = absurd (true≢false h)
+  laidOut-item (wrapper unary) r h v = laidOut-unary (s .tables) j (sets-low above) n u (sets-tree s above) r (v refl)
+  laidOut-item (wrapper paren) r h v = laidOut-paren (s .tables) j (sets-low above) n u (sets-tree s above) r
+  laidOut-item (binary c m) r h v = laidOut-binary (s .tables) j (sets-low above) n u (sets-tree s above) c m r
+  laidOut-item (aggregate c m k) r h v = laidOut-aggregate (s .tables) j (sets-low above) n u (sets-tree s above) c m k r
+  laidOut-item (call f k) r h v = laidOut-call (s .tables) j (sets-low above) n u (sets-tree s above) f k r
 
-  pub seen-valued : (v : Valued page starts j) → Seen page i (whole (displayLiteral (v .value))) j 0
-  seen-valued v = seen-literal (s .tables) j (sets-low above) n u (sets-tree s above) (v .value) (number-value (sets-here s above) (v .is))
+  pub laidOut-valued : (v : Valued page starts j) → LaidOut page i (whole (displayLiteral (v .value))) j 0
+  laidOut-valued v = laidOut-literal (s .tables) j (sets-low above) n u (sets-tree s above) (v .value) (number-value (sets-here s above) (v .is))
 
 -- ## Form and count by the kind
 
--- by kinds from 0 on; those of the parts do not matter
+-- by kinds from 0 on; those of the attached do not matter
 abbrev forms : List Form
 forms =
     form.Whole ∷ form.Whole ∷ form.Whole ∷ form.Whole ∷ form.Suffixed ∷ form.Whole ∷ form.Whole ∷ form.Minus ∷ form.Enclosed ∷ form.Infixed ∷ form.Enclosed
@@ -107,23 +107,23 @@ by-kind (call f k) n u = (refl, refl)
 
 module _ {page starts : List ℕ} {i j : ℕ} {n : Option ℕ} {u : Times} (s : Starts page starts (suc i)) (above : Sets page starts i j n u) where
   -- a foot of this kind, whose minus is no sign of a number
-  module _ {kind : ℕ} (k : KindAt page starts j kind) (h : isPart kind ≡ false) (v : kind ≡ 7 → scalarValue (treeAt page j) ≡ none) where
-    item-seen : Seen page i (layoutBy (k .item) n u) j (operands (k .item))
-    item-seen = seen-item s above (k .item) (k .reads) (ap isPart (k .same) ∙ h) (λ e. v (sym (k .same) ∙ e))
+  module _ {kind : ℕ} (k : KindAt page starts j kind) (h : isAttached kind ≡ false) (v : kind ≡ 7 → scalarValue (treeAt page j) ≡ none) where
+    item-laidOut : LaidOut page i (layoutBy (k .item) n u) j (operands (k .item))
+    item-laidOut = laidOut-item s above (k .item) (k .reads) (ap isAttached (k .same) ∙ h) (λ e. v (sym (k .same) ∙ e))
 
     kind-shape : shape (layoutOf (treeAt page i)) ≡ formBy kind
-    kind-shape = ap shape (item-seen .layout) ∙ by-kind (k .item) n u .0 ∙ ap formBy (k .same)
+    kind-shape = ap shape (item-laidOut .layout) ∙ by-kind (k .item) n u .0 ∙ ap formBy (k .same)
 
     -- with the operands that the record says
-    pub seen-kind : {count : ℕ} → operands (k .item) ≡ count → Seen page i (layoutOf (treeAt page i)) j count
-    seen-kind e = subst (λ (c : ℕ). Seen page i (layoutOf (treeAt page i)) j c) e (subst (λ (own : Layout). Seen page i own j (operands (k .item))) (sym (item-seen .layout)) item-seen)
+    pub laidOut-kind : {count : ℕ} → operands (k .item) ≡ count → LaidOut page i (layoutOf (treeAt page i)) j count
+    laidOut-kind e = subst (λ (c : ℕ). LaidOut page i (layoutOf (treeAt page i)) j c) e (subst (λ (own : Layout). LaidOut page i own j (operands (k .item))) (sym (item-laidOut .layout)) item-laidOut)
 
     -- with the operands of all records of its kind
-    pub seen-fixed : (count : ℕ) → ((c : ℕ) → getD counts kind c ≡ count) → Seen page i (layoutOf (treeAt page i)) j count
-    seen-fixed count few = seen-kind (by-kind (k .item) n u .1 ∙ ap (λ (m : ℕ). getD counts m (operands (k .item))) (k .same) ∙ few _)
+    pub laidOut-fixed : (count : ℕ) → ((c : ℕ) → getD counts kind c ≡ count) → LaidOut page i (layoutOf (treeAt page i)) j count
+    laidOut-fixed count few = laidOut-kind (by-kind (k .item) n u .1 ∙ ap (λ (m : ℕ). getD counts m (operands (k .item))) (k .same) ∙ few _)
 
   pub foot-shape : (f : Foot) → FootAt page starts j f → shape (layoutOf (treeAt page i)) ≡ formOf f
-  foot-shape foot.Number v = ap shape (seen-valued s above v .layout)
+  foot-shape foot.Number v = ap shape (laidOut-valued s above v .layout)
   foot-shape foot.String k = kind-shape k refl (λ e. absurd (omega (arith, e)))
   foot-shape foot.Selector k = kind-shape k refl (λ e. absurd (omega (arith, e)))
   foot-shape foot.Subquery k = kind-shape k refl (λ e. absurd (omega (arith, e)))

@@ -1,4 +1,4 @@
--- The kind of a record is its first byte, for a number below 128 is one byte, and its fields stand behind that byte: each form of
+-- The kind of a record is its first byte, for a number below 128 is one byte, and its fields stand after that byte: each form of
 -- record gives records of its own number only.
 use Prim.Native.Nat.{ℕ, zero, suc, _+_, _*_, _-_, _≤_, _<_}
 use native.Mathlib.Omega.{arith}
@@ -22,7 +22,7 @@ use Rattle.records.specs.Modifier.{readLabelModifier, readBinModifier}
 use Rattle.records.specs.Time.{readAtModifier, readOffset}
 use Rattle.records.specs.Signature.{readFunction}
 use Rattle.records.specs.Record.{number, string, selector, range, subquery, at, offset, unary, paren, Record, leaf, wrapper, binary, aggregate, call, readCode, recordForms, readRecord}
-use Rattle.text.specs.Seen.{Reads}
+use Rattle.text.specs.LaidOut.{Reads}
 use Rattle.view.specs.View.{Starts, kindOf, KindAt}
 
 -- ## Forms
@@ -133,7 +133,7 @@ kind-first {page} {starts} {i} s =
 pub starts-inside : {page starts : List ℕ} {i : ℕ} → Starts page starts (suc i) → getD starts i 0 < length page
 starts-inside {page} {starts} {i} s = start-inside page (getD starts i 0) (s .tables .entry i (omega arith) .reads)
 
--- behind the kind stand the fields
+-- after the kind stand the fields
 pub fields : {page starts : List ℕ} {i k : ℕ} → Starts page starts (suc i) → KindAt page starts i k
     → readRecord (drop (getD starts i 0) page) ≡ readerAt recordForms k (drop (getD starts i 0 + 1) page)
 fields {page} {starts} {i} {k} s at· =

@@ -12,13 +12,13 @@ use borrow.Author.Tests.{eqb-false}
 use Rattle.records.specs.Literal.{Literal, readLiteral}
 use Rattle.records.specs.Time.{Times}
 use Rattle.records.specs.Record.{number, string, selector, range, subquery, at, offset, unary, paren, Record, leaf, wrapper, binary, aggregate, call, operands}
-use Rattle.util.specs.Numeral.{displayLiteral}
+use Rattle.leaves.specs.Numeral.{displayLiteral}
 use Rattle.ast.specs.Expr.{scalarValue}
 use Rattle.ast.specs.Tables.{treeAt}
 use Rattle.text.specs.Layout.{whole, layoutOf, head, operator, suffix}
-use Rattle.text.specs.Seen.{Reads, Seen}
+use Rattle.text.specs.LaidOut.{Reads, LaidOut}
 use Rattle.text.proofs.ValueLaws.{settled-value}
-use Rattle.view.specs.View.{Starts, kindOf, KindAt, TakesAt, isPart, Sets, Chained, FootOf, NumberAt, bare, Valued, Unvalued, FootAt, NodeAt, layoutAt, Viewed, isMinus, formOf, formed}
+use Rattle.view.specs.View.{Starts, kindOf, KindAt, TakesAt, isAttached, Sets, Chained, FootOf, NumberAt, bare, Valued, Numberless, FootAt, NodeAt, layoutAt, Viewed, isMinus, formOf, formed}
 use Rattle.view.specs.declared.Foot.{Foot}
 use Rattle.view.specs.declared.Foot.the-variants as foot
 use Rattle.view.specs.declared.Node.{Node}
@@ -26,19 +26,19 @@ use Rattle.view.specs.declared.form.Form.{Form}
 use Rattle.view.specs.declared.form.Form.the-variants as form
 use Rattle.view.proofs.KindLaws.{reads-same, kind-same, fields, readable}
 use Rattle.view.proofs.ChainedLaws.{sets-tree, chained-here}
-use Rattle.view.proofs.FootLaws.{layoutBy, seen-item, seen-valued, shape-formed, foot-shape, counts, seen-kind, seen-fixed}
+use Rattle.view.proofs.FootLaws.{layoutBy, laidOut-item, laidOut-valued, shape-formed, foot-shape, counts, laidOut-kind, laidOut-fixed}
 
 -- ## Views
 
 module _ {page starts : List ℕ} {i j : ℕ} (s : Starts page starts (suc i)) (chain : Chained page starts i j) where
-  viewed : (f : Foot) (count : ℕ) → FootAt page starts j f → Seen page i (layoutOf (treeAt page i)) j count
+  viewed : (f : Foot) (count : ℕ) → FootAt page starts j f → LaidOut page i (layoutOf (treeAt page i)) j count
       → Viewed page starts i (record { foot = f; top = i; base = j; count = count })
-  viewed f count at· w = record { isTop = refl; seen = w; stands = record { known = s; chain = chain; foot = at· } }
+  viewed f count at· w = record { isTop = refl; laidOut = w; stands = record { known = s; chain = chain; foot = at· } }
 
   -- a kind with a fixed count of operands
-  fixed : {kind : ℕ} (count : ℕ) → isPart kind ≡ false → (kind ≡ 7 → scalarValue (treeAt page j) ≡ none) → ((n : ℕ) → getD counts kind n ≡ count) → KindAt page starts j kind
-      → Seen page i (layoutOf (treeAt page i)) j count
-  fixed count h v few k = seen-fixed s (chain .sets) k h v count few
+  fixed : {kind : ℕ} (count : ℕ) → isAttached kind ≡ false → (kind ≡ 7 → scalarValue (treeAt page j) ≡ none) → ((n : ℕ) → getD counts kind n ≡ count) → KindAt page starts j kind
+      → LaidOut page i (layoutOf (treeAt page i)) j count
+  fixed count h v few k = laidOut-fixed s (chain .sets) k h v count few
 
   pub view-string : KindAt page starts j 1 → Viewed page starts i (record { foot = foot.String; top = i; base = j; count = 0 })
   view-string k = viewed foot.String 0 k (fixed 0 refl (λ e. absurd (omega (arith, e))) (λ n. refl) k)
@@ -56,9 +56,9 @@ module _ {page starts : List ℕ} {i j : ℕ} (s : Starts page starts (suc i)) (
   view-binary k = viewed foot.Binary 2 k (fixed 2 refl (λ e. absurd (omega (arith, e))) (λ n. refl) k)
 
   -- aggregates and calls: what the record itself says
-  taking : {kind count : ℕ} → isPart kind ≡ false → (kind ≡ 7 → scalarValue (treeAt page j) ≡ none) → KindAt page starts j kind → TakesAt page starts j count
-      → Seen page i (layoutOf (treeAt page i)) j count
-  taking h v k t = seen-kind s (chain .sets) k h v (ap operands (reads-same (k .reads) (t .reads)) ∙ t .takes)
+  taking : {kind count : ℕ} → isAttached kind ≡ false → (kind ≡ 7 → scalarValue (treeAt page j) ≡ none) → KindAt page starts j kind → TakesAt page starts j count
+      → LaidOut page i (layoutOf (treeAt page i)) j count
+  taking h v k t = laidOut-kind s (chain .sets) k h v (ap operands (reads-same (k .reads) (t .reads)) ∙ t .takes)
 
   pub view-aggregate : {count : ℕ} → KindAt page starts j 10 → TakesAt page starts j count → Viewed page starts i (record { foot = foot.Aggregate; top = i; base = j; count = count })
   view-aggregate k t = viewed foot.Aggregate _ k (taking refl (λ e. absurd (omega (arith, e))) k t)
@@ -68,7 +68,7 @@ module _ {page starts : List ℕ} {i j : ℕ} (s : Starts page starts (suc i)) (
 
   pub view-valued : Valued page starts j → Viewed page starts i (record { foot = foot.Number; top = i; base = j; count = 0 })
   view-valued v =
-      let w = seen-valued s (chain .sets) v in
+      let w = laidOut-valued s (chain .sets) v in
       viewed foot.Number 0 v (rw (w .layout) w)
 
   pub view-number : KindAt page starts j 0 → Viewed page starts i (record { foot = foot.Number; top = i; base = j; count = 0 })
@@ -79,8 +79,8 @@ module _ {page starts : List ℕ} {i j : ℕ} (s : Starts page starts (suc i)) (
   pub view-unary : KindAt page starts j 7 → scalarValue (treeAt page j) ≡ none → Viewed page starts i (record { foot = foot.Unary; top = i; base = j; count = 1 })
   view-unary k v = viewed foot.Unary 1 (record { kind = k; valueless = v }) (fixed 1 refl (λ e. v) (λ n. refl) k)
 
-  pub unvalued-below : Unvalued page i true → scalarValue (treeAt page j) ≡ none
-  unvalued-below u = sym (ap scalarValue (sets-tree s (chain .sets)) ∙ settled-value _ _ (treeAt page j)) ∙ u refl
+  pub numberless-below : Numberless page i true → scalarValue (treeAt page j) ≡ none
+  numberless-below u = sym (ap scalarValue (sets-tree s (chain .sets)) ∙ settled-value _ _ (treeAt page j)) ∙ u refl
 
 -- ## What is known of a node
 
@@ -94,10 +94,10 @@ module _ {page starts : List ℕ} {node : Node} (n : NodeAt page starts node) wh
 
   -- its layout is that of the record at its foot, unless this is a sign, under what the records above set
   pub layout-read : {r : Option ℕ} {u : Times} → Sets page starts (node .top) (node .base) r u → {item : Record} → Reads page starts (node .base) item
-      → isPart (kindOf item) || eqb (kindOf item) 7 ≡ false → layoutAt page node ≡ layoutBy item r u
+      → isAttached (kindOf item) || eqb (kindOf item) 7 ≡ false → layoutAt page node ≡ layoutBy item r u
   layout-read s {item} is plain =
-      let h = neither (isPart (kindOf item)) (eqb (kindOf item) 7) plain in
-      seen-item (n .known) s item is (h .0) (λ e. absurd (eqb-false (kindOf item) 7 (h .1) e)) .layout
+      let h = neither (isAttached (kindOf item)) (eqb (kindOf item) 7) plain in
+      laidOut-item (n .known) s item is (h .0) (λ e. absurd (eqb-false (kindOf item) 7 (h .1) e)) .layout
     where
       neither : (a b : Bool) → a || b ≡ false → (a ≡ false) × (b ≡ false)
       neither false b h = (refl, h)
@@ -105,12 +105,12 @@ module _ {page starts : List ℕ} {node : Node} (n : NodeAt page starts node) wh
 
   -- of a number with its signs
   pub number-layout : {l : Literal} → NumberAt page starts (node .base) l → layoutAt page node ≡ whole (displayLiteral l)
-  number-layout v = seen-valued (n .known) (n .chain .sets) (record { value = _; is = v }) .layout
+  number-layout v = laidOut-valued (n .known) (n .chain .sets) (record { value = _; is = v }) .layout
 
 -- the operand of a minus is no bare number
-pub minus-unvalued : {page starts : List ℕ} {i : ℕ} {node : Node} → Viewed page starts i node → Unvalued page (node .base - 1) (isMinus (node .foot))
-minus-unvalued {page} {starts} {i} {node} w m =
-    w .seen .unsigned (layout-formed (w .stands) (minus (node .foot) m))
+pub minus-numberless : {page starts : List ℕ} {i : ℕ} {node : Node} → Viewed page starts i node → Numberless page (node .base - 1) (isMinus (node .foot))
+minus-numberless {page} {starts} {i} {node} w m =
+    w .laidOut .unsigned (layout-formed (w .stands) (minus (node .foot) m))
   where
     minus : (f : Foot) → isMinus f ≡ true → form.Minus ≡ formOf f
     minus foot.Number h = absurd (false≢true h)
@@ -125,7 +125,7 @@ minus-unvalued {page} {starts} {i} {node} w m =
 
 -- ## The last kind
 
-last-kind : (item : Record) → isPart (kindOf item) ≡ false → (kindOf item ≡ 0 → ⊥) → (kindOf item ≡ 1 → ⊥) → (kindOf item ≡ 2 → ⊥) → (kindOf item ≡ 4 → ⊥)
+last-kind : (item : Record) → isAttached (kindOf item) ≡ false → (kindOf item ≡ 0 → ⊥) → (kindOf item ≡ 1 → ⊥) → (kindOf item ≡ 2 → ⊥) → (kindOf item ≡ 4 → ⊥)
     → (kindOf item ≡ 7 → ⊥) → (kindOf item ≡ 8 → ⊥) → (kindOf item ≡ 9 → ⊥) → (kindOf item ≡ 10 → ⊥) → kindOf item ≡ 11
 last-kind (leaf (number l)) h a b c d e f g k = absurd (a refl)
 last-kind (leaf (string t)) h a b c d e f g k = absurd (b refl)
@@ -149,6 +149,6 @@ foot-call w at· a b c d e f g k =
     record {
       item = at· .item;
       reads = at· .reads;
-      same = last-kind (at· .item) (ap isPart (kind-same (w .stands) (at· .reads)) ∙ w .other) (λ h. a (sym is ∙ h)) (λ h. b (sym is ∙ h)) (λ h. c (sym is ∙ h))
+      same = last-kind (at· .item) (ap isAttached (kind-same (w .stands) (at· .reads)) ∙ w .other) (λ h. a (sym is ∙ h)) (λ h. b (sym is ∙ h)) (λ h. c (sym is ∙ h))
           (λ h. d (sym is ∙ h)) (λ h. e (sym is ∙ h)) (λ h. f (sym is ∙ h)) (λ h. g (sym is ∙ h)) (λ h. k (sym is ∙ h));
     }

@@ -11,18 +11,18 @@ use Rattle.records.specs.Literal.{Literal, plus, minus, nan, negate}
 use Rattle.records.specs.Record.{number, string, selector, range, subquery, at, offset, unary, paren, Record, leaf, wrapper, binary, aggregate, call, operands, readRecord}
 use Rattle.ast.specs.Expr.{scalarValue}
 use Rattle.ast.specs.Tables.{treeAt, Tables}
-use Rattle.text.specs.Seen.{Reads}
+use Rattle.text.specs.LaidOut.{Reads}
 use Rattle.text.proofs.OperandLaws.{fewer}
 use Rattle.text.proofs.EntryLaws.{wrapped, leaf-tree, negated, unary-value}
 use Rattle.text.proofs.ValueLaws.{signed, signed-none, signed-unary, Unsigned, valueless}
-use Rattle.view.specs.View.{Starts, Unvalued, kindOf, KindAt, TakesAt, NumberAt, bare, turned}
+use Rattle.view.specs.View.{Starts, Numberless, kindOf, KindAt, TakesAt, NumberAt, bare, turned}
 use Rattle.view.proofs.KindLaws.{fields}
 
 pub starts-of : {page starts firsts : List ℕ} {n : ℕ} → Tables page starts firsts n → Starts page starts n
 starts-of {firsts = firsts} t = record { firsts = firsts; tables = t }
 
 -- without the mark nothing is said
-pub unmarked : (page : List ℕ) (i : ℕ) → Unvalued page i false
+pub unmarked : (page : List ℕ) (i : ℕ) → Numberless page i false
 unmarked page i k = cc
 
 pub starts-fewer : {page starts : List ℕ} {n m : ℕ} → Starts page starts n → m ≤ n → Starts page starts m

@@ -13,14 +13,14 @@ use Rattle.records.specs.Record.{Record}
 use Rattle.ast.specs.Expr.{scalarValue}
 use Rattle.ast.specs.Tables.{treeAt, stackAt}
 use Rattle.text.specs.Layout.{Layout, children}
-use Rattle.text.specs.Seen.{Reads, Seen}
-use Rattle.view.specs.View.{Starts, kindOf, isPart, PartAt, NumberAt, bare, turned, FootAt, Viewed}
+use Rattle.text.specs.LaidOut.{Reads, LaidOut}
+use Rattle.view.specs.View.{Starts, kindOf, isAttached, AttachedAt, NumberAt, bare, turned, FootAt, Viewed}
 use Rattle.view.specs.declared.Foot.{Foot}
 use Rattle.view.specs.declared.Foot.the-variants as foot
 use Rattle.view.specs.declared.Node.{Node}
 use Rattle.view.proofs.KindLaws.{reads-same, kind-same, kind-first}
 use Rattle.view.proofs.ViewLaws.{number-value}
-use Rattle.view.proofs.ChainedLaws.{sets-low, sets-part, chained-here}
+use Rattle.view.proofs.ChainedLaws.{sets-low, sets-attached, chained-here}
 
 -- ## The foot
 
@@ -29,7 +29,7 @@ abbrev minusBy : Option Literal → Foot
 minusBy none = foot.Unary
 minusBy (some l) = foot.Number
 
--- by the kind of the record, from 0 on, and the value of its tree; those of the parts do not matter
+-- by the kind of the record, from 0 on, and the value of its tree; those of the attached do not matter
 abbrev footBy : ℕ → Option Literal → Foot
 footBy kind v =
     getD
@@ -38,10 +38,10 @@ footBy kind v =
 
 module _ {page starts : List ℕ} {j : ℕ} (s : Starts page starts (suc j)) {item : Record} (r : Reads page starts j item) where
   abbrev FootBy : Foot → Type 0
-  FootBy f = (f ≡ footBy (kindOf item) (scalarValue (treeAt page j))) × (isPart (kindOf item) ≡ false)
+  FootBy f = (f ≡ footBy (kindOf item) (scalarValue (treeAt page j))) × (isAttached (kindOf item) ≡ false)
 
-  of-kind : {f : Foot} (kind : ℕ) → kindOf item ≡ kind → f ≡ footBy kind (scalarValue (treeAt page j)) → isPart kind ≡ false → FootBy f
-  of-kind kind k e h = (e ∙ ap (λ (n : ℕ). footBy n (scalarValue (treeAt page j))) (sym k), ap isPart k ∙ h)
+  of-kind : {f : Foot} (kind : ℕ) → kindOf item ≡ kind → f ≡ footBy kind (scalarValue (treeAt page j)) → isAttached kind ≡ false → FootBy f
+  of-kind kind k e h = (e ∙ ap (λ (n : ℕ). footBy n (scalarValue (treeAt page j))) (sym k), ap isAttached k ∙ h)
 
   of-number : {l : Literal} → NumberAt page starts j l → scalarValue (treeAt page j) ≡ some l → FootBy foot.Number
   of-number (bare n) v = of-kind 0 (ap kindOf (reads-same r n)) refl refl
@@ -59,15 +59,15 @@ module _ {page starts : List ℕ} {j : ℕ} (s : Starts page starts (suc j)) {it
   foot-by foot.Call k = of-kind 11 (kind-same k r) refl refl
 
 -- a foot is no range, @ or offset
-foot-no-part : {page starts : List ℕ} {j : ℕ} → Starts page starts (suc j) → (f : Foot) → FootAt page starts j f → PartAt page starts j → ⊥
+foot-no-part : {page starts : List ℕ} {j : ℕ} → Starts page starts (suc j) → (f : Foot) → FootAt page starts j f → AttachedAt page starts j → ⊥
 foot-no-part s f at· p =
     let is = p .stands in
-    false≢true (sym (foot-by s (is .reads) f at· .1) ∙ ap isPart (is .same) ∙ p .part)
+    false≢true (sym (foot-by s (is .reads) f at· .1) ∙ ap isAttached (is .same) ∙ p .part)
 
 -- ## The node
 
 -- so many operands as the tree has
-count-is : {page : List ℕ} {i end count : ℕ} {own : Layout} → Seen page i own end count → length (children (treeAt page i)) ≡ count
+count-is : {page : List ℕ} {i end count : ℕ} {own : Layout} → LaidOut page i own end count → length (children (treeAt page i)) ≡ count
 count-is {page} {i} {end} {count} s =
     let size = ap length (s .operands) ∙ length-reverse (take count (stackAt page end)) ∙ length-take count (stackAt page end) in
     omega (arith, size, s .enough)
@@ -76,7 +76,7 @@ module _ {page starts : List ℕ} {i : ℕ} where
   base-low : {a b : Node} → Viewed page starts i a → Viewed page starts i b → a .base < b .base → ⊥
   base-low {a} {b} v w h =
       let low : b .base ≤ a .top = omega (arith, v .isTop, w .isTop, sets-low (w .stands .chain .sets)) in
-      foot-no-part (chained-here (w .stands .known) (w .stands .chain)) (b .foot) (w .stands .foot) (sets-part (v .stands .chain .sets) h low)
+      foot-no-part (chained-here (w .stands .known) (w .stands .chain)) (b .foot) (w .stands .foot) (sets-attached (v .stands .chain .sets) h low)
 
   base-is : {a b : Node} → Viewed page starts i a → Viewed page starts i b → a .base ≡ b .base
   base-is {a} {b} v w =
@@ -89,7 +89,7 @@ module _ {page starts : List ℕ} {i : ℕ} where
       left .0 ∙ sym (foot-by s (kind-first s .reads) (b .foot) (w .stands .foot) .0)
 
   pub viewed-one : {a b : Node} → Viewed page starts i a → Viewed page starts i b → a ≡ b
-  viewed-one {a} {b} v w = same (foot-is v w) (v .isTop ∙ sym (w .isTop)) (base-is v w) (sym (count-is (v .seen)) ∙ count-is (w .seen))
+  viewed-one {a} {b} v w = same (foot-is v w) (v .isTop ∙ sym (w .isTop)) (base-is v w) (sym (count-is (v .laidOut)) ∙ count-is (w .laidOut))
     where
       same : {f g : Foot} {t u j k m n : ℕ} → f ≡ g → t ≡ u → j ≡ k → m ≡ n
           → _≡_ {A = Node} (record { foot = f; top = t; base = j; count = m }) (record { foot = g; top = u; base = k; count = n })

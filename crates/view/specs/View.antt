@@ -14,7 +14,7 @@ use Rattle.ast.specs.Construct.{noTimes}
 use Rattle.ast.specs.Tables.{Tables, treeAt}
 use Rattle.text.specs.Layout.{Layout, whole, negation, suffixed, enclosed, infixed, layoutOf}
 use Rattle.text.specs.Chain.{withAt, withOffset}
-use Rattle.text.specs.Seen.{Reads, Seen}
+use Rattle.text.specs.LaidOut.{Reads, LaidOut}
 use Rattle.view.specs.declared.Foot.{Foot}
 use Rattle.view.specs.declared.Foot.the-variants as foot
 use Rattle.view.specs.declared.Node.{Node}
@@ -57,14 +57,14 @@ pub record TakesAt (page starts : List ℕ) (i count : ℕ) : Type 0 where
   pub reads : Reads page starts i item
   pub takes : operands item ≡ count
 
--- the kinds of range, @ and offset: parts of the node of the record below
-abbrev pub isPart : ℕ → Bool
-isPart kind = eqb kind 3 || eqb kind 5 || eqb kind 6
+-- the kinds of range, @ and offset: attached of the node of the record below
+abbrev pub isAttached : ℕ → Bool
+isAttached kind = eqb kind 3 || eqb kind 5 || eqb kind 6
 
-pub record PartAt (page starts : List ℕ) (i : ℕ) : Type 0 where
+pub record AttachedAt (page starts : List ℕ) (i : ℕ) : Type 0 where
   pub kind : ℕ
   pub stands : KindAt page starts i kind
-  pub part : isPart kind ≡ true
+  pub part : isAttached kind ≡ true
 
 -- what the records above record j, up to record i, set: a range, an @ or an offset each, over what is set above it
 pub data Sets (page starts : List ℕ) (i : ℕ) : ℕ → Option ℕ → Times → Type 0 where
@@ -75,7 +75,7 @@ pub data Sets (page starts : List ℕ) (i : ℕ) : ℕ → Option ℕ → Times 
   setsOffset : {j : ℕ} {o : Offset} {n : Option ℕ} {u : Times} → Reads page starts j (wrapper (offset o)) → Sets page starts i j n u
       → Sets page starts i (j - 1) n (withOffset o u)
 
--- the records above record j, up to record i, are parts of one node with it
+-- the records above record j, up to record i, are attached of one node with it
 pub record Chained (page starts : List ℕ) (i j : ℕ) : Type 0 where
   pub range : Option ℕ
   pub times : Times
@@ -86,7 +86,7 @@ pub record FootOf (page starts : List ℕ) (i j : ℕ) : Type 0 where
   pub chain : Chained page starts i j
   pub kind : ℕ
   pub stands : KindAt page starts j kind
-  pub other : isPart kind ≡ false
+  pub other : isAttached kind ≡ false
 
 -- ## Numbers
 
@@ -111,8 +111,8 @@ pub record Minus (page starts : List ℕ) (i : ℕ) : Type 0 where
   pub valueless : scalarValue (treeAt page i) ≡ none
 
 -- where the mark is set, the tree is no bare number
-abbrev pub Unvalued : List ℕ → ℕ → Bool → Type 0
-Unvalued page i mark = mark ≡ true → scalarValue (treeAt page i) ≡ none
+abbrev pub Numberless : List ℕ → ℕ → Bool → Type 0
+Numberless page i mark = mark ≡ true → scalarValue (treeAt page i) ≡ none
 
 -- ## Nodes
 
@@ -140,7 +140,7 @@ layoutAt page node = layoutOf (treeAt page (node .top))
 -- the node that record i ends. There is one only (proofs/ViewedLaws)
 pub record Viewed (page starts : List ℕ) (i : ℕ) (node : Node) : Type 0 where
   pub isTop : node .top ≡ i
-  pub seen : Seen page i (layoutAt page node) (node .base) (node .count)
+  pub laidOut : LaidOut page i (layoutAt page node) (node .base) (node .count)
   pub stands : NodeAt page starts node
 
 -- ## Forms

@@ -12,7 +12,7 @@ use reader::Record;
 ghost use mathlib.Core.Path.{_≡_};
 ghost use Prim.Native.Nat.{suc, _+_, _<_};
 ghost use lib.ListN.{length, getD};
-ghost use Rattle.view.specs.View.{Starts, KindAt, TakesAt, FootOf, Viewed, Unvalued};
+ghost use Rattle.view.specs.View.{Starts, KindAt, TakesAt, FootOf, Viewed, Numberless};
 
 // What stands at the foot of a node.
 pub enum Foot {
@@ -28,7 +28,7 @@ pub enum Foot {
 }
 
 // A node: record `base` is its foot, and above it up to record `top` stand its range, @ and offset. Its operands are the newest
-// expressions behind the first `base` records, `count` of them.
+// expressions after the first `base` records, `count` of them.
 pub struct Node {
     pub foot: Foot,
     pub top: usize,
@@ -45,7 +45,7 @@ pub fn kind_at(page: &[u8], starts: &[u16], i: usize) -> u8
     page[start]
 }
 
-// Where the fields of record i start: behind its kind.
+// Where the fields of record i start: after its kind.
 pub fn fields_start(starts: &[u16], i: usize) -> usize
     requires { ⌜ i < length (now starts) ⌝ }
     ensures { λ r. ⌜ r ≡ getD (now (starts .entry)) i 0 + 1 ⌝ }
@@ -107,14 +107,14 @@ fn node_of(foot: Foot, top: usize, base: usize, count: usize) -> Node
 }
 
 // A unary record: a minus, unless it is the sign of a bare number. Under another minus there is none.
-fn unary_view(page: &[u8], starts: &[u16], i: usize, j: usize, unvalued: bool) -> Node
+fn unary_view(page: &[u8], starts: &[u16], i: usize, j: usize, numberless: bool) -> Node
     requires { ⌜ Starts (now page) (now starts) (suc i) ⌝ }
     requires { ⌜ FootOf (now page) (now starts) i j ⌝ }
     requires { ⌜ KindAt (now page) (now starts) j 7 ⌝ }
-    requires { ⌜ Unvalued (now page) i unvalued ⌝ }
+    requires { ⌜ Numberless (now page) i numberless ⌝ }
     ensures { λ r. ⌜ Viewed (now (page .entry)) (now (starts .entry)) i r ⌝ }
 {
-    if unvalued {
+    if numberless {
         return node_of(Foot::Unary, i, j, 1);
     }
     match signed_literal(page, starts, j) {
@@ -123,10 +123,10 @@ fn unary_view(page: &[u8], starts: &[u16], i: usize, j: usize, unvalued: bool) -
     }
 }
 
-// The node that record i ends. `unvalued` says that it is known to be no bare number.
-pub fn view_at(page: &[u8], starts: &[u16], i: usize, unvalued: bool) -> Node
+// The node that record i ends. `numberless` says that it is known to be no bare number.
+pub fn view_at(page: &[u8], starts: &[u16], i: usize, numberless: bool) -> Node
     requires { ⌜ Starts (now page) (now starts) (suc i) ⌝ }
-    requires { ⌜ Unvalued (now page) i unvalued ⌝ }
+    requires { ⌜ Numberless (now page) i numberless ⌝ }
     ensures { λ r. ⌜ Viewed (now (page .entry)) (now (starts .entry)) i r ⌝ }
 {
     let j = foot_of(page, starts, i);
@@ -135,7 +135,7 @@ pub fn view_at(page: &[u8], starts: &[u16], i: usize, unvalued: bool) -> Node
         1 => node_of(Foot::String, i, j, 0),
         2 => node_of(Foot::Selector, i, j, 0),
         4 => node_of(Foot::Subquery, i, j, 1),
-        7 => unary_view(page, starts, i, j, unvalued),
+        7 => unary_view(page, starts, i, j, numberless),
         8 => node_of(Foot::Paren, i, j, 1),
         9 => node_of(Foot::Binary, i, j, 2),
         10 => node_of(Foot::Aggregate, i, j, operands_at(page, starts, j)),

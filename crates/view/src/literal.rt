@@ -6,7 +6,7 @@ ghost use Prim.Native.Nat.{suc};
 ghost use Rattle.records.specs.Literal.{negate};
 ghost use Rattle.records.specs.Answers.{literalOf};
 ghost use Rattle.records.specs.Record.{leaf, number};
-ghost use Rattle.text.specs.Seen.{Reads};
+ghost use Rattle.text.specs.LaidOut.{Reads};
 ghost use Rattle.view.specs.View.{Starts, KindAt, SignedAt};
 
 // A bare number with its sign, or anything else.

@@ -7,7 +7,7 @@ use borrow.Author.Tests.{leb-true}
 use borrow.Author.Needs.{needs}
 use Rattle.text.specs.Display.{display}
 use Rattle.view.proofs.ViewLaws.{unmarked}
-use Rattle.checking.specs.Answers.{Accepts}
+use Rattle.walk.specs.Answers.{Accepts}
 use Rattle.ast.specs.Tables.{Tables}
 use Rattle.records.specs.Answers.{kindOf}
 use Rattle.calls.proofs.RoomLaws.{accepted-some, tables-last}

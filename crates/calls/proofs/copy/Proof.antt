@@ -5,7 +5,7 @@ use denote.Ref.{now}
 use borrow.Author.Tests.{leb-true}
 use borrow.Author.Needs.{needs}
 use Rattle.records.specs.Answers.{kindOf}
-use Rattle.checking.specs.Answers.{Accepts}
+use Rattle.walk.specs.Answers.{Accepts}
 use Rattle.copy.proofs.StartsLaws.{accepted-starts}
 use Rattle.page.proofs.NumberLaws.{known-bytes}
 use Rattle.copy.specs.Starts.{Starts}

@@ -5,7 +5,7 @@ use denote.Ref.{now}
 use native.Mathlib.Omega.{arith}
 use borrow.Author.Needs.{needs}
 use Rattle.text.specs.Pretty.{prettify}
-use Rattle.checking.specs.Answers.{Accepts}
+use Rattle.walk.specs.Answers.{Accepts}
 use Rattle.ast.specs.Tables.{Tables, treeAt}
 use Rattle.records.specs.Answers.{kindOf}
 use Rattle.calls.proofs.RoomLaws.{accepted-some, tables-last, room-enough, room-short, room-fits}

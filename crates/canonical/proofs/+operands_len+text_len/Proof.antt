@@ -1,10 +1,10 @@
--- The proof of the cycle {operands_len, text_len}: lengths up to a cap. The measures: 2 e for the operands behind e records, 2 i + 1 for the tree
+-- The proof of the cycle {operands_len, text_len}: lengths up to a cap. The measures: 2 e for the operands after e records, 2 i + 1 for the tree
 -- that record i ends. The laws stand in `TextLaws`. Assumes nothing.
 use Rattle.view.proofs.ViewLaws.{starts-of, unmarked}
 use Rattle.text.proofs.LengthLaws.{last-operand, fewer-operands, len-none, len-one, len-full, len-more}
 use Rattle.canonical.proofs.TextLaws.{len-tree}
 use Rattle.text.specs.Display.{display}
-use Rattle.view.proofs.NodeLaws.{minus-unvalued}
+use Rattle.view.proofs.NodeLaws.{minus-numberless}
 use Rattle.text.proofs.OperandLaws.{fewer}
 use Prim.Native.Nat.{_+_, _-_}
 use native.Mathlib.Omega.{arith}
@@ -126,8 +126,8 @@ text-len-sub-operands-len t c = omega (arith, c .before .before .front-len .ensu
 
 text-len-operands-len-requires : (t : ℕ) → text-len-lts.Need-operands-len-requires (text-len-claims t) (text-len-at t) text-len.Post
 text-len-operands-len-requires t c κs =
-    let seen = c .before .before .before .view-at .ensures .seen in
-    (omega (arith, seen .low, c .before .before .before .before .before .before .before .before .pre .0), (fewer (c .before .before .before .before .before .before .before .before .pre .1 .0) (omega (arith, seen .low)), (seen .enough, rw (c .is-minus .ensures) (minus-unvalued (c .before .before .before .view-at .ensures)))))
+    let laidOut = c .before .before .before .view-at .ensures .laidOut in
+    (omega (arith, laidOut .low, c .before .before .before .before .before .before .before .before .pre .0), (fewer (c .before .before .before .before .before .before .before .before .pre .1 .0) (omega (arith, laidOut .low)), (laidOut .enough, rw (c .is-minus .ensures) (minus-numberless (c .before .before .before .view-at .ensures)))))
 
 text-len-sub-rear-len : (t : ℕ) → text-len-lts.Need-sub-rear-len (text-len-claims t) (text-len-at t) text-len.Post
 text-len-sub-rear-len t c = omega (arith, c .before .before .before .front-len .ensures)
@@ -145,7 +145,7 @@ text-len-add-result-2 : (t : ℕ) → text-len-lts.Need-add-result-2 (text-len-c
 text-len-add-result-2 t c = omega (arith, c .before .before .before .before .front-len .ensures, c .before .operands-len .ensures .bound, c .rear-len .ensures)
 
 text-len-returns-2 : (t : ℕ) → text-len-lts.Need-returns-2 (text-len-claims t) (text-len-at t) text-len.Post
-text-len-returns-2 t c = len-tree (c .before .before .before .before .before .view-at .ensures .seen) _ _ _ _ _ (c .before .before .before .before .front-len .ensures) (c .before .before .before .between-len .ensures) (c .before .operands-len .ensures) (c .rear-len .ensures)
+text-len-returns-2 t c = len-tree (c .before .before .before .before .before .view-at .ensures .laidOut) _ _ _ _ _ (c .before .before .before .before .front-len .ensures) (c .before .before .before .between-len .ensures) (c .before .operands-len .ensures) (c .rear-len .ensures)
 
 pub +operands-len+text-len-spec : {M : Type 1} → statement M
 +operands-len+text-len-spec = close μ-operands-len μ-text-len

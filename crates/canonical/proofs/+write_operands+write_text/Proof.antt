@@ -5,7 +5,7 @@ use Rattle.text.proofs.WriteLaws.{wrote-nothing, wrote-as, text-none, text-one,
 use Rattle.view.proofs.ViewLaws.{starts-of, unmarked}
 use Rattle.text.proofs.LengthLaws.{last-operand, fewer-operands}
 use Rattle.text.specs.Display.{display}
-use Rattle.view.proofs.NodeLaws.{minus-unvalued}
+use Rattle.view.proofs.NodeLaws.{minus-numberless}
 use Rattle.text.proofs.OperandLaws.{fewer}
 use Rattle.base.specs.Splice.{fits, next, end}
 use Rattle.view.specs.View.{layoutAt}
@@ -126,22 +126,22 @@ write-text-is-minus-requires : (t : ℕ) → write-text-lts.Need-is-minus-requir
 write-text-is-minus-requires t c κs = search needs
 
 write-text-put-front-requires : (t : ℕ) → write-text-lts.Need-put-front-requires (write-text-claims t) (write-text-at t) write-text.Post
-write-text-put-front-requires t c κs = (c .before .before .view-at .ensures .stands, fits (run-node (c .before .before .view-at .ensures .seen) (c .before .before .before .before .before .before .before .args .out .now) (c .before .before .before .before .before .before .before .args .at) (c .before .before .before .before .before .before .before .pre .1 .1 .1)))
+write-text-put-front-requires t c κs = (c .before .before .view-at .ensures .stands, fits (run-node (c .before .before .view-at .ensures .laidOut) (c .before .before .before .before .before .before .before .args .out .now) (c .before .before .before .before .before .before .before .args .at) (c .before .before .before .before .before .before .before .pre .1 .1 .1)))
 
 write-text-write-operands-requires : (t : ℕ) → write-text-lts.Need-write-operands-requires (write-text-claims t) (write-text-at t) write-text.Post
 write-text-write-operands-requires t c κs =
-    let seen = c .before .before .before .before .before .before .view-at .ensures .seen in
-    let run = next (run-node seen (c .before .before .before .before .before .before .before .before .before .before .before .args .out .now) (c .before .before .before .before .before .before .before .before .before .before .before .args .at) (c .before .before .before .before .before .before .before .before .before .before .before .pre .1 .1 .1)) (c .before .before .before .put-front .ensures) in
-    (omega (arith, seen .low, c .before .before .before .before .before .before .before .before .before .before .before .pre .0), (fewer (c .before .before .before .before .before .before .before .before .before .before .before .pre .1 .0) (omega (arith, seen .low)), (c .before .before .before .before .before .before .view-at .ensures .stands, (seen .enough, (rw (c .before .before .before .before .before .is-minus .ensures) (minus-unvalued (c .before .before .before .before .before .before .view-at .ensures)), fits run)))))
+    let laidOut = c .before .before .before .before .before .before .view-at .ensures .laidOut in
+    let run = next (run-node laidOut (c .before .before .before .before .before .before .before .before .before .before .before .args .out .now) (c .before .before .before .before .before .before .before .before .before .before .before .args .at) (c .before .before .before .before .before .before .before .before .before .before .before .pre .1 .1 .1)) (c .before .before .before .put-front .ensures) in
+    (omega (arith, laidOut .low, c .before .before .before .before .before .before .before .before .before .before .before .pre .0), (fewer (c .before .before .before .before .before .before .before .before .before .before .before .pre .1 .0) (omega (arith, laidOut .low)), (c .before .before .before .before .before .before .view-at .ensures .stands, (laidOut .enough, (rw (c .before .before .before .before .before .is-minus .ensures) (minus-numberless (c .before .before .before .before .before .before .view-at .ensures)), fits run)))))
 
 write-text-put-rear-requires : (t : ℕ) → write-text-lts.Need-put-rear-requires (write-text-claims t) (write-text-at t) write-text.Post
-write-text-put-rear-requires t c κs = (c .before .before .before .before .before .before .before .before .before .before .view-at .ensures .stands, fits (next (next (run-node (c .before .before .before .before .before .before .before .before .before .before .view-at .ensures .seen) (c .before .before .before .before .before .before .before .before .before .before .before .before .before .before .before .args .out .now) (c .before .before .before .before .before .before .before .before .before .before .before .before .before .before .before .args .at) (c .before .before .before .before .before .before .before .before .before .before .before .before .before .before .before .pre .1 .1 .1)) (c .before .before .before .before .before .before .before .put-front .ensures)) (c .before .before .before .write-operands .ensures)))
+write-text-put-rear-requires t c κs = (c .before .before .before .before .before .before .before .before .before .before .view-at .ensures .stands, fits (next (next (run-node (c .before .before .before .before .before .before .before .before .before .before .view-at .ensures .laidOut) (c .before .before .before .before .before .before .before .before .before .before .before .before .before .before .before .args .out .now) (c .before .before .before .before .before .before .before .before .before .before .before .before .before .before .before .args .at) (c .before .before .before .before .before .before .before .before .before .before .before .before .before .before .before .pre .1 .1 .1)) (c .before .before .before .before .before .before .before .put-front .ensures)) (c .before .before .before .write-operands .ensures)))
 
 write-text-same-length : (t : ℕ) → write-text-lts.Need-same-length (write-text-claims t) (write-text-at t) write-text.Post
 write-text-same-length t c = c .before .before .put-rear .kept .1 .1 .1 .0 ∙ c .before .before .before .before .before .before .write-operands .kept .1 .1 .1 .1 .1 .1 .1 .0 ∙ c .before .before .before .before .before .before .before .before .before .before .put-front .kept .1 .1 .1 .0
 
 write-text-returns : (t : ℕ) → write-text-lts.Need-returns (write-text-claims t) (write-text-at t) write-text.Post
-write-text-returns t c = end (next (next (next (run-node (c .before .before .before .before .before .before .before .before .before .before .before .before .before .view-at .ensures .seen) (c .before .before .before .before .before .before .before .before .before .before .before .before .before .before .before .before .before .before .args .out .now) (c .before .before .before .before .before .before .before .before .before .before .before .before .before .before .before .before .before .before .args .at) (c .before .before .before .before .before .before .before .before .before .before .before .before .before .before .before .before .before .before .pre .1 .1 .1)) (c .before .before .before .before .before .before .before .before .before .before .put-front .ensures)) (c .before .before .before .before .before .before .write-operands .ensures)) (c .before .before .put-rear .ensures))
+write-text-returns t c = end (next (next (next (run-node (c .before .before .before .before .before .before .before .before .before .before .before .before .before .view-at .ensures .laidOut) (c .before .before .before .before .before .before .before .before .before .before .before .before .before .before .before .before .before .before .args .out .now) (c .before .before .before .before .before .before .before .before .before .before .before .before .before .before .before .before .before .before .args .at) (c .before .before .before .before .before .before .before .before .before .before .before .before .before .before .before .before .before .before .pre .1 .1 .1)) (c .before .before .before .before .before .before .before .before .before .before .put-front .ensures)) (c .before .before .before .before .before .before .write-operands .ensures)) (c .before .before .put-rear .ensures))
 
 pub +write-operands+write-text-spec : {M : Type 1} → statement M
 +write-operands+write-text-spec = close μ-write-operands μ-write-text

@@ -1,4 +1,4 @@
--- `fields::function_of` meets its contract: the name stands behind the kind, the rest of the signature behind it.
+-- `fields::function_of` meets its contract: the name stands after the kind, the rest of the signature after it.
 -- Assumes nothing.
 use Rattle.fields.proofs.FieldLaws.{base-inside, function-reads, function-there}
 use borrow.Author.Needs.{needs}

@@ -13,8 +13,8 @@ read-number-requires c κs = search needs
 enum-known-range : tie.Need-enum-known-range
 enum-known-range c = search needs
 
-read-step-requires : tie.Need-read-step-requires
-read-step-requires c κs = search needs
+read-optional-duration-requires : tie.Need-read-optional-duration-requires
+read-optional-duration-requires c κs = search needs
 
 enum-known-step : tie.Need-enum-known-step
 enum-known-step c = search needs
@@ -32,7 +32,7 @@ returns c =
     let at-start = at-range .before in
     let p = at-start .before .before .before .pre in
     let range = rw (at-step .before .before .range .given .1, at-start .fields-start .ensures) at (at-range .read-number .ensures .0) in
-    spacing-reads (p .0) (p .1) range (rw (c .before .step .given .1) at (at-step .read-step .ensures))
+    spacing-reads (p .0) (p .1) range (rw (c .before .step .given .1) at (at-step .read-optional-duration .ensures))
 
 returns-2 : tie.Need-returns-2
 returns-2 c =
@@ -41,7 +41,7 @@ returns-2 c =
     let at-start = at-range .before in
     let p = at-start .before .before .before .pre in
     let range = rw (at-step .before .before .range .given .1, at-start .fields-start .ensures) at (at-range .read-number .ensures .0) in
-    absurd (step-there (p .0) (p .1) range (rw (c .enum-told .given .1) at (at-step .read-step .ensures)))
+    absurd (step-there (p .0) (p .1) range (rw (c .enum-told .given .1) at (at-step .read-optional-duration .ensures)))
 
 returns-3 : tie.Need-returns-3
 returns-3 c =
@@ -57,7 +57,7 @@ spacing-of-spec =
     fields-start-requires
     read-number-requires
     enum-known-range
-    read-step-requires
+    read-optional-duration-requires
     enum-known-step
     enum-told
     enum-told-2

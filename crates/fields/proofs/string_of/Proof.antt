@@ -1,4 +1,4 @@
--- `fields::string_of` meets its contract: the text stands behind the kind. Assumes nothing.
+-- `fields::string_of` meets its contract: the text stands after the kind. Assumes nothing.
 use Rattle.fields.proofs.FieldLaws.{base-inside, string-reads, string-there}
 use borrow.Author.Needs.{needs}
 use Rattle.fields.proofs.string_of.Statement.{statement}

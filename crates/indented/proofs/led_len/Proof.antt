@@ -19,7 +19,7 @@ add-result : tie.Need-add-result
 add-result c = omega (arith, c .before .indent-len .ensures, c .head-len .ensures)
 
 returns : tie.Need-returns
-returns c = led (indentIf (c .before .before .before .before .args .mark) (c .before .before .before .before .args .level)) (head (layoutAt (c .before .before .before .before .args .page .now) (c .before .before .before .before .args .node))) (c .before .before .before .before .args .cap) _ _ (c .before .indent-len .ensures) (c .head-len .ensures)
+returns c = led (indentIf (c .before .before .before .before .args .indents) (c .before .before .before .before .args .level)) (head (layoutAt (c .before .before .before .before .args .page .now) (c .before .before .before .before .args .node))) (c .before .before .before .before .args .cap) _ _ (c .before .indent-len .ensures) (c .head-len .ensures)
 
 pub led-len-spec : {M : Type 1} → statement M
 led-len-spec =

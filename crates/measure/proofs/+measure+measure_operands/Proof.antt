@@ -4,9 +4,9 @@ use Rattle.view.proofs.ViewLaws.{starts-of, unmarked}
 use Rattle.text.proofs.LengthLaws.{last-operand, fewer-operands, len-none, len-one, len-full, len-more}
 use Rattle.canonical.proofs.TextLaws.{len-tree}
 use Rattle.text.specs.Display.{display}
-use Rattle.view.proofs.NodeLaws.{minus-unvalued}
+use Rattle.view.proofs.NodeLaws.{minus-numberless}
 use Rattle.text.proofs.OperandLaws.{fewer}
-use Rattle.measure.proofs.WidthLaws.{recapped, set-size, known-set}
+use Rattle.measure.proofs.WidthLaws.{recapped, set-size, widths-set}
 use Prim.Native.Nat.{_+_, _-_}
 use native.Mathlib.Omega.{arith}
 use borrow.Author.Needs.{needs}
@@ -22,8 +22,8 @@ use Rattle.measure.proofs.+measure+measure_operands.Lts-measure_operand
 use Rattle.canonical.proofs.own.between_len.Reads as between-len-reads
 use Rattle.canonical.proofs.own.front_len.Reads as front-len-reads
 use Rattle.canonical.proofs.own.rear_len.Reads as rear-len-reads
-use Rattle.measure.proofs.room_behind.Reads as room-behind-reads
-use Rattle.util.proofs.capped_add.Reads as capped-add-reads
+use Rattle.measure.proofs.room_behind.Reads as room-others-reads
+use Rattle.leaves.proofs.capped_add.Reads as capped-add-reads
 use Rattle.view.proofs.is_minus.Reads as is-minus-reads
 use Rattle.view.proofs.view_at.Reads as view-at-reads
 use Rattle.measure.proofs.+measure+measure_operands.{statement}
@@ -61,7 +61,7 @@ abbrev measure-claims : ℕ → measure-lts.Claims
 measure-claims t = (view-at-reads.Asked, view-at-reads.Learnt, front-len-reads.Asked, front-len-reads.Learnt, between-len-reads.Asked, between-len-reads.Learnt, is-minus-reads.Asked, is-minus-reads.Learnt, measure-operands-below t, measure-operands.Post, rear-len-reads.Asked, rear-len-reads.Learnt)
 
 abbrev measure-operands-claims : ℕ → measure-operands-lts.Claims
-measure-operands-claims t = (measure-below t, measure.Post, capped-add-reads.Asked, capped-add-reads.Learnt, room-behind-reads.Asked, room-behind-reads.Learnt, measure-operands-below t, measure-operands.Post)
+measure-operands-claims t = (measure-below t, measure.Post, capped-add-reads.Asked, capped-add-reads.Learnt, room-others-reads.Asked, room-others-reads.Learnt, measure-operands-below t, measure-operands.Post)
 
 measure-view-at-requires : (t : ℕ) → measure-lts.Need-view-at-requires (measure-claims t) (measure-at t) measure.Post
 measure-view-at-requires t c κs = (starts-of (c .before .before .before .before .pre .1 .0), c .before .before .before .before .pre .1 .1 .0)
@@ -80,8 +80,8 @@ measure-is-minus-requires t c κs = search needs
 
 measure-measure-operands-requires : (t : ℕ) → measure-lts.Need-measure-operands-requires (measure-claims t) (measure-at t) measure.Post
 measure-measure-operands-requires t c κs =
-    let seen = c .before .before .before .before .view-at .ensures .seen in
-    (omega (arith, seen .low, c .before .before .before .before .before .before .before .before .before .pre .0), (fewer (c .before .before .before .before .before .before .before .before .before .pre .1 .0) (omega (arith, seen .low)), (seen .enough, (rw (c .before .is-minus .ensures) (minus-unvalued (c .before .before .before .before .view-at .ensures)), (omega arith, c .before .before .before .before .before .before .before .before .before .pre .1 .1 .1)))))
+    let laidOut = c .before .before .before .before .view-at .ensures .laidOut in
+    (omega (arith, laidOut .low, c .before .before .before .before .before .before .before .before .before .pre .0), (fewer (c .before .before .before .before .before .before .before .before .before .pre .1 .0) (omega (arith, laidOut .low)), (laidOut .enough, (rw (c .before .is-minus .ensures) (minus-numberless (c .before .before .before .before .view-at .ensures)), (omega arith, c .before .before .before .before .before .before .before .before .before .pre .1 .1 .1)))))
 
 measure-sub-rear-len : (t : ℕ) → measure-lts.Need-sub-rear-len (measure-claims t) (measure-at t) measure.Post
 measure-sub-rear-len t c = omega (arith, c .before .before .measure-operands .ensures .0 .bound)
@@ -106,8 +106,8 @@ measure-same-length t c = set-size (c .before .before .before .before .before .b
 
 measure-returns : (t : ℕ) → measure-lts.Need-returns (measure-claims t) (measure-at t) measure.Post
 measure-returns t c =
-    let width = len-tree (c .before .before .before .before .before .before .before .before .view-at .ensures .seen) _ _ _ _ _ (c .before .before .before .before .before .before .before .front-len .ensures) (c .before .before .before .before .before .before .between-len .ensures) (c .before .before .before .measure-operands .ensures .0) (c .rear-len .ensures) in
-    (width, known-set _ _ (c .before .before .before .measure-operands .ensures .1) (omega (arith, c .before .before .before .before .before .before .before .before .before .before .before .before .before .pre .1 .0 .few)) width)
+    let width = len-tree (c .before .before .before .before .before .before .before .before .view-at .ensures .laidOut) _ _ _ _ _ (c .before .before .before .before .before .before .before .front-len .ensures) (c .before .before .before .before .before .before .between-len .ensures) (c .before .before .before .measure-operands .ensures .0) (c .rear-len .ensures) in
+    (width, widths-set _ _ (c .before .before .before .measure-operands .ensures .1) (omega (arith, c .before .before .before .before .before .before .before .before .before .before .before .before .before .pre .1 .0 .few)) width)
 
 measure-operands-returns : (t : ℕ) → measure-operands-lts.Need-returns (measure-operands-claims t) (measure-operands-at t) measure-operands.Post
 measure-operands-returns t c = (len-none display display (c .before .before .before .before .before .pre .1 .0) _ (c .before .before .before .before .before .pre .1 .1 .0) _ _ (c .if1 .taken), c .before .before .before .before .before .pre .1 .1 .1 .1 .1)
@@ -138,8 +138,8 @@ measure-operands-cast-first t c = omega (arith, c .shared-slice-known4 .given (c
 measure-operands-sub-left : (t : ℕ) → measure-operands-lts.Need-sub-left (measure-operands-claims t) (measure-operands-at t) measure-operands.Post
 measure-operands-sub-left t c = omega (arith, c .before .before .capped-add .ensures)
 
-measure-operands-room-behind-requires : (t : ℕ) → measure-operands-lts.Need-room-behind-requires (measure-operands-claims t) (measure-operands-at t) measure-operands.Post
-measure-operands-room-behind-requires t c κs = search needs
+measure-operands-room-others-requires : (t : ℕ) → measure-operands-lts.Need-room-others-requires (measure-operands-claims t) (measure-operands-at t) measure-operands.Post
+measure-operands-room-others-requires t c κs = search needs
 
 measure-operands-sub-fewer : (t : ℕ) → measure-operands-lts.Need-sub-fewer (measure-operands-claims t) (measure-operands-at t) measure-operands.Post
 measure-operands-sub-fewer t c = omega (arith, c .before .before .before .before .before .before .before .before .if1 .left)
@@ -147,7 +147,7 @@ measure-operands-sub-fewer t c = omega (arith, c .before .before .before .before
 measure-operands-measure-operands-requires : (t : ℕ) → measure-operands-lts.Need-measure-operands-requires (measure-operands-claims t) (measure-operands-at t) measure-operands.Post
 measure-operands-measure-operands-requires t c κs =
     let w = last-operand (c .before .before .before .before .before .before .before .before .before .before .before .before .before .before .pre .1 .0) _ (c .before .before .before .before .before .before .before .before .before .before .before .before .before .before .pre .1 .1 .0) (c .before .before .before .before .before .before .before .before .before .if1 .left) in
-    (omega (arith, w .low, c .before .before .before .before .before .before .before .before .before .before .before .before .before .before .pre .0), (fewer (c .before .before .before .before .before .before .before .before .before .before .before .before .before .before .pre .1 .0) (omega (arith, w .low)), (fewer-operands (c .before .before .before .before .before .before .before .before .before .before .before .before .before .before .pre .1 .0) _ (c .before .before .before .before .before .before .before .before .before .before .before .before .before .before .pre .1 .1 .0) (c .before .before .before .before .before .before .before .before .before .if1 .left), (unmarked _ _, (omega (arith, c .before .room-behind .ensures, c .before .before .before .before .before .before .before .before .before .before .before .before .before .before .pre .1 .1 .1 .1 .0), c .before .before .before .before .before .before .before .measure .ensures .1)))))
+    (omega (arith, w .low, c .before .before .before .before .before .before .before .before .before .before .before .before .before .before .pre .0), (fewer (c .before .before .before .before .before .before .before .before .before .before .before .before .before .before .pre .1 .0) (omega (arith, w .low)), (fewer-operands (c .before .before .before .before .before .before .before .before .before .before .before .before .before .before .pre .1 .0) _ (c .before .before .before .before .before .before .before .before .before .before .before .before .before .before .pre .1 .1 .0) (c .before .before .before .before .before .before .before .before .before .if1 .left), (unmarked _ _, (omega (arith, c .before .room-others .ensures, c .before .before .before .before .before .before .before .before .before .before .before .before .before .before .pre .1 .1 .1 .1 .0), c .before .before .before .before .before .before .before .measure .ensures .1)))))
 
 measure-operands-same-length-2 : (t : ℕ) → measure-operands-lts.Need-same-length-2 (measure-operands-claims t) (measure-operands-at t) measure-operands.Post
 measure-operands-same-length-2 t c = omega (arith, c .before .before .before .measure-operands .ensures .1 .size, c .before .before .before .before .before .before .before .before .before .before .before .before .before .before .before .before .before .before .pre .1 .1 .1 .1 .1 .size)
@@ -159,17 +159,17 @@ measure-operands-add-result : (t : ℕ) → measure-operands-lts.Need-add-result
 measure-operands-add-result t c = omega (arith, c .before .before .before .before .before .before .before .before .capped-add .ensures, c .if3 .left)
 
 measure-operands-add-result-2 : (t : ℕ) → measure-operands-lts.Need-add-result-2 (measure-operands-claims t) (measure-operands-at t) measure-operands.Post
-measure-operands-add-result-2 t c = omega (arith, c .before .before .before .before .before .before .before .before .capped-add .ensures, c .if3 .left, c .before .before .before .before .before .room-behind .ensures, c .before .before .before .measure-operands .ensures .0 .bound)
+measure-operands-add-result-2 t c = omega (arith, c .before .before .before .before .before .before .before .before .capped-add .ensures, c .if3 .left, c .before .before .before .before .before .room-others .ensures, c .before .before .before .measure-operands .ensures .0 .bound)
 
 measure-operands-same-length-3 : (t : ℕ) → measure-operands-lts.Need-same-length-3 (measure-operands-claims t) (measure-operands-at t) measure-operands.Post
 measure-operands-same-length-3 t c = omega (arith, c .before .before .before .measure-operands .ensures .1 .size, c .before .before .before .before .before .before .before .before .before .before .before .before .before .before .before .before .before .before .pre .1 .1 .1 .1 .1 .size)
 
 measure-operands-returns-4 : (t : ℕ) → measure-operands-lts.Need-returns-4 (measure-operands-claims t) (measure-operands-at t) measure-operands.Post
-measure-operands-returns-4 t c = (len-more display display (c .before .before .before .before .before .before .before .before .before .before .before .before .before .before .before .before .before .before .pre .1 .0) _ (c .before .before .before .before .before .before .before .before .before .before .before .before .before .before .before .before .before .before .pre .1 .1 .0) (c .before .before .before .before .before .before .before .before .before .before .before .before .before .if1 .left) (c .before .before .before .before .before .before .before .if2 .left) _ _ _ (recapped _ _ _ _ (c .before .before .before .before .before .before .before .before .before .before .before .measure .ensures .0) (c .before .before .before .before .before .before .before .before .before .before .before .before .before .before .before .before .before .before .pre .1 .1 .1 .1 .0) (c .before .before .before .before .before .before .before .before .capped-add .ensures)) _ (c .if3 .left) (rw (c .before .before .before .before .before .room-behind .ensures) at (c .before .before .before .measure-operands .ensures .0)), c .before .before .before .measure-operands .ensures .1)
+measure-operands-returns-4 t c = (len-more display display (c .before .before .before .before .before .before .before .before .before .before .before .before .before .before .before .before .before .before .pre .1 .0) _ (c .before .before .before .before .before .before .before .before .before .before .before .before .before .before .before .before .before .before .pre .1 .1 .0) (c .before .before .before .before .before .before .before .before .before .before .before .before .before .if1 .left) (c .before .before .before .before .before .before .before .if2 .left) _ _ _ (recapped _ _ _ _ (c .before .before .before .before .before .before .before .before .before .before .before .measure .ensures .0) (c .before .before .before .before .before .before .before .before .before .before .before .before .before .before .before .before .before .before .pre .1 .1 .1 .1 .0) (c .before .before .before .before .before .before .before .before .capped-add .ensures)) _ (c .if3 .left) (rw (c .before .before .before .before .before .room-others .ensures) at (c .before .before .before .measure-operands .ensures .0)), c .before .before .before .measure-operands .ensures .1)
 
 pub +measure+measure-operands-spec : {M : Type 1} → statement M
 +measure+measure-operands-spec = close μ-measure μ-measure-operands
     (λ t. measure-lts.spec (measure-claims t) (measure-at t) measure.Post
     (measure-view-at-requires t) (measure-front-len-requires t) (measure-sub-left t) (measure-between-len-requires t) (measure-is-minus-requires t) (measure-measure-operands-requires t) (measure-sub-rear-len t) (measure-rear-len-requires t) (measure-add-width t) (measure-add-width-2 t) (measure-cast-widths t) (measure-slice-write-widths t) (measure-same-length t) (measure-returns t))
     (λ t. measure-operands-lts.spec (measure-operands-claims t) (measure-operands-at t) measure-operands.Post
-    (measure-operands-returns t) (measure-operands-sub-root t) (measure-operands-measure-requires t) (measure-operands-capped-add-requires t) (measure-operands-same-length t) (measure-operands-returns-2 t) (measure-operands-shared-slice-read-first t) (measure-operands-cast-first t) (measure-operands-sub-left t) (measure-operands-room-behind-requires t) (measure-operands-sub-fewer t) (measure-operands-measure-operands-requires t) (measure-operands-same-length-2 t) (measure-operands-returns-3 t) (measure-operands-add-result t) (measure-operands-add-result-2 t) (measure-operands-same-length-3 t) (measure-operands-returns-4 t))
+    (measure-operands-returns t) (measure-operands-sub-root t) (measure-operands-measure-requires t) (measure-operands-capped-add-requires t) (measure-operands-same-length t) (measure-operands-returns-2 t) (measure-operands-shared-slice-read-first t) (measure-operands-cast-first t) (measure-operands-sub-left t) (measure-operands-room-others-requires t) (measure-operands-sub-fewer t) (measure-operands-measure-operands-requires t) (measure-operands-same-length-2 t) (measure-operands-returns-3 t) (measure-operands-add-result t) (measure-operands-add-result-2 t) (measure-operands-same-length-3 t) (measure-operands-returns-4 t))

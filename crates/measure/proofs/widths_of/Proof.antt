@@ -1,6 +1,6 @@
 -- `measure::widths_of` meets its contract: nothing is known of an empty table, and measuring keeps it right. Assumes nothing.
 use Rattle.view.proofs.ViewLaws.{unmarked}
-use Rattle.measure.proofs.WidthLaws.{known-none}
+use Rattle.measure.proofs.WidthLaws.{widths-none}
 use borrow.Author.Needs.{needs}
 use Rattle.measure.proofs.widths_of.Statement.{statement}
 use Rattle.measure.proofs.widths_of.Tie as tie
@@ -9,7 +9,7 @@ slice-aggregate-measure : tie.Need-slice-aggregate-measure
 slice-aggregate-measure c = search needs
 
 measure-requires : tie.Need-measure-requires
-measure-requires c κs = (c .before .before .before .before .pre, (unmarked _ _, known-none _))
+measure-requires c κs = (c .before .before .before .before .pre, (unmarked _ _, widths-none _))
 
 returns : tie.Need-returns
 returns c = search needs

@@ -3,7 +3,7 @@ use Prim.Native.Nat.{min}
 use lib.ListN.{length}
 use mathlib.Core.Path.{refl, ap, _∙_}
 use native.Mathlib.Omega.{arith}
-use Rattle.util.specs.Escape.{quote}
+use Rattle.leaves.specs.Escape.{quote}
 use Rattle.text.specs.Layout.{enclosed}
 use Rattle.view.proofs.NodeLaws.{layout-read, number-layout}
 use Rattle.pieces.proofs.FormLaws.{subquery-head, binary-head, minus-head, paren-head}
@@ -41,8 +41,8 @@ enum-told-3 c = search needs
 selector-of-requires : tie.Need-selector-of-requires
 selector-of-requires c κs = search needs
 
-parts-of-requires : tie.Need-parts-of-requires
-parts-of-requires c κs = search needs
+attached-of-requires : tie.Need-attached-of-requires
+attached-of-requires c κs = search needs
 
 selector-len-requires : tie.Need-selector-len-requires
 selector-len-requires c κs = search needs
@@ -101,7 +101,7 @@ returns-3 : tie.Need-returns-3
 returns-3 c =
     let at-selector = c .before .before in
     let node = at-selector .before .before .before .before .before .pre in
-    rw (layout-read node (c .before .parts-of .ensures) (at-selector .selector-of .ensures .0) refl) (c .selector-len .ensures)
+    rw (layout-read node (c .before .attached-of .ensures) (at-selector .selector-of .ensures .0) refl) (c .selector-len .ensures)
 
 returns-4 : tie.Need-returns-4
 returns-4 c = omega (arith, ap length (subquery-head (c .before .before .before .before .pre) (c .enum-told4 .given .1)))
@@ -142,7 +142,7 @@ head-len-spec =
     quoted-len-requires
     enum-told-3
     selector-of-requires
-    parts-of-requires
+    attached-of-requires
     selector-len-requires
     enum-told-4
     enum-told-5

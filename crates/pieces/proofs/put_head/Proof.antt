@@ -1,6 +1,6 @@
 -- `pieces::put_head` meets its contract: by what stands at the node's foot. Assumes nothing.
 use mathlib.Core.Path.{refl, sym, ap, _∙_}
-use Rattle.util.specs.Escape.{quote}
+use Rattle.leaves.specs.Escape.{quote}
 use Rattle.text.proofs.WriteLaws.{wrote-nothing, wrote-as}
 use Rattle.text.specs.Layout.{enclosed}
 use Rattle.view.proofs.NodeLaws.{layout-read, number-layout}
@@ -42,15 +42,15 @@ enum-told-3 c = search needs
 selector-of-requires : tie.Need-selector-of-requires
 selector-of-requires c κs = search needs
 
-parts-of-requires : tie.Need-parts-of-requires
-parts-of-requires c κs = search needs
+attached-of-requires : tie.Need-attached-of-requires
+attached-of-requires c κs = search needs
 
 put-selector-requires : tie.Need-put-selector-requires
 put-selector-requires c κs =
     let at-selector = c .before .before in
     let p = at-selector .before .before .before .before .before .before .pre in
     let own = at-selector .selector-of .ensures in
-    (own .1 .0, rw (layout-read (p .0) (c .before .parts-of .ensures) (own .0) refl) at (p .1))
+    (own .1 .0, rw (layout-read (p .0) (c .before .attached-of .ensures) (own .0) refl) at (p .1))
 
 enum-told-4 : tie.Need-enum-told-4
 enum-told-4 c = search needs
@@ -122,10 +122,10 @@ same-length-3 c = search needs
 
 returns-3 : tie.Need-returns-3
 returns-3 c =
-    let at-parts = c .before .before .before .before in
-    let at-selector = at-parts .before in
+    let at-attached = c .before .before .before .before in
+    let at-selector = at-attached .before in
     let p = at-selector .before .before .before .before .before .before .pre in
-    rw (layout-read (p .0) (at-parts .parts-of .ensures) (at-selector .selector-of .ensures .0) refl) (c .before .before .put-selector .ensures)
+    rw (layout-read (p .0) (at-attached .attached-of .ensures) (at-selector .selector-of .ensures .0) refl) (c .before .before .put-selector .ensures)
 
 returns-4 : tie.Need-returns-4
 returns-4 c = wrote-nothing _ _ (subquery-head (c .before .before .before .before .before .pre .0) (c .enum-told4 .given .1))
@@ -178,7 +178,7 @@ put-head-spec =
     put-quoted-requires
     enum-told-3
     selector-of-requires
-    parts-of-requires
+    attached-of-requires
     put-selector-requires
     enum-told-4
     enum-told-5

@@ -16,25 +16,25 @@ returns c = wrote-nothing _ _ (no-suffix (c .before .before .before .before .pre
 spacing-of-requires : tie.Need-spacing-of-requires
 spacing-of-requires c κs = search needs
 
-parts-of-requires : tie.Need-parts-of-requires
-parts-of-requires c κs = search needs
+attached-of-requires : tie.Need-attached-of-requires
+attached-of-requires c κs = search needs
 
 put-subquery-requires : tie.Need-put-subquery-requires
 put-subquery-requires c κs =
-    let at-parts = c .before .before in
-    let at-spacing = at-parts .before in
+    let at-attached = c .before .before in
+    let at-spacing = at-attached .before in
     let p = at-spacing .before .before .before .before .before .before .pre in
-    rw (layout-read (p .0) (at-parts .parts-of .ensures) (at-spacing .spacing-of .ensures) refl) at (p .1)
+    rw (layout-read (p .0) (at-attached .attached-of .ensures) (at-spacing .spacing-of .ensures) refl) at (p .1)
 
 same-length : tie.Need-same-length
 same-length c = search needs
 
 returns-2 : tie.Need-returns-2
 returns-2 c =
-    let at-parts = c .before .before .before .before .before in
-    let at-spacing = at-parts .before in
+    let at-attached = c .before .before .before .before .before in
+    let at-spacing = at-attached .before in
     let p = at-spacing .before .before .before .before .before .before .pre in
-    rw (layout-read (p .0) (at-parts .parts-of .ensures) (at-spacing .spacing-of .ensures) refl) (c .before .before .put-subquery .ensures)
+    rw (layout-read (p .0) (at-attached .attached-of .ensures) (at-spacing .spacing-of .ensures) refl) (c .before .before .put-subquery .ensures)
 
 pub put-suffix-spec : {M : Type 1} → statement M
 put-suffix-spec =
@@ -43,7 +43,7 @@ put-suffix-spec =
     enum-told
     returns
     spacing-of-requires
-    parts-of-requires
+    attached-of-requires
     put-subquery-requires
     same-length
     returns-2)

@@ -4,7 +4,7 @@ use Rattle.text.specs.Answers.{timesOf}
 use Rattle.text.specs.Layout.{displayRange}
 use Rattle.text.specs.Display.{displaySelector, displayTimes}
 use Rattle.reader.specs.Answers.{selectorOn}
-use Rattle.records.specs.Answers.{stepOf}
+use Rattle.records.specs.Answers.{optionalDurationOf}
 use borrow.Author.Needs.{needs}
 use Rattle.pieces.proofs.selector_len.Statement.{statement}
 use Rattle.pieces.proofs.selector_len.Tie as tie
@@ -25,7 +25,7 @@ capped-add-requires : tie.Need-capped-add-requires
 capped-add-requires c κs = search needs
 
 returns : tie.Need-returns
-returns c = sum-three (displaySelector (selectorOn (c .before .before .before .before .before .before .args .page .now) (c .before .before .before .before .before .before .args .selector))) (displayRange (stepOf (c .before .before .before .before .before .before .args .parts .range))) (displayTimes (timesOf (c .before .before .before .before .before .before .args .parts .times))) _ _ _ _ _ (c .before .selector-len .ensures) (c .before .before .before .range-len .ensures .0) (c .before .before .times-len .ensures .0) (c .capped-add .ensures)
+returns c = sum-three (displaySelector (selectorOn (c .before .before .before .before .before .before .args .page .now) (c .before .before .before .before .before .before .args .selector))) (displayRange (optionalDurationOf (c .before .before .before .before .before .before .args .attached .range))) (displayTimes (timesOf (c .before .before .before .before .before .before .args .attached .times))) _ _ _ _ _ (c .before .selector-len .ensures) (c .before .before .before .range-len .ensures .0) (c .before .before .times-len .ensures .0) (c .capped-add .ensures)
 
 pub selector-len-spec : {M : Type 1} → statement M
 selector-len-spec =

@@ -17,8 +17,8 @@ returns c = omega (arith, ap length (no-suffix (c .before .before .before .pre) 
 spacing-of-requires : tie.Need-spacing-of-requires
 spacing-of-requires c κs = search needs
 
-parts-of-requires : tie.Need-parts-of-requires
-parts-of-requires c κs = search needs
+attached-of-requires : tie.Need-attached-of-requires
+attached-of-requires c κs = search needs
 
 subquery-len-requires : tie.Need-subquery-len-requires
 subquery-len-requires c κs = search needs
@@ -28,10 +28,10 @@ capped-add-requires c κs = search needs
 
 returns-2 : tie.Need-returns-2
 returns-2 c =
-    let at-parts = c .before .before .before in
-    let at-spacing = at-parts .before in
+    let at-attached = c .before .before .before in
+    let at-spacing = at-attached .before in
     let node = at-spacing .before .before .before .before .before .pre in
-    rw (layout-read node (at-parts .parts-of .ensures) (at-spacing .spacing-of .ensures) refl) (omega (arith, c .capped-add .ensures, c .before .subquery-len .ensures))
+    rw (layout-read node (at-attached .attached-of .ensures) (at-spacing .spacing-of .ensures) refl) (omega (arith, c .capped-add .ensures, c .before .subquery-len .ensures))
 
 pub suffix-len-spec : {M : Type 1} → statement M
 suffix-len-spec =
@@ -40,7 +40,7 @@ suffix-len-spec =
     enum-told
     returns
     spacing-of-requires
-    parts-of-requires
+    attached-of-requires
     subquery-len-requires
     capped-add-requires
     returns-2)

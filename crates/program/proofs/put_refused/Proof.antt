@@ -3,7 +3,7 @@ use denote.Ref.{now}
 use mathlib.Core.List.{[], _∷_}
 use Rattle.base.specs.Splice.{Run, start, fits, next, end}
 use Rattle.page.specs.Bytes.{bytes}
-use Rattle.util.specs.Decimal.{decimal}
+use Rattle.leaves.specs.Decimal.{decimal}
 use Rattle.outcomes.specs.Output.{refusedLine}
 use Rattle.program.proofs.SheetLaws.{refusedLine-pieces}
 use borrow.Author.Needs.{needs}

@@ -9,8 +9,8 @@ read-number-requires c κs = search needs
 enum-known-range : tie.Need-enum-known-range
 enum-known-range c = search needs
 
-read-step-requires : tie.Need-read-step-requires
-read-step-requires c κs = search needs
+read-optional-duration-requires : tie.Need-read-optional-duration-requires
+read-optional-duration-requires c κs = search needs
 
 enum-known-step : tie.Need-enum-known-step
 enum-known-step c = search needs
@@ -22,10 +22,10 @@ enum-told-2 : tie.Need-enum-told-2
 enum-told-2 c = search needs
 
 returns : tie.Need-returns
-returns c = let e = rw (c .before .before .before .before .before .range .given .1) at (c .before .before .before .before .before .before .before .read-number .ensures .0) in let f = rw (c .before .step .given .1) at (c .before .before .before .read-step .ensures) in (simp (← e, ← f), tt)
+returns c = let e = rw (c .before .before .before .before .before .range .given .1) at (c .before .before .before .before .before .before .before .read-number .ensures .0) in let f = rw (c .before .step .given .1) at (c .before .before .before .read-optional-duration .ensures) in (simp (← e, ← f), tt)
 
 returns-2 : tie.Need-returns-2
-returns-2 c = let e = rw (c .before .before .before .before .range .given .1) at (c .before .before .before .before .before .before .read-number .ensures .0) in let f = rw (c .enum-told .given .1) at (c .before .before .read-step .ensures) in (simp (← e, ← f), tt)
+returns-2 c = let e = rw (c .before .before .before .before .range .given .1) at (c .before .before .before .before .before .before .read-number .ensures .0) in let f = rw (c .enum-told .given .1) at (c .before .before .read-optional-duration .ensures) in (simp (← e, ← f), tt)
 
 returns-3 : tie.Need-returns-3
 returns-3 c = let e = rw (c .enum-told2 .given .1) at (c .before .before .read-number .ensures .0) in (simp (← e), tt)
@@ -36,7 +36,7 @@ read-subquery-spec =
     (tie.spec
     read-number-requires
     enum-known-range
-    read-step-requires
+    read-optional-duration-requires
     enum-known-step
     enum-told
     enum-told-2

@@ -6,21 +6,21 @@ use lib.Seq.{length-take-le}
 use Rattle.show_records.proofs.show_next.Statement.{statement}
 use Rattle.show_records.proofs.show_next.Tie as tie
 
-read-part-requires : tie.Need-read-part-requires
-read-part-requires c κs = search needs
+read-block-requires : tie.Need-read-block-requires
+read-block-requires c κs = search needs
 
 enum-known-size : tie.Need-enum-known-size
 enum-known-size c = search needs
 
 slice-reshare-prefix-show-page : tie.Need-slice-reshare-prefix-show-page
 slice-reshare-prefix-show-page c =
-    let at-read-part = c .before .before .before .before .before in
-    omega (arith, (rw (c .before .size .given .1) at (at-read-part .read-part .ensures)) .0)
+    let at-read-block = c .before .before .before .before .before in
+    omega (arith, (rw (c .before .size .given .1) at (at-read-block .read-block .ensures)) .0)
 
 slice-aggregate-show-page : tie.Need-slice-aggregate-show-page
 slice-aggregate-show-page c =
-    let at-read-part = c .before .before .before .before .before .before in
-    sym (length-take-le _ _ (omega (arith, (rw (c .before .before .size .given .1) at (at-read-part .read-part .ensures)) .0)))
+    let at-read-block = c .before .before .before .before .before .before in
+    sym (length-take-le _ _ (omega (arith, (rw (c .before .before .size .given .1) at (at-read-block .read-block .ensures)) .0)))
 
 show-page-requires : tie.Need-show-page-requires
 show-page-requires c κs = search needs
@@ -59,7 +59,7 @@ pub show-next-spec : {M : Type 1} → statement M
 show-next-spec =
     tie.close
     (tie.spec
-    read-part-requires
+    read-block-requires
     enum-known-size
     slice-reshare-prefix-show-page
     slice-aggregate-show-page

@@ -6,21 +6,21 @@ use lib.Seq.{length-take-le}
 use Rattle.vectors.proofs.replay_next.Statement.{statement}
 use Rattle.vectors.proofs.replay_next.Tie as tie
 
-read-part-requires : tie.Need-read-part-requires
-read-part-requires c κs = search needs
+read-block-requires : tie.Need-read-block-requires
+read-block-requires c κs = search needs
 
 enum-known-size : tie.Need-enum-known-size
 enum-known-size c = search needs
 
 slice-reshare-prefix-replay-entry : tie.Need-slice-reshare-prefix-replay-entry
 slice-reshare-prefix-replay-entry c =
-    let at-read-part = c .before .before .before .before .before in
-    omega (arith, (rw (c .before .size .given .1) at (at-read-part .read-part .ensures)) .0)
+    let at-read-block = c .before .before .before .before .before in
+    omega (arith, (rw (c .before .size .given .1) at (at-read-block .read-block .ensures)) .0)
 
 slice-aggregate-replay-entry : tie.Need-slice-aggregate-replay-entry
 slice-aggregate-replay-entry c =
-    let at-read-part = c .before .before .before .before .before .before in
-    sym (length-take-le _ _ (omega (arith, (rw (c .before .before .size .given .1) at (at-read-part .read-part .ensures)) .0)))
+    let at-read-block = c .before .before .before .before .before .before in
+    sym (length-take-le _ _ (omega (arith, (rw (c .before .before .size .given .1) at (at-read-block .read-block .ensures)) .0)))
 
 replay-entry-requires : tie.Need-replay-entry-requires
 replay-entry-requires c κs = search needs
@@ -59,7 +59,7 @@ pub replay-next-spec : {M : Type 1} → statement M
 replay-next-spec =
     tie.close
     (tie.spec
-    read-part-requires
+    read-block-requires
     enum-known-size
     slice-reshare-prefix-replay-entry
     slice-aggregate-replay-entry

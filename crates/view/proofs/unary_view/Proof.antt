@@ -1,6 +1,6 @@
 -- `view::unary_view` meets its contract: the value of the tree says whether the minus is a number's sign. Assumes nothing.
 use Rattle.view.proofs.ChainedLaws.{chained-here}
-use Rattle.view.proofs.NodeLaws.{view-unary, view-valued, unvalued-below}
+use Rattle.view.proofs.NodeLaws.{view-unary, view-valued, numberless-below}
 use borrow.Author.Needs.{needs}
 use Rattle.view.proofs.unary_view.Statement.{statement}
 use Rattle.view.proofs.unary_view.Tie as tie
@@ -11,8 +11,8 @@ node-of-requires c κs = search needs
 returns : tie.Need-returns
 returns c =
     let p = c .before .before .before .before .pre in
-    let unvalued = unvalued-below (p .0) (p .1 .0 .chain) (rw (c .before .if1 .taken) at (p .1 .1 .1)) in
-    rw (c .node-of .ensures) (view-unary (p .0) (p .1 .0 .chain) (p .1 .1 .0) unvalued)
+    let numberless = numberless-below (p .0) (p .1 .0 .chain) (rw (c .before .if1 .taken) at (p .1 .1 .1)) in
+    rw (c .node-of .ensures) (view-unary (p .0) (p .1 .0 .chain) (p .1 .1 .0) numberless)
 
 signed-literal-requires : tie.Need-signed-literal-requires
 signed-literal-requires c κs = let p = c .before .before .before .pre in chained-here (p .0) (p .1 .0 .chain)
@@ -40,8 +40,8 @@ returns-3 : tie.Need-returns-3
 returns-3 c =
     let at-signed = c .before .before .before in
     let p = at-signed .before .before .before .before .pre in
-    let unvalued = rw (c .before .enum-told2 .given .1) at (at-signed .signed-literal .ensures) in
-    rw (c .node-of3 .ensures) (view-unary (p .0) (p .1 .0 .chain) (p .1 .1 .0) unvalued)
+    let numberless = rw (c .before .enum-told2 .given .1) at (at-signed .signed-literal .ensures) in
+    rw (c .node-of3 .ensures) (view-unary (p .0) (p .1 .0 .chain) (p .1 .1 .0) numberless)
 
 pub unary-view-spec : {M : Type 1} → statement M
 unary-view-spec =

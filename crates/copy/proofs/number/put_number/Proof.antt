@@ -7,33 +7,33 @@ use denote.Ref.{now}
 use lib.ListN.{take, drop, getD}
 use borrow.Author.Needs.{needs}
 use Rattle.base.specs.Splice.{Run, start, fits, next, next-as, end}
-use Rattle.copy.specs.Piece.{formBehind, pieceOf}
-use Rattle.copy.proofs.NumberPieceLaws.{number-wide, number-piece}
+use Rattle.copy.specs.RecordCopy.{formAfter, recordCopy}
+use Rattle.copy.proofs.NumberCopyLaws.{number-wide, number-piece}
 use Rattle.copy.proofs.number.put_number.Statement.{statement}
 use Rattle.copy.proofs.number.put_number.Tie as tie
 
--- the number ends behind its form
+-- the number ends after its form
 wide : (c : tie.Start) → c .args .start + 2 ≤ c .args .next
 wide c = number-wide (c .pre .0 .span) (c .pre .1)
 
 -- the run, before the first write
 begun : (c : tie.Start) → let a = c .args in
-    Run (now (a .out)) (now (a .out)) (a .at) (pieceOf (drop (a .start) (now (a .page))))
-    ((0 ∷ []) ∷ (formBehind (getD (now (a .page)) (a .start + 1) 0) (drop (a .next) (now (a .page))) ∷ []) ∷ take (a .next - (a .start + 2)) (drop (a .start + 2) (now (a .page))) ∷ [])
+    Run (now (a .out)) (now (a .out)) (a .at) (recordCopy (drop (a .start) (now (a .page))))
+    ((0 ∷ []) ∷ (formAfter (getD (now (a .page)) (a .start + 1) 0) (drop (a .next) (now (a .page))) ∷ []) ∷ take (a .next - (a .start + 2)) (drop (a .start + 2) (now (a .page))) ∷ [])
     (a .at)
 begun c = start (c .pre .0 .room) (number-piece (c .pre .0 .span) (c .pre .1))
 
 put-byte-requires : tie.Need-put-byte-requires
 put-byte-requires c κs = fits (begun (c .before .before .before))
 
-add-form-behind : tie.Need-add-form-behind
-add-form-behind c = omega (arith, wide (c .before .before .before .before .before .before), c .before .before .before .before .before .before .pre .0 .span .inside)
+add-form-after : tie.Need-add-form-after
+add-form-after c = omega (arith, wide (c .before .before .before .before .before .before), c .before .before .before .before .before .before .pre .0 .span .inside)
 
-shared-slice-read-form-behind : tie.Need-shared-slice-read-form-behind
-shared-slice-read-form-behind c = omega (arith, wide (c .before .before .before .before .before .before .before), c .before .before .before .before .before .before .before .pre .0 .span .inside)
+shared-slice-read-form-after : tie.Need-shared-slice-read-form-after
+shared-slice-read-form-after c = omega (arith, wide (c .before .before .before .before .before .before .before), c .before .before .before .before .before .before .before .pre .0 .span .inside)
 
-form-behind-requires : tie.Need-form-behind-requires
-form-behind-requires c κs = search needs
+form-after-requires : tie.Need-form-after-requires
+form-after-requires c κs = search needs
 
 put-byte-requires-2 : tie.Need-put-byte-requires-2
 put-byte-requires-2 c κs = fits (next (begun (c .before .before .before .before .before .before .before .before .before)) (c .before .before .before .before .before .put-byte .ensures))
@@ -51,22 +51,22 @@ part-put-bytes-end : tie.Need-part-put-bytes-end
 part-put-bytes-end c = search needs
 
 put-bytes-requires : tie.Need-put-bytes-requires
-put-bytes-requires c κs = fits (next-as (next (begun (c .before .before .before .before .before .before .before .before .before .before .before .before .before .before)) (c .before .before .before .before .before .before .before .before .before .before .put-byte .ensures)) (sym (ap (λ b. b ∷ []) (c .before .before .before .before .before .before .form-behind .ensures))) (c .before .before .before .before .put-byte2 .ensures))
+put-bytes-requires c κs = fits (next-as (next (begun (c .before .before .before .before .before .before .before .before .before .before .before .before .before .before)) (c .before .before .before .before .before .before .before .before .before .before .put-byte .ensures)) (sym (ap (λ b. b ∷ []) (c .before .before .before .before .before .before .form-after .ensures))) (c .before .before .before .before .put-byte2 .ensures))
 
 same-length : tie.Need-same-length
 same-length c = search needs
 
 returns : tie.Need-returns
-returns c = end (next (next-as (next (begun (c .before .before .before .before .before .before .before .before .before .before .before .before .before .before .before .before .before)) (c .before .before .before .before .before .before .before .before .before .before .before .before .before .put-byte .ensures)) (sym (ap (λ b. b ∷ []) (c .before .before .before .before .before .before .before .before .before .form-behind .ensures))) (c .before .before .before .before .before .before .before .put-byte2 .ensures)) (c .before .before .put-bytes .ensures))
+returns c = end (next (next-as (next (begun (c .before .before .before .before .before .before .before .before .before .before .before .before .before .before .before .before .before)) (c .before .before .before .before .before .before .before .before .before .before .before .before .before .put-byte .ensures)) (sym (ap (λ b. b ∷ []) (c .before .before .before .before .before .before .before .before .before .form-after .ensures))) (c .before .before .before .before .before .before .before .put-byte2 .ensures)) (c .before .before .put-bytes .ensures))
 
 pub put-number-spec : {M : Type 1} → statement M
 put-number-spec =
     tie.close
     (tie.spec
     put-byte-requires
-    add-form-behind
-    shared-slice-read-form-behind
-    form-behind-requires
+    add-form-after
+    shared-slice-read-form-after
+    form-after-requires
     put-byte-requires-2
     add-magnitude
     sub-put-bytes

@@ -4,7 +4,7 @@ use mathlib.Core.Path.{_≡_}
 use native.Mathlib.Omega.{arith}
 use lib.ListN.{length, drop}
 use borrow.Author.Needs.{needs}
-use Rattle.copy.specs.Piece.{unaries}
+use Rattle.copy.specs.RecordCopy.{unaries}
 use Rattle.copy.proofs.UnaryLaws.{unaries-more, unaries-stop, unaries-end}
 use Rattle.copy.proofs.number.unaries_at.Statement.{statement}
 use Rattle.copy.proofs.number.unaries_at.Tie as tie

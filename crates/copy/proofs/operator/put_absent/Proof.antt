@@ -6,14 +6,14 @@ use denote.Ref.{now}
 use lib.ListN.{take, drop}
 use borrow.Author.Needs.{needs}
 use Rattle.base.specs.Splice.{Run, start, fits, next, end}
-use Rattle.copy.specs.Piece.{setModifier, pieceOf}
+use Rattle.copy.specs.RecordCopy.{setModifier, recordCopy}
 use Rattle.copy.proofs.OperatorLaws.{operator-wide, absent-piece}
 use Rattle.copy.proofs.operator.put_absent.Statement.{statement}
 use Rattle.copy.proofs.operator.put_absent.Tie as tie
 
 -- the run, before the first write
 begun : (c : tie.Start) → let a = c .args in
-    Run (now (a .out)) (now (a .out)) (a .at) (pieceOf (drop (a .start) (now (a .page))))
+    Run (now (a .out)) (now (a .out)) (a .at) (recordCopy (drop (a .start) (now (a .page))))
     (take (a .start + 2 - a .start) (drop (a .start) (now (a .page))) ∷ setModifier ∷ []) (a .at)
 begun c = start (c .pre .0 .room) (absent-piece (c .pre .1) (c .pre .2))
 

@@ -1,4 +1,4 @@
--- `copy::operator::put_present` meets its contract: up to the cardinality, its form, and what stands behind. Assumes nothing.
+-- `copy::operator::put_present` meets its contract: up to the cardinality, its form, and what stands after. Assumes nothing.
 use Prim.Native.Nat.{_+_, _-_}
 use mathlib.Core.Path.{sym, ap}
 use mathlib.Core.List.{[], _∷_}
@@ -6,13 +6,13 @@ use denote.Ref.{now}
 use lib.ListN.{take, drop, getD}
 use borrow.Author.Needs.{needs}
 use Rattle.base.specs.Splice.{Run, start, fits, next, next-as, end}
-use Rattle.copy.specs.Piece.{setCardinality, pieceOf}
+use Rattle.copy.specs.RecordCopy.{setCardinality, recordCopy}
 use Rattle.copy.proofs.operator.put_present.Statement.{statement}
 use Rattle.copy.proofs.operator.put_present.Tie as tie
 
 -- the run, before the first write
 begun : (c : tie.After-cardinality-at) → let a = c .before .before .before .args in let cut = c .cardinality-at .result in
-    Run (now (a .out)) (now (a .out)) (a .at) (pieceOf (drop (a .start) (now (a .page))))
+    Run (now (a .out)) (now (a .out)) (a .at) (recordCopy (drop (a .start) (now (a .page))))
     (take (cut - a .start) (drop (a .start) (now (a .page))) ∷ (setCardinality (getD (now (a .page)) cut 0) ∷ []) ∷ take (a .next - (cut + 1)) (drop (cut + 1) (now (a .page))) ∷ []) (a .at)
 begun c = start (c .before .before .before .pre .0 .room) (c .cardinality-at .ensures .piece)
 

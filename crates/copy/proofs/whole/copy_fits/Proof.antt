@@ -33,11 +33,11 @@ cast-start c = omega (arith, c .shared-slice-known3 .given (c .before .before .l
 end-of-requires : tie.Need-end-of-requires Inv-loop μ-loop
 end-of-requires c κs = (c .before .before .before .before .before .pre, c .before .loop-test .taken)
 
-piece-len-requires : tie.Need-piece-len-requires Inv-loop μ-loop
-piece-len-requires c κs = c .end-of .ensures
+record-len-requires : tie.Need-record-len-requires Inv-loop μ-loop
+record-len-requires c κs = c .end-of .ensures
 
 returns : tie.Need-returns Inv-loop μ-loop
-returns c = sym (c .before .before .before .before .before .loop .inv ∙ fits-not (c .before .before .before .before .before .before .before .before .pre) (c .before .before .before .before .before .loop .i) (c .before .before .before .before .before .loop .left) _ (c .before .before .before .before .loop-test .taken) (c .before .piece-len .ensures) (c .if1 .taken))
+returns c = sym (c .before .before .before .before .before .loop .inv ∙ fits-not (c .before .before .before .before .before .before .before .before .pre) (c .before .before .before .before .before .loop .i) (c .before .before .before .before .before .loop .left) _ (c .before .before .before .before .loop-test .taken) (c .before .record-len .ensures) (c .if1 .taken))
 
 absorbed-by-requires : tie.Need-absorbed-by-requires Inv-loop μ-loop
 absorbed-by-requires c κs = c .before .before .end-of .ensures
@@ -52,7 +52,7 @@ loop-less : tie.Need-loop-less Inv-loop μ-loop
 loop-less c = omega arith
 
 loop-again : tie.Need-loop-again Inv-loop μ-loop
-loop-again c = c .before .before .before .before .before .before .loop .inv ∙ fits-more (c .before .before .before .before .before .before .before .before .before .pre) (c .before .before .before .before .before .before .loop .i) (c .before .before .before .before .before .before .loop .left) _ _ (c .before .before .before .before .before .loop-test .taken) (c .before .before .piece-len .ensures) (c .absorbed-by .ensures) (c .before .if1 .left)
+loop-again c = c .before .before .before .before .before .before .loop .inv ∙ fits-more (c .before .before .before .before .before .before .before .before .before .pre) (c .before .before .before .before .before .before .loop .i) (c .before .before .before .before .before .before .loop .left) _ _ (c .before .before .before .before .before .loop-test .taken) (c .before .before .record-len .ensures) (c .absorbed-by .ensures) (c .before .if1 .left)
 
 returns-2 : tie.Need-returns-2 Inv-loop μ-loop
 returns-2 c = sym (c .before .loop .inv ∙ fits-end (c .before .before .before .before .pre) (c .before .loop .i) (c .before .loop .left) (c .loop-test .left))
@@ -68,7 +68,7 @@ copy-fits-spec =
     shared-slice-read-start
     cast-start
     end-of-requires
-    piece-len-requires
+    record-len-requires
     returns
     absorbed-by-requires
     add-i

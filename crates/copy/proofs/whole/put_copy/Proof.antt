@@ -35,8 +35,8 @@ end-of-requires c κs = (c .before .before .before .before .before .before .pre 
 absorbed-by-requires : tie.Need-absorbed-by-requires Inv-loop μ-loop
 absorbed-by-requires c κs = c .end-of .ensures
 
-put-piece-requires : tie.Need-put-piece-requires Inv-loop μ-loop
-put-piece-requires c κs = record { span = c .before .before .end-of .ensures; room = room (c .before .before .before .before .before .loop .inv) (copyFrom-cut (c .before .before .before .before .before .before .before .before .before .pre .0) (c .before .before .before .before .before .loop .i) (c .before .before .before .before .loop-test .taken)) }
+put-record-requires : tie.Need-put-record-requires Inv-loop μ-loop
+put-record-requires c κs = record { span = c .before .before .end-of .ensures; room = room (c .before .before .before .before .before .loop .inv) (copyFrom-cut (c .before .before .before .before .before .before .before .before .before .pre .0) (c .before .before .before .before .before .loop .i) (c .before .before .before .before .loop-test .taken)) }
 
 add-i : tie.Need-add-i Inv-loop μ-loop
 add-i c = omega (arith, starts-few (c .before .before .before .before .before .before .before .before .before .before .before .before .pre .0))
@@ -48,7 +48,7 @@ loop-less : tie.Need-loop-less Inv-loop μ-loop
 loop-less c = omega arith
 
 loop-again : tie.Need-loop-again Inv-loop μ-loop
-loop-again c = step (c .before .before .before .before .before .before .before .before .loop .inv) (copyFrom-next (c .before .before .before .before .before .before .before .before .before .before .before .before .pre .0) (c .before .before .before .before .before .before .before .before .loop .i) _ (c .before .before .before .before .before .before .before .loop-test .taken) (c .before .before .before .before .absorbed-by .ensures)) (c .before .before .put-piece .ensures)
+loop-again c = step (c .before .before .before .before .before .before .before .before .loop .inv) (copyFrom-next (c .before .before .before .before .before .before .before .before .before .before .before .before .pre .0) (c .before .before .before .before .before .before .before .before .loop .i) _ (c .before .before .before .before .before .before .before .loop-test .taken) (c .before .before .before .before .absorbed-by .ensures)) (c .before .before .put-record .ensures)
 
 same-length : tie.Need-same-length Inv-loop μ-loop
 same-length c = c .before .loop .inv .size
@@ -68,7 +68,7 @@ put-copy-spec =
     cast-start
     end-of-requires
     absorbed-by-requires
-    put-piece-requires
+    put-record-requires
     add-i
     add-i-2
     loop-less

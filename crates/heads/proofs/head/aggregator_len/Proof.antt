@@ -9,8 +9,8 @@ use Rattle.text.specs.Display.{displayGrouping}
 use Rattle.heads.proofs.head.aggregator_len.Statement.{statement}
 use Rattle.heads.proofs.head.aggregator_len.Tie as tie
 
-word-len-requires : tie.Need-word-len-requires
-word-len-requires c κs = search needs
+token-len-requires : tie.Need-token-len-requires
+token-len-requires c κs = search needs
 
 grouping-len-requires : tie.Need-grouping-len-requires
 grouping-len-requires c κs = search needs
@@ -19,8 +19,8 @@ capped-add-requires : tie.Need-capped-add-requires
 capped-add-requires c κs = search needs
 
 returns : tie.Need-returns
-returns c = omega (arith, c .before .before .word-len .ensures .0, c .before .grouping-len .ensures, c .capped-add .ensures, length-append (word (c .before .before .before .before .args .code)) (displayGrouping (labelModifierOn (now (c .before .before .before .before .args .page)) (c .before .before .before .before .args .grouping))))
+returns c = omega (arith, c .before .before .token-len .ensures .0, c .before .grouping-len .ensures, c .capped-add .ensures, length-append (word (c .before .before .before .before .args .code)) (displayGrouping (labelModifierOn (now (c .before .before .before .before .args .page)) (c .before .before .before .before .args .grouping))))
 
 pub aggregator-len-spec : {M : Type 1} → statement M
 aggregator-len-spec =
-    tie.close (tie.spec word-len-requires grouping-len-requires capped-add-requires returns)
+    tie.close (tie.spec token-len-requires grouping-len-requires capped-add-requires returns)

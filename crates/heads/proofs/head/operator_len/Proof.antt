@@ -9,8 +9,8 @@ use Rattle.heads.proofs.HeadLaws.{operator-plain, operator-modified, op
 use Rattle.heads.proofs.head.operator_len.Statement.{statement}
 use Rattle.heads.proofs.head.operator_len.Tie as tie
 
-word-len-requires : tie.Need-word-len-requires
-word-len-requires c κs = search needs
+token-len-requires : tie.Need-token-len-requires
+token-len-requires c κs = search needs
 
 enum-told : tie.Need-enum-told
 enum-told c = search needs
@@ -31,16 +31,16 @@ capped-add-requires-2 : tie.Need-capped-add-requires-2
 capped-add-requires-2 c κs = search needs
 
 returns : tie.Need-returns
-returns c = omega (arith, c .capped-add .ensures, c .before .before .before .word-len .ensures, ap length (operator-plain (now (c .before .before .before .before .before .args .page)) (c .before .before .before .before .before .args .code) (c .before .before .before .before .before .args .modifier) (c .before .enum-told .given .1)))
+returns c = omega (arith, c .capped-add .ensures, c .before .before .before .token-len .ensures, ap length (operator-plain (now (c .before .before .before .before .before .args .page)) (c .before .before .before .before .before .args .code) (c .before .before .before .before .before .args .modifier) (c .before .enum-told .given .1)))
 
 returns-2 : tie.Need-returns-2
-returns-2 c = omega (arith, c .capped-add2 .ensures, c .before .modifier-len .ensures, c .before .before .before .before .before .before .word-len .ensures, cut-length (operator-modified (now (c .before .before .before .before .before .before .before .before .args .page)) (c .before .before .before .before .before .before .before .before .args .code) (c .before .before .before .before .before .before .before .before .args .modifier) _ (c .before .before .before .before .modifier .given .1)))
+returns-2 c = omega (arith, c .capped-add2 .ensures, c .before .modifier-len .ensures, c .before .before .before .before .before .before .token-len .ensures, cut-length (operator-modified (now (c .before .before .before .before .before .before .before .before .args .page)) (c .before .before .before .before .before .before .before .before .args .code) (c .before .before .before .before .before .before .before .before .args .modifier) _ (c .before .before .before .before .modifier .given .1)))
 
 pub operator-len-spec : {M : Type 1} → statement M
 operator-len-spec =
     tie.close
     (tie.spec
-    word-len-requires
+    token-len-requires
     enum-told
     capped-add-requires
     enum-known-modifier

@@ -6,7 +6,7 @@ use mathlib.Core.Path.{refl}
 use mathlib.Core.List.{List}
 use Rattle.base.specs.Splice.{begin, first, room, step, finish, cut-last}
 use Rattle.reader.specs.Answers.{selectorOn}
-use Rattle.util.proofs.PartLaws.{part-fits, part-wrote}
+use Rattle.leaves.proofs.PartLaws.{part-fits, part-wrote}
 use Rattle.heads.proofs.HeadLaws.{selector-cut}
 use Rattle.heads.proofs.selector.put_selector.Statement.{statement}
 use Rattle.heads.proofs.selector.put_selector.Tie as tie

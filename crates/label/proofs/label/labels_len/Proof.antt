@@ -1,4 +1,4 @@
--- `label::label::labels_len` meets its contract: the first label, and those behind it. Assumes nothing.
+-- `label::label::labels_len` meets its contract: the first label, and those after it. Assumes nothing.
 use borrow.Author.Needs.{needs}
 use denote.Ref.{now}
 use native.Mathlib.Omega.{arith}

@@ -1,4 +1,4 @@
--- `label::label::put_labels` meets its contract: the first label, and those behind it. Assumes nothing.
+-- `label::label::put_labels` meets its contract: the first label, and those after it. Assumes nothing.
 use borrow.Author.Needs.{needs}
 use denote.Ref.{now}
 use mathlib.Core.Path.{refl}
@@ -6,7 +6,7 @@ use lib.ListN.{drop}
 use Rattle.base.specs.Splice.{begin, first, room, step, finish, cut-last}
 use Rattle.page.specs.Text.{readAnyText}
 use Rattle.page.proofs.ListLaws.{first-read, others-read}
-use Rattle.util.proofs.PartLaws.{part-fits, part-wrote}
+use Rattle.leaves.proofs.PartLaws.{part-fits, part-wrote}
 use Rattle.label.specs.Label.{displayLabel}
 use Rattle.label.proofs.LabelLaws.{some-left, displayLabels-first, displayLabels-none}
 use Rattle.label.proofs.label.put_labels.Statement.{statement}

@@ -7,7 +7,7 @@ use Rattle.base.specs.Splice.{Writing, begin, room, step, finish}
 use Rattle.page.specs.Listed.{listed, AllRead}
 use Rattle.page.specs.Text.{readAnyText}
 use Rattle.page.proofs.ListLaws.{first-read, others-read}
-use Rattle.util.proofs.PartLaws.{part-fits, part-wrote}
+use Rattle.leaves.proofs.PartLaws.{part-fits, part-wrote}
 use Rattle.label.specs.Label.{displayLabel, displayMoreLabels}
 use Rattle.label.proofs.LabelLaws.{displayMoreLabels-separator, labelThen-label, displayMoreLabels-none}
 use Rattle.label.proofs.label.put_more_labels.Statement.{statement}

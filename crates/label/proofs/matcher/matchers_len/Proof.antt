@@ -1,4 +1,4 @@
--- `label::matcher::matchers_len` meets its contract: the first matcher, and those behind it. Assumes nothing.
+-- `label::matcher::matchers_len` meets its contract: the first matcher, and those after it. Assumes nothing.
 use borrow.Author.Needs.{needs}
 use denote.Ref.{now}
 use native.Mathlib.Omega.{arith}

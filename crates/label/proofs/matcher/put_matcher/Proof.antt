@@ -2,8 +2,8 @@
 use borrow.Author.Needs.{needs}
 use denote.Ref.{now}
 use Rattle.base.specs.Splice.{start, fits, next, end}
-use Rattle.util.proofs.PartLaws.{part-fits, part-wrote}
-use Rattle.util.specs.Escape.{quote}
+use Rattle.leaves.proofs.PartLaws.{part-fits, part-wrote}
+use Rattle.leaves.specs.Escape.{quote}
 use Rattle.label.specs.Label.{displayLabel}
 use Rattle.label.proofs.KeyLaws.{keyText-prints, keyText-pieces}
 use Rattle.label.proofs.matcher.put_matcher.Statement.{statement}

@@ -1,6 +1,6 @@
 -- `pieces::times::put_at` meets its contract: a space and the time. Assumes nothing.
 use Rattle.text.proofs.WriteLaws.{wrote-nothing, run-two}
-use Rattle.util.specs.Time.{displayAt}
+use Rattle.leaves.specs.Time.{displayAt}
 use Rattle.records.specs.Answers.{atModifierOf}
 use Rattle.page.specs.Bytes.{bytes}
 use Rattle.base.specs.Splice.{fits, next, end}

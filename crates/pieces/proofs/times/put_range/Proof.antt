@@ -1,6 +1,6 @@
 -- `pieces::times::put_range` meets its contract: the duration in brackets. Assumes nothing.
 use Rattle.text.proofs.WriteLaws.{wrote-nothing, run-three}
-use Rattle.util.specs.Duration.{displayDuration}
+use Rattle.leaves.specs.Duration.{displayDuration}
 use Rattle.page.specs.Bytes.{bytes}
 use Rattle.base.specs.Splice.{fits, next, end}
 use mathlib.Core.List.{append-assoc}

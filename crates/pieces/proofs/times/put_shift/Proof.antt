@@ -1,6 +1,6 @@
 -- `pieces::times::put_shift` meets its contract: the word and the offset. Assumes nothing.
 use Rattle.text.proofs.WriteLaws.{wrote-nothing, run-two}
-use Rattle.util.specs.Time.{displayOffset}
+use Rattle.leaves.specs.Time.{displayOffset}
 use Rattle.records.specs.Answers.{offsetOf}
 use Rattle.page.specs.Bytes.{bytes}
 use Rattle.base.specs.Splice.{fits, next, end}

@@ -1,6 +1,6 @@
 -- `pieces::times::range_len` meets its contract: the duration in brackets. Assumes nothing.
 use Rattle.pieces.proofs.PieceLaws.{bracketed-len}
-use Rattle.util.specs.Duration.{displayDuration}
+use Rattle.leaves.specs.Duration.{displayDuration}
 use native.Mathlib.Omega.{arith}
 use borrow.Author.Needs.{needs}
 use Rattle.pieces.proofs.times.range_len.Statement.{statement}

@@ -2,8 +2,8 @@
 use Rattle.pieces.proofs.PieceLaws.{suffix-len}
 use Rattle.text.specs.Answers.{timesOf}
 use Rattle.text.specs.Display.{optional, displayTimes}
-use Rattle.util.specs.Duration.{displayDuration}
-use Rattle.records.specs.Answers.{stepOf}
+use Rattle.leaves.specs.Duration.{displayDuration}
+use Rattle.records.specs.Answers.{optionalDurationOf}
 use native.Mathlib.Omega.{arith}
 use borrow.Author.Needs.{needs}
 use Rattle.pieces.proofs.times.subquery_len.Statement.{statement}
@@ -28,7 +28,7 @@ add-result-3 : tie.Need-add-result-3
 add-result-3 c = search needs
 
 returns : tie.Need-returns
-returns c = omega (arith, c .before .before .duration-len .ensures .0, c .before .step-len .ensures .0, c .times-len .ensures .0, suffix-len (displayDuration (c .before .before .before .args .range)) (optional displayDuration (stepOf (c .before .before .before .args .step))) (displayTimes (timesOf (c .before .before .before .args .times))))
+returns c = omega (arith, c .before .before .duration-len .ensures .0, c .before .step-len .ensures .0, c .times-len .ensures .0, suffix-len (displayDuration (c .before .before .before .args .range)) (optional displayDuration (optionalDurationOf (c .before .before .before .args .step))) (displayTimes (timesOf (c .before .before .before .args .times))))
 
 pub subquery-len-spec : {M : Type 1} → statement M
 subquery-len-spec =

@@ -17,8 +17,8 @@ read-text-requires-2 c κs = search needs
 enum-known-value : tie.Need-enum-known-value
 enum-known-value c = search needs
 
-read-mark-requires : tie.Need-read-mark-requires
-read-mark-requires c κs = search needs
+read-pattern-flag-requires : tie.Need-read-pattern-flag-requires
+read-pattern-flag-requires c κs = search needs
 
 enum-known-f : tie.Need-enum-known-f
 enum-known-f c = search needs
@@ -34,7 +34,7 @@ returns c =
     let at-read-name = at-name .before .before in
     let name = label-read _ _ (at-name .name .given .1) (at-read-name .read-text .ensures) in
     let value = label-read _ _ (at-value .value .given .1) (at-read-value .read-text2 .ensures) in
-    c .read-mark .ensures ∙ texts-read _ _ _ _ _ name value
+    c .read-pattern-flag .ensures ∙ texts-read _ _ _ _ _ name value
 
 returns-2 : tie.Need-returns-2
 returns-2 c =
@@ -57,7 +57,7 @@ read-texts-spec =
     enum-known-name
     read-text-requires-2
     enum-known-value
-    read-mark-requires
+    read-pattern-flag-requires
     enum-known-f
     enum-known-f-2
     returns

@@ -4,13 +4,13 @@ use lib.ListN.{drop}
 use mathlib.Core.Path.{refl}
 use Rattle.page.proofs.ListLaws.{read-length, all-read, one-refused}
 use Rattle.records.specs.Matcher.{readMatcher}
-use Rattle.records.proofs.MarkLaws.{Marked, marked-more, all-marked, readMarks-refused}
+use Rattle.records.proofs.MatcherFactsLaws.{FactsSoFar, facts-more, facts-all, readMatcherFacts-refused}
 use borrow.Author.Needs.{needs}
 use Rattle.records.proofs.matcher.matchers_from.Statement.{statement}
 use Rattle.records.proofs.matcher.matchers_from.Tie as tie
 
 abbrev Inv-loop : tie.InvT-loop
-Inv-loop page start count left₀ at₀ named₀ empty₀ left at named empty = Marked count (drop start page) left (drop at page) named empty
+Inv-loop page start count left₀ at₀ named₀ empty₀ left at named empty = FactsSoFar count (drop start page) left (drop at page) named empty
 
 abbrev μ-loop : tie.MeasureT-loop
 μ-loop page start count left₀ at₀ named₀ empty₀ left at named empty = left
@@ -18,8 +18,8 @@ abbrev μ-loop : tie.MeasureT-loop
 loop-holds : tie.Need-loop-holds Inv-loop μ-loop
 loop-holds c = record { passes = refl; names = refl; accept = refl }
 
-mark-matcher-requires : tie.Need-mark-matcher-requires Inv-loop μ-loop
-mark-matcher-requires c κs = search needs
+read-matcher-facts-requires : tie.Need-read-matcher-facts-requires Inv-loop μ-loop
+read-matcher-facts-requires c κs = search needs
 
 enum-known-name : tie.Need-enum-known-name Inv-loop μ-loop
 enum-known-name c = search needs
@@ -32,21 +32,21 @@ loop-less c = search needs
 
 loop-again : tie.Need-loop-again Inv-loop μ-loop
 loop-again c =
-    let e = rw (c .before .name .given .1) at (c .before .before .before .mark-matcher .ensures) in
-    marked-more (c .before .before .before .before .before .before .before .args .count) (drop (c .before .before .before .before .before .before .before .args .start) (now (c .before .before .before .before .before .before .before .args .page))) (c .before .before .before .before .before .loop .left) (drop (c .before .before .before .before .before .loop .at) (now (c .before .before .before .before .before .before .before .args .page))) _ (c .before .before .before .before .before .loop .named) (c .before .before .before .before .before .loop .empty) _ _ (c .before .before .before .before .before .loop .inv) (c .before .before .before .before .loop-test .taken) e
+    let e = rw (c .before .name .given .1) at (c .before .before .before .read-matcher-facts .ensures) in
+    facts-more (c .before .before .before .before .before .before .before .args .count) (drop (c .before .before .before .before .before .before .before .args .start) (now (c .before .before .before .before .before .before .before .args .page))) (c .before .before .before .before .before .loop .left) (drop (c .before .before .before .before .before .loop .at) (now (c .before .before .before .before .before .before .before .args .page))) _ (c .before .before .before .before .before .loop .named) (c .before .before .before .before .before .loop .empty) _ _ (c .before .before .before .before .before .loop .inv) (c .before .before .before .before .loop-test .taken) e
 
 enum-known-f : tie.Need-enum-known-f Inv-loop μ-loop
 enum-known-f c = search needs
 
 returns : tie.Need-returns Inv-loop μ-loop
 returns c =
-    let e = rw (c .before .f .given .1) at (c .before .before .before .mark-matcher .ensures) in
-    (one-refused readMatcher _ _ (c .before .before .before .before .before .loop .left) (drop (c .before .before .before .before .before .loop .at) (now (c .before .before .before .before .before .before .before .args .page))) (c .before .before .before .before .before .loop .inv .passes) (c .before .before .before .before .loop-test .taken) (readMarks-refused (drop (c .before .before .before .before .before .loop .at) (now (c .before .before .before .before .before .before .before .args .page))) e), tt)
+    let e = rw (c .before .f .given .1) at (c .before .before .before .read-matcher-facts .ensures) in
+    (one-refused readMatcher _ _ (c .before .before .before .before .before .loop .left) (drop (c .before .before .before .before .before .loop .at) (now (c .before .before .before .before .before .before .before .args .page))) (c .before .before .before .before .before .loop .inv .passes) (c .before .before .before .before .loop-test .taken) (readMatcherFacts-refused (drop (c .before .before .before .before .before .loop .at) (now (c .before .before .before .before .before .before .before .args .page))) e), tt)
 
 returns-2 : tie.Need-returns-2 Inv-loop μ-loop
 returns-2 c =
     let e = all-read readMatcher (c .before .before .before .args .count) (drop (c .before .before .before .args .start) (now (c .before .before .before .args .page))) (c .before .loop .left) (drop (c .before .loop .at) (now (c .before .before .before .args .page))) (c .before .loop .inv .passes) (c .loop-test .left) in
-    (e, (all-marked (c .before .before .before .args .count) (drop (c .before .before .before .args .start) (now (c .before .before .before .args .page))) (c .before .loop .left) _ (c .before .loop .named) (c .before .loop .empty) (c .before .loop .inv) (c .loop-test .left), read-length readMatcher (c .before .before .before .args .count) (drop (c .before .before .before .args .start) (now (c .before .before .before .args .page))) e))
+    (e, (facts-all (c .before .before .before .args .count) (drop (c .before .before .before .args .start) (now (c .before .before .before .args .page))) (c .before .loop .left) _ (c .before .loop .named) (c .before .loop .empty) (c .before .loop .inv) (c .loop-test .left), read-length readMatcher (c .before .before .before .args .count) (drop (c .before .before .before .args .start) (now (c .before .before .before .args .page))) e))
 
 pub matchers-from-spec : {M : Type 1} → statement M
 matchers-from-spec =
@@ -55,7 +55,7 @@ matchers-from-spec =
     Inv-loop
     μ-loop
     loop-holds
-    mark-matcher-requires
+    read-matcher-facts-requires
     enum-known-name
     sub-left
     loop-less

@@ -1,7 +1,7 @@
 -- `records::stored::stored_matcher` meets its contract: each byte and each text is there, because the matcher can be read. Assumes nothing.
 use denote.Ref.{now}
 use native.Mathlib.Omega.{arith}
-use Rattle.records.proofs.StoredLaws.{flag-chosen, flag-stored, operator-chosen, name-stored, value-stored, mark-stored, is-equal, is-not-equal, is-pattern, is-negated}
+use Rattle.records.proofs.StoredLaws.{flag-chosen, flag-stored, operator-chosen, name-stored, value-stored, pattern-flag-stored, is-equal, is-not-equal, is-pattern, is-negated}
 use borrow.Author.Needs.{needs}
 use Rattle.records.proofs.stored.stored_matcher.Statement.{statement}
 use Rattle.records.proofs.stored.stored_matcher.Tie as tie
@@ -30,8 +30,8 @@ with-op-requires-2 c κs = search needs
 returns-2 : tie.Need-returns-2
 returns-2 c = rw (c .with-op2 .ensures) (is-not-equal (now (c .before .before .before .before .before .before .before .args .page)) (c .before .before .before .before .before .before .before .args .at) (c .before .before .before .before .before .before .before .pre) (c .before .before .before .before .stored-text .ensures .0) (c .before .before .before .stored-text2 .ensures .0) (c .before .if2 .taken), record { name = c .before .before .before .before .stored-text .ensures .1; value = c .before .before .before .stored-text2 .ensures .1 })
 
-shared-slice-read-mark : tie.Need-shared-slice-read-mark
-shared-slice-read-mark c = flag-chosen (now (c .before .before .before .before .before .before .before .args .page)) (c .before .before .before .stored-text2 .result .end) (mark-stored (now (c .before .before .before .before .before .before .before .args .page)) (c .before .before .before .before .before .before .before .args .at) (c .before .before .before .before .before .before .before .pre) (c .before .before .before .before .stored-text .ensures .0) (c .before .before .before .stored-text2 .ensures .0) (c .before .before .if1 .left) (c .before .if2 .left)) .inside
+shared-slice-read-flag : tie.Need-shared-slice-read-flag
+shared-slice-read-flag c = flag-chosen (now (c .before .before .before .before .before .before .before .args .page)) (c .before .before .before .stored-text2 .result .end) (pattern-flag-stored (now (c .before .before .before .before .before .before .before .args .page)) (c .before .before .before .before .before .before .before .args .at) (c .before .before .before .before .before .before .before .pre) (c .before .before .before .before .stored-text .ensures .0) (c .before .before .before .stored-text2 .ensures .0) (c .before .before .if1 .left) (c .before .if2 .left)) .inside
 
 add-with-op : tie.Need-add-with-op
 add-with-op c = search needs
@@ -41,8 +41,8 @@ with-op-requires-3 c κs = search needs
 
 returns-3 : tie.Need-returns-3
 returns-3 c =
-    let mark = flag-stored (now (c .before .before .before .before .before .before .before .before .before .args .page)) (c .before .before .before .before .before .stored-text2 .result .end) (mark-stored (now (c .before .before .before .before .before .before .before .before .before .args .page)) (c .before .before .before .before .before .before .before .before .before .args .at) (c .before .before .before .before .before .before .before .before .before .pre) (c .before .before .before .before .before .before .stored-text .ensures .0) (c .before .before .before .before .before .stored-text2 .ensures .0) (c .before .before .before .before .if1 .left) (c .before .before .before .if2 .left)) in
-    rw (c .with-op3 .ensures) (is-pattern (now (c .before .before .before .before .before .before .before .before .before .args .page)) (c .before .before .before .before .before .before .before .before .before .args .at) (c .before .before .before .before .before .before .before .before .before .pre) (c .before .before .before .before .before .before .stored-text .ensures .0) (c .before .before .before .before .before .stored-text2 .ensures .0) mark (c .before .if3 .taken), record { name = c .before .before .before .before .before .before .stored-text .ensures .1; value = c .before .before .before .before .before .stored-text2 .ensures .1 })
+    let flag = flag-stored (now (c .before .before .before .before .before .before .before .before .before .args .page)) (c .before .before .before .before .before .stored-text2 .result .end) (pattern-flag-stored (now (c .before .before .before .before .before .before .before .before .before .args .page)) (c .before .before .before .before .before .before .before .before .before .args .at) (c .before .before .before .before .before .before .before .before .before .pre) (c .before .before .before .before .before .before .stored-text .ensures .0) (c .before .before .before .before .before .stored-text2 .ensures .0) (c .before .before .before .before .if1 .left) (c .before .before .before .if2 .left)) in
+    rw (c .with-op3 .ensures) (is-pattern (now (c .before .before .before .before .before .before .before .before .before .args .page)) (c .before .before .before .before .before .before .before .before .before .args .at) (c .before .before .before .before .before .before .before .before .before .pre) (c .before .before .before .before .before .before .stored-text .ensures .0) (c .before .before .before .before .before .stored-text2 .ensures .0) flag (c .before .if3 .taken), record { name = c .before .before .before .before .before .before .stored-text .ensures .1; value = c .before .before .before .before .before .stored-text2 .ensures .1 })
 
 add-with-op-2 : tie.Need-add-with-op-2
 add-with-op-2 c = search needs
@@ -52,8 +52,8 @@ with-op-requires-4 c κs = search needs
 
 returns-4 : tie.Need-returns-4
 returns-4 c =
-    let mark = flag-stored (now (c .before .before .before .before .before .before .before .before .before .args .page)) (c .before .before .before .before .before .stored-text2 .result .end) (mark-stored (now (c .before .before .before .before .before .before .before .before .before .args .page)) (c .before .before .before .before .before .before .before .before .before .args .at) (c .before .before .before .before .before .before .before .before .before .pre) (c .before .before .before .before .before .before .stored-text .ensures .0) (c .before .before .before .before .before .stored-text2 .ensures .0) (c .before .before .before .before .if1 .left) (c .before .before .before .if2 .left)) in
-    rw (c .with-op4 .ensures) (is-negated (now (c .before .before .before .before .before .before .before .before .before .args .page)) (c .before .before .before .before .before .before .before .before .before .args .at) (c .before .before .before .before .before .before .before .before .before .pre) (c .before .before .before .before .before .before .stored-text .ensures .0) (c .before .before .before .before .before .stored-text2 .ensures .0) mark (c .before .before .before .before .if1 .left) (c .before .before .before .if2 .left) (c .before .if3 .left), record { name = c .before .before .before .before .before .before .stored-text .ensures .1; value = c .before .before .before .before .before .stored-text2 .ensures .1 })
+    let flag = flag-stored (now (c .before .before .before .before .before .before .before .before .before .args .page)) (c .before .before .before .before .before .stored-text2 .result .end) (pattern-flag-stored (now (c .before .before .before .before .before .before .before .before .before .args .page)) (c .before .before .before .before .before .before .before .before .before .args .at) (c .before .before .before .before .before .before .before .before .before .pre) (c .before .before .before .before .before .before .stored-text .ensures .0) (c .before .before .before .before .before .stored-text2 .ensures .0) (c .before .before .before .before .if1 .left) (c .before .before .before .if2 .left)) in
+    rw (c .with-op4 .ensures) (is-negated (now (c .before .before .before .before .before .before .before .before .before .args .page)) (c .before .before .before .before .before .before .before .before .before .args .at) (c .before .before .before .before .before .before .before .before .before .pre) (c .before .before .before .before .before .before .stored-text .ensures .0) (c .before .before .before .before .before .stored-text2 .ensures .0) flag (c .before .before .before .before .if1 .left) (c .before .before .before .if2 .left) (c .before .if3 .left), record { name = c .before .before .before .before .before .before .stored-text .ensures .1; value = c .before .before .before .before .before .stored-text2 .ensures .1 })
 
 pub stored-matcher-spec : {M : Type 1} → statement M
 stored-matcher-spec =
@@ -67,7 +67,7 @@ stored-matcher-spec =
     returns
     with-op-requires-2
     returns-2
-    shared-slice-read-mark
+    shared-slice-read-flag
     add-with-op
     with-op-requires-3
     returns-3

@@ -2,7 +2,7 @@
 use mathlib.Core.Path.{sym, ap, _∙_}
 use denote.Ref.{now}
 use borrow.Author.Needs.{needs}
-use Rattle.joint.proofs.PlacedLaws.{nowhere, part-as}
+use Rattle.joint_label.proofs.PlacedLaws.{nowhere, part-as}
 use Rattle.ast.specs.Part.{labelPart}
 use Rattle.records.specs.Outcome.{refusal}
 use Rattle.sandzguli.proofs.PartLaws.{part-accepted}

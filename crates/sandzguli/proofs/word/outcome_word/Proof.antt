@@ -3,7 +3,7 @@ use native.Mathlib.Omega.{arith}
 use borrow.Author.Needs.{needs}
 use Rattle.records.specs.Outcome.{refusal}
 use Rattle.records.specs.Answers.{kindOf}
-use Rattle.judge.specs.Answers.{refusalNumber}
+use Rattle.rules.specs.Answers.{refusalNumber}
 use Rattle.sandzguli.specs.Words.{FitsWord}
 use Rattle.sandzguli.proofs.WordLaws.{kindNumber-small}
 use Rattle.sandzguli.proofs.word.outcome_word.Statement.{statement}

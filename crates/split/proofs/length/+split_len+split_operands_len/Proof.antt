@@ -1,11 +1,11 @@
 -- The proof of the cycle {split_len, split_operands_len}: lengths up to a cap. The measures: 2 i + 1 for the tree that record i ends, 2 e for the
--- operands behind e records. The laws stand in `SplitLaws` and in crate text. Assumes nothing.
+-- operands after e records. The laws stand in `SplitLaws` and in crate text. Assumes nothing.
 use Rattle.split.proofs.SplitLaws.{fits-line, over-line, len-line, len-split}
-use Rattle.view.proofs.NodeLaws.{minus-unvalued}
+use Rattle.view.proofs.NodeLaws.{minus-numberless}
 use Rattle.view.proofs.ViewLaws.{starts-of, unmarked}
 use Rattle.text.proofs.LengthLaws.{last-operand, fewer-operands, len-none, len-one, len-full, len-more}
 use Rattle.text.proofs.OperandLaws.{fewer}
-use Rattle.text.specs.Layout.{marked}
+use Rattle.text.specs.Layout.{prettyIndented}
 use Prim.Native.Nat.{_+_, _-_}
 use mathlib.Core.Bool.{true}
 use native.Mathlib.Omega.{arith}
@@ -25,9 +25,9 @@ use Rattle.indented.proofs.indent_len.Reads as indent-len-reads
 use Rattle.indented.proofs.rear_at_len.Reads as rear-at-len-reads
 use Rattle.measure.proofs.width.Reads as width-reads
 use Rattle.split.proofs.place.inner_place.Reads as inner-place-reads
-use Rattle.split.proofs.place.with_mark.Reads as with-mark-reads
-use Rattle.split.proofs.place.with_unvalued.Reads as with-unvalued-reads
-use Rattle.util.proofs.capped_add.Reads as capped-add-reads
+use Rattle.split.proofs.place.with_indents.Reads as with-indents-reads
+use Rattle.split.proofs.place.with_numberless.Reads as with-numberless-reads
+use Rattle.leaves.proofs.capped_add.Reads as capped-add-reads
 use Rattle.view.proofs.is_minus.Reads as is-minus-reads
 use Rattle.view.proofs.view_at.Reads as view-at-reads
 use Rattle.split.proofs.length.+split_len+split_operands_len.{statement}
@@ -63,10 +63,10 @@ split-operands-len-below t =
     split-operands-len.Pre
 
 abbrev split-len-claims : ℕ → split-len-lts.Claims
-split-len-claims t = (width-reads.Asked, width-reads.Learnt, indent-len-reads.Asked, indent-len-reads.Learnt, capped-add-reads.Asked, capped-add-reads.Learnt, view-at-reads.Asked, view-at-reads.Learnt, front-at-len-reads.Asked, front-at-len-reads.Learnt, between-at-len-reads.Asked, between-at-len-reads.Learnt, is-minus-reads.Asked, is-minus-reads.Learnt, with-unvalued-reads.Asked, with-unvalued-reads.Learnt, inner-place-reads.Asked, inner-place-reads.Learnt, split-operands-len-below t, split-operands-len.Post, rear-at-len-reads.Asked, rear-at-len-reads.Learnt)
+split-len-claims t = (width-reads.Asked, width-reads.Learnt, indent-len-reads.Asked, indent-len-reads.Learnt, capped-add-reads.Asked, capped-add-reads.Learnt, view-at-reads.Asked, view-at-reads.Learnt, front-at-len-reads.Asked, front-at-len-reads.Learnt, between-at-len-reads.Asked, between-at-len-reads.Learnt, is-minus-reads.Asked, is-minus-reads.Learnt, with-numberless-reads.Asked, with-numberless-reads.Learnt, inner-place-reads.Asked, inner-place-reads.Learnt, split-operands-len-below t, split-operands-len.Post, rear-at-len-reads.Asked, rear-at-len-reads.Learnt)
 
 abbrev split-operands-len-claims : ℕ → split-operands-len-lts.Claims
-split-operands-len-claims t = (split-len-below t, split-len.Post, with-mark-reads.Asked, with-mark-reads.Learnt, with-unvalued-reads.Asked, with-unvalued-reads.Learnt, split-operands-len-below t, split-operands-len.Post)
+split-operands-len-claims t = (split-len-below t, split-len.Post, with-indents-reads.Asked, with-indents-reads.Learnt, with-numberless-reads.Asked, with-numberless-reads.Learnt, split-operands-len-below t, split-operands-len.Post)
 
 split-len-returns : (t : ℕ) → split-len-lts.Need-returns (split-len-claims t) (split-len-at t) split-len.Post
 split-len-returns t c = omega (arith, c .if1 .taken)
@@ -98,16 +98,16 @@ split-len-between-at-len-requires t c κs = (c .before .view-at .ensures .stands
 split-len-is-minus-requires : (t : ℕ) → split-len-lts.Need-is-minus-requires (split-len-claims t) (split-len-at t) split-len.Post
 split-len-is-minus-requires t c κs = search needs
 
-split-len-with-unvalued-requires : (t : ℕ) → split-len-lts.Need-with-unvalued-requires (split-len-claims t) (split-len-at t) split-len.Post
-split-len-with-unvalued-requires t c κs = search needs
+split-len-with-numberless-requires : (t : ℕ) → split-len-lts.Need-with-numberless-requires (split-len-claims t) (split-len-at t) split-len.Post
+split-len-with-numberless-requires t c κs = search needs
 
 split-len-inner-place-requires : (t : ℕ) → split-len-lts.Need-inner-place-requires (split-len-claims t) (split-len-at t) split-len.Post
-split-len-inner-place-requires t c κs = (c .before .before .before .before .view-at .ensures .stands, rw (c .with-unvalued .ensures) (omega (arith, c .before .before .before .before .before .before .before .before .before .before .before .before .pre .1 .1 .1 .1)))
+split-len-inner-place-requires t c κs = (c .before .before .before .before .view-at .ensures .stands, rw (c .with-numberless .ensures) (omega (arith, c .before .before .before .before .before .before .before .before .before .before .before .before .pre .1 .1 .1 .1)))
 
 split-len-split-operands-len-requires : (t : ℕ) → split-len-lts.Need-split-operands-len-requires (split-len-claims t) (split-len-at t) split-len.Post
 split-len-split-operands-len-requires t c κs =
-    let seen = c .before .before .before .before .before .view-at .ensures .seen in
-    (omega (arith, seen .low, c .before .before .before .before .before .before .before .before .before .before .before .before .before .pre .0), (fewer (c .before .before .before .before .before .before .before .before .before .before .before .before .before .pre .1 .0) (omega (arith, seen .low)), (c .before .before .before .before .before .before .before .before .before .before .before .before .before .pre .1 .1 .0, (seen .enough, (rw (c .inner-place .ensures .0, c .before .with-unvalued .ensures, c .before .before .is-minus .ensures) (minus-unvalued (c .before .before .before .before .before .view-at .ensures)), omega (arith, seen .low, c .before .before .before .before .before .before .before .before .before .before .before .before .before .pre .1 .1 .1 .1, rw (c .before .with-unvalued .ensures) at (c .inner-place .ensures .1)))))))
+    let laidOut = c .before .before .before .before .before .view-at .ensures .laidOut in
+    (omega (arith, laidOut .low, c .before .before .before .before .before .before .before .before .before .before .before .before .before .pre .0), (fewer (c .before .before .before .before .before .before .before .before .before .before .before .before .before .pre .1 .0) (omega (arith, laidOut .low)), (c .before .before .before .before .before .before .before .before .before .before .before .before .before .pre .1 .1 .0, (laidOut .enough, (rw (c .inner-place .ensures .0, c .before .with-numberless .ensures, c .before .before .is-minus .ensures) (minus-numberless (c .before .before .before .before .before .view-at .ensures)), omega (arith, laidOut .low, c .before .before .before .before .before .before .before .before .before .before .before .before .before .pre .1 .1 .1 .1, rw (c .before .with-numberless .ensures) at (c .inner-place .ensures .1)))))))
 
 split-len-sub-rear-at-len : (t : ℕ) → split-len-lts.Need-sub-rear-at-len (split-len-claims t) (split-len-at t) split-len.Post
 split-len-sub-rear-at-len t c = omega (arith, c .split-operands-len .ensures .bound)
@@ -122,10 +122,10 @@ split-len-add-result-2 : (t : ℕ) → split-len-lts.Need-add-result-2 (split-le
 split-len-add-result-2 t c = omega (arith, c .before .before .before .before .before .before .front-at-len .ensures, c .before .split-operands-len .ensures .bound, c .rear-at-len .ensures, c .before .before .before .before .before .before .before .before .before .before .before .before .before .before .before .fits)
 
 split-len-returns-3 : (t : ℕ) → split-len-lts.Need-returns-3 (split-len-claims t) (split-len-at t) split-len.Post
-split-len-returns-3 t c = len-split (c .before .before .before .before .before .before .before .before .before .before .before .before .before .before .before .pre .1 .0) (c .before .before .before .before .before .before .before .view-at .ensures .seen) _ _ (over-line _ _ (c .before .before .before .before .before .before .before .before .before .width .ensures) (c .before .before .before .before .before .before .before .before .if2 .left)) _ _ _ _ _ (c .before .before .before .before .before .before .front-at-len .ensures) (c .before .before .before .before .before .between-at-len .ensures) (rw (c .before .before .inner-place .ensures .0, c .before .before .before .with-unvalued .ensures) at (c .before .split-operands-len .ensures)) (c .rear-at-len .ensures)
+split-len-returns-3 t c = len-split (c .before .before .before .before .before .before .before .before .before .before .before .before .before .before .before .pre .1 .0) (c .before .before .before .before .before .before .before .view-at .ensures .laidOut) _ _ (over-line _ _ (c .before .before .before .before .before .before .before .before .before .width .ensures) (c .before .before .before .before .before .before .before .before .if2 .left)) _ _ _ _ _ (c .before .before .before .before .before .before .front-at-len .ensures) (c .before .before .before .before .before .between-at-len .ensures) (rw (c .before .before .inner-place .ensures .0, c .before .before .before .with-numberless .ensures) at (c .before .split-operands-len .ensures)) (c .rear-at-len .ensures)
 
 split-operands-len-returns : (t : ℕ) → split-operands-len-lts.Need-returns (split-operands-len-claims t) (split-operands-len-at t) split-operands-len.Post
-split-operands-len-returns t c = len-none (marked (c .before .before .before .before .before .args .place .mark) (c .before .before .before .before .before .args .place .level)) (marked true (c .before .before .before .before .before .args .place .level)) (c .before .before .before .before .before .pre .1 .0) _ (c .before .before .before .before .before .pre .1 .1 .1 .0) _ _ (c .if1 .taken)
+split-operands-len-returns t c = len-none (prettyIndented (c .before .before .before .before .before .args .place .indents) (c .before .before .before .before .before .args .place .level)) (prettyIndented true (c .before .before .before .before .before .args .place .level)) (c .before .before .before .before .before .pre .1 .0) _ (c .before .before .before .before .before .pre .1 .1 .1 .0) _ _ (c .if1 .taken)
 
 split-operands-len-sub-root : (t : ℕ) → split-operands-len-lts.Need-sub-root (split-operands-len-claims t) (split-operands-len-at t) split-operands-len.Post
 split-operands-len-sub-root t c = last-operand (c .before .before .before .before .before .pre .1 .0) _ (c .before .before .before .before .before .pre .1 .1 .1 .0) (c .if1 .left) .some
@@ -136,21 +136,21 @@ split-operands-len-split-len-requires t c κs =
     (omega (arith, w .some, c .before .before .before .before .before .before .pre .0), (fewer (c .before .before .before .before .before .before .pre .1 .0) (omega (arith, w .some)), (c .before .before .before .before .before .before .pre .1 .1 .0, (c .before .before .before .before .before .before .pre .1 .1 .1 .1 .0, omega (arith, w .some, c .before .before .before .before .before .before .pre .1 .1 .1 .1 .1)))))
 
 split-operands-len-returns-2 : (t : ℕ) → split-operands-len-lts.Need-returns-2 (split-operands-len-claims t) (split-operands-len-at t) split-operands-len.Post
-split-operands-len-returns-2 t c = len-one (marked (c .before .before .before .before .before .before .before .args .place .mark) (c .before .before .before .before .before .before .before .args .place .level)) (marked true (c .before .before .before .before .before .before .before .args .place .level)) (c .before .before .before .before .before .before .before .pre .1 .0) _ (c .before .before .before .before .before .before .before .pre .1 .1 .1 .0) _ _ _ (c .before .if2 .taken) (c .split-len .ensures)
+split-operands-len-returns-2 t c = len-one (prettyIndented (c .before .before .before .before .before .before .before .args .place .indents) (c .before .before .before .before .before .before .before .args .place .level)) (prettyIndented true (c .before .before .before .before .before .before .before .args .place .level)) (c .before .before .before .before .before .before .before .pre .1 .0) _ (c .before .before .before .before .before .before .before .pre .1 .1 .1 .0) _ _ _ (c .before .if2 .taken) (c .split-len .ensures)
 
-split-operands-len-with-mark-requires : (t : ℕ) → split-operands-len-lts.Need-with-mark-requires (split-operands-len-claims t) (split-operands-len-at t) split-operands-len.Post
-split-operands-len-with-mark-requires t c κs = search needs
+split-operands-len-with-indents-requires : (t : ℕ) → split-operands-len-lts.Need-with-indents-requires (split-operands-len-claims t) (split-operands-len-at t) split-operands-len.Post
+split-operands-len-with-indents-requires t c κs = search needs
 
 split-operands-len-split-len-requires-2 : (t : ℕ) → split-operands-len-lts.Need-split-len-requires-2 (split-operands-len-claims t) (split-operands-len-at t) split-operands-len.Post
 split-operands-len-split-len-requires-2 t c κs =
     let w = last-operand (c .before .before .before .before .before .before .before .pre .1 .0) _ (c .before .before .before .before .before .before .before .pre .1 .1 .1 .0) (c .before .before .if1 .left) in
-    (omega (arith, w .some, c .before .before .before .before .before .before .before .pre .0), (fewer (c .before .before .before .before .before .before .before .pre .1 .0) (omega (arith, w .some)), (c .before .before .before .before .before .before .before .pre .1 .1 .0, rw (c .with-mark .ensures) (c .before .before .before .before .before .before .before .pre .1 .1 .1 .1 .0, omega (arith, w .some, c .before .before .before .before .before .before .before .pre .1 .1 .1 .1 .1)))))
+    (omega (arith, w .some, c .before .before .before .before .before .before .before .pre .0), (fewer (c .before .before .before .before .before .before .before .pre .1 .0) (omega (arith, w .some)), (c .before .before .before .before .before .before .before .pre .1 .1 .0, rw (c .with-indents .ensures) (c .before .before .before .before .before .before .before .pre .1 .1 .1 .1 .0, omega (arith, w .some, c .before .before .before .before .before .before .before .pre .1 .1 .1 .1 .1)))))
 
 split-operands-len-sub-left : (t : ℕ) → split-operands-len-lts.Need-sub-left (split-operands-len-claims t) (split-operands-len-at t) split-operands-len.Post
 split-operands-len-sub-left t c = omega (arith, c .split-len2 .ensures)
 
 split-operands-len-returns-3 : (t : ℕ) → split-operands-len-lts.Need-returns-3 (split-operands-len-claims t) (split-operands-len-at t) split-operands-len.Post
-split-operands-len-returns-3 t c = len-full (marked (c .before .before .before .before .before .before .before .before .before .args .place .mark) (c .before .before .before .before .before .before .before .before .before .args .place .level)) (marked true (c .before .before .before .before .before .before .before .before .before .args .place .level)) (c .before .before .before .before .before .before .before .before .before .pre .1 .0) _ (c .before .before .before .before .before .before .before .before .before .pre .1 .1 .1 .0) (c .before .before .before .before .if1 .left) (c .before .before .before .if2 .left) _ _ _ (rw (c .before .before .with-mark .ensures) at (c .before .split-len2 .ensures)) (c .if3 .taken)
+split-operands-len-returns-3 t c = len-full (prettyIndented (c .before .before .before .before .before .before .before .before .before .args .place .indents) (c .before .before .before .before .before .before .before .before .before .args .place .level)) (prettyIndented true (c .before .before .before .before .before .before .before .before .before .args .place .level)) (c .before .before .before .before .before .before .before .before .before .pre .1 .0) _ (c .before .before .before .before .before .before .before .before .before .pre .1 .1 .1 .0) (c .before .before .before .before .if1 .left) (c .before .before .before .if2 .left) _ _ _ (rw (c .before .before .with-indents .ensures) at (c .before .split-len2 .ensures)) (c .if3 .taken)
 
 split-operands-len-shared-slice-read-end : (t : ℕ) → split-operands-len-lts.Need-shared-slice-read-end (split-operands-len-claims t) (split-operands-len-at t) split-operands-len.Post
 split-operands-len-shared-slice-read-end t c = omega (arith, last-operand (c .before .before .before .before .before .before .before .before .before .before .pre .1 .0) _ (c .before .before .before .before .before .before .before .before .before .before .pre .1 .1 .1 .0) (c .before .before .before .before .before .if1 .left) .some, c .before .before .before .before .before .before .before .before .before .before .pre .1 .0 .firsts-size, c .before .before .before .before .before .before .before .before .before .before .pre .1 .0 .few)
@@ -164,13 +164,13 @@ split-operands-len-sub-fewer t c = omega (arith, c .before .before .before .befo
 split-operands-len-sub-room : (t : ℕ) → split-operands-len-lts.Need-sub-room (split-operands-len-claims t) (split-operands-len-at t) split-operands-len.Post
 split-operands-len-sub-room t c = omega (arith, c .before .if3 .left)
 
-split-operands-len-with-unvalued-requires : (t : ℕ) → split-operands-len-lts.Need-with-unvalued-requires (split-operands-len-claims t) (split-operands-len-at t) split-operands-len.Post
-split-operands-len-with-unvalued-requires t c κs = search needs
+split-operands-len-with-numberless-requires : (t : ℕ) → split-operands-len-lts.Need-with-numberless-requires (split-operands-len-claims t) (split-operands-len-at t) split-operands-len.Post
+split-operands-len-with-numberless-requires t c κs = search needs
 
 split-operands-len-split-operands-len-requires : (t : ℕ) → split-operands-len-lts.Need-split-operands-len-requires (split-operands-len-claims t) (split-operands-len-at t) split-operands-len.Post
 split-operands-len-split-operands-len-requires t c κs =
     let w = last-operand (c .before .before .before .before .before .before .before .before .before .before .before .pre .1 .0) _ (c .before .before .before .before .before .before .before .before .before .before .before .pre .1 .1 .1 .0) (c .before .before .before .before .before .before .if1 .left) in
-    (omega (arith, w .low, c .before .before .before .before .before .before .before .before .before .before .before .pre .0), (fewer (c .before .before .before .before .before .before .before .before .before .before .before .pre .1 .0) (omega (arith, w .low)), (c .before .before .before .before .before .before .before .before .before .before .before .pre .1 .1 .0, (fewer-operands (c .before .before .before .before .before .before .before .before .before .before .before .pre .1 .0) _ (c .before .before .before .before .before .before .before .before .before .before .before .pre .1 .1 .1 .0) (c .before .before .before .before .before .before .if1 .left), rw (c .with-unvalued .ensures) (unmarked _ _, omega (arith, w .low, c .before .before .before .before .before .before .before .before .before .before .before .pre .1 .1 .1 .1 .1))))))
+    (omega (arith, w .low, c .before .before .before .before .before .before .before .before .before .before .before .pre .0), (fewer (c .before .before .before .before .before .before .before .before .before .before .before .pre .1 .0) (omega (arith, w .low)), (c .before .before .before .before .before .before .before .before .before .before .before .pre .1 .1 .0, (fewer-operands (c .before .before .before .before .before .before .before .before .before .before .before .pre .1 .0) _ (c .before .before .before .before .before .before .before .before .before .before .before .pre .1 .1 .1 .0) (c .before .before .before .before .before .before .if1 .left), rw (c .with-numberless .ensures) (unmarked _ _, omega (arith, w .low, c .before .before .before .before .before .before .before .before .before .before .before .pre .1 .1 .1 .1 .1))))))
 
 split-operands-len-add-result : (t : ℕ) → split-operands-len-lts.Need-add-result (split-operands-len-claims t) (split-operands-len-at t) split-operands-len.Post
 split-operands-len-add-result t c = omega (arith, c .before .before .before .before .split-len2 .ensures, c .before .before .before .if3 .left)
@@ -179,11 +179,11 @@ split-operands-len-add-result-2 : (t : ℕ) → split-operands-len-lts.Need-add-
 split-operands-len-add-result-2 t c = omega (arith, c .before .before .before .before .split-len2 .ensures, c .before .before .before .if3 .left, c .split-operands-len .ensures .bound)
 
 split-operands-len-returns-4 : (t : ℕ) → split-operands-len-lts.Need-returns-4 (split-operands-len-claims t) (split-operands-len-at t) split-operands-len.Post
-split-operands-len-returns-4 t c = len-more (marked (c .before .before .before .before .before .before .before .before .before .before .before .before .args .place .mark) (c .before .before .before .before .before .before .before .before .before .before .before .before .args .place .level)) (marked true (c .before .before .before .before .before .before .before .before .before .before .before .before .args .place .level)) (c .before .before .before .before .before .before .before .before .before .before .before .before .pre .1 .0) _ (c .before .before .before .before .before .before .before .before .before .before .before .before .pre .1 .1 .1 .0) (c .before .before .before .before .before .before .before .if1 .left) (c .before .before .before .before .before .before .if2 .left) _ _ _ (rw (c .before .before .before .before .before .with-mark .ensures) at (c .before .before .before .before .split-len2 .ensures)) _ (c .before .before .before .if3 .left) (rw (c .before .with-unvalued .ensures) at (c .split-operands-len .ensures))
+split-operands-len-returns-4 t c = len-more (prettyIndented (c .before .before .before .before .before .before .before .before .before .before .before .before .args .place .indents) (c .before .before .before .before .before .before .before .before .before .before .before .before .args .place .level)) (prettyIndented true (c .before .before .before .before .before .before .before .before .before .before .before .before .args .place .level)) (c .before .before .before .before .before .before .before .before .before .before .before .before .pre .1 .0) _ (c .before .before .before .before .before .before .before .before .before .before .before .before .pre .1 .1 .1 .0) (c .before .before .before .before .before .before .before .if1 .left) (c .before .before .before .before .before .before .if2 .left) _ _ _ (rw (c .before .before .before .before .before .with-indents .ensures) at (c .before .before .before .before .split-len2 .ensures)) _ (c .before .before .before .if3 .left) (rw (c .before .with-numberless .ensures) at (c .split-operands-len .ensures))
 
 pub +split-len+split-operands-len-spec : {M : Type 1} → statement M
 +split-len+split-operands-len-spec = close μ-split-len μ-split-operands-len
     (λ t. split-len-lts.spec (split-len-claims t) (split-len-at t) split-len.Post
-    (split-len-returns t) (split-len-width-requires t) (split-len-indent-len-requires t) (split-len-capped-add-requires t) (split-len-returns-2 t) (split-len-view-at-requires t) (split-len-front-at-len-requires t) (split-len-sub-left t) (split-len-between-at-len-requires t) (split-len-is-minus-requires t) (split-len-with-unvalued-requires t) (split-len-inner-place-requires t) (split-len-split-operands-len-requires t) (split-len-sub-rear-at-len t) (split-len-rear-at-len-requires t) (split-len-add-result t) (split-len-add-result-2 t) (split-len-returns-3 t))
+    (split-len-returns t) (split-len-width-requires t) (split-len-indent-len-requires t) (split-len-capped-add-requires t) (split-len-returns-2 t) (split-len-view-at-requires t) (split-len-front-at-len-requires t) (split-len-sub-left t) (split-len-between-at-len-requires t) (split-len-is-minus-requires t) (split-len-with-numberless-requires t) (split-len-inner-place-requires t) (split-len-split-operands-len-requires t) (split-len-sub-rear-at-len t) (split-len-rear-at-len-requires t) (split-len-add-result t) (split-len-add-result-2 t) (split-len-returns-3 t))
     (λ t. split-operands-len-lts.spec (split-operands-len-claims t) (split-operands-len-at t) split-operands-len.Post
-    (split-operands-len-returns t) (split-operands-len-sub-root t) (split-operands-len-split-len-requires t) (split-operands-len-returns-2 t) (split-operands-len-with-mark-requires t) (split-operands-len-split-len-requires-2 t) (split-operands-len-sub-left t) (split-operands-len-returns-3 t) (split-operands-len-shared-slice-read-end t) (split-operands-len-cast-end t) (split-operands-len-sub-fewer t) (split-operands-len-sub-room t) (split-operands-len-with-unvalued-requires t) (split-operands-len-split-operands-len-requires t) (split-operands-len-add-result t) (split-operands-len-add-result-2 t) (split-operands-len-returns-4 t))
+    (split-operands-len-returns t) (split-operands-len-sub-root t) (split-operands-len-split-len-requires t) (split-operands-len-returns-2 t) (split-operands-len-with-indents-requires t) (split-operands-len-split-len-requires-2 t) (split-operands-len-sub-left t) (split-operands-len-returns-3 t) (split-operands-len-shared-slice-read-end t) (split-operands-len-cast-end t) (split-operands-len-sub-fewer t) (split-operands-len-sub-room t) (split-operands-len-with-numberless-requires t) (split-operands-len-split-operands-len-requires t) (split-operands-len-add-result t) (split-operands-len-add-result-2 t) (split-operands-len-returns-4 t))

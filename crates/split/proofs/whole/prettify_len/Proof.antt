@@ -1,6 +1,6 @@
 -- `split::whole::prettify_len` meets its contract: a whole query stands at level 0, its first line indented. Assumes nothing.
 use Rattle.view.proofs.ViewLaws.{unmarked}
-use Rattle.text.specs.Layout.{marked}
+use Rattle.text.specs.Layout.{prettyIndented}
 use native.Mathlib.Omega.{arith}
 use Rattle.split.proofs.whole.prettify_len.Statement.{statement}
 use Rattle.split.proofs.whole.prettify_len.Tie as tie
@@ -9,7 +9,7 @@ split-len-requires : tie.Need-split-len-requires
 split-len-requires c κs = (c .before .before .before .before .pre .0, (c .before .before .before .before .pre .1, (unmarked _ _, omega (arith, c .before .before .before .before .pre .0 .few))))
 
 returns : tie.Need-returns
-unfolding marked
+unfolding prettyIndented
 returns c = c .split-len .ensures
 
 pub prettify-len-spec : {M : Type 1} → statement M

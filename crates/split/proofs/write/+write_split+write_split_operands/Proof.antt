@@ -1,13 +1,13 @@
 -- The proof of the cycle {write_split, write_split_operands}: each text is a run of pieces, written one after the other. The measures are those
 -- of the lengths. Assumes nothing.
 use Rattle.split.proofs.SplitLaws.{fits-line, over-line, run-line, run-split}
-use Rattle.view.proofs.NodeLaws.{minus-unvalued}
+use Rattle.view.proofs.NodeLaws.{minus-numberless}
 use Rattle.view.proofs.ViewLaws.{starts-of, unmarked}
 use Rattle.view.specs.View.{layoutAt}
 use Rattle.text.proofs.WriteLaws.{wrote-nothing, wrote-as, text-none, text-one, run-more}
 use Rattle.text.proofs.LengthLaws.{last-operand, fewer-operands}
 use Rattle.text.proofs.OperandLaws.{fewer}
-use Rattle.text.specs.Layout.{betweenAt, innerMark, innerLevel, marked}
+use Rattle.text.specs.Layout.{betweenAt, innerIndents, innerLevel, prettyIndented}
 use Rattle.base.specs.Splice.{fits, next, end}
 use lib.ListN.{length}
 use Prim.Native.Nat.{_+_, _-_}
@@ -31,8 +31,8 @@ use Rattle.indented.proofs.put_indent.Reads as put-indent-reads
 use Rattle.indented.proofs.put_rear_at.Reads as put-rear-at-reads
 use Rattle.measure.proofs.width.Reads as width-reads
 use Rattle.split.proofs.place.inner_place.Reads as inner-place-reads
-use Rattle.split.proofs.place.with_mark.Reads as with-mark-reads
-use Rattle.split.proofs.place.with_unvalued.Reads as with-unvalued-reads
+use Rattle.split.proofs.place.with_indents.Reads as with-indents-reads
+use Rattle.split.proofs.place.with_numberless.Reads as with-numberless-reads
 use Rattle.view.proofs.is_minus.Reads as is-minus-reads
 use Rattle.view.proofs.view_at.Reads as view-at-reads
 use Rattle.split.proofs.write.+write_split+write_split_operands.{statement}
@@ -69,10 +69,10 @@ write-split-operands-below t =
     write-split-operands.Pre
 
 abbrev write-split-claims : ℕ → write-split-lts.Claims
-write-split-claims t = (width-reads.Asked, width-reads.Learnt, put-indent-reads.Asked, put-indent-reads.Learnt, write-text-reads.Asked, write-text-reads.Learnt, view-at-reads.Asked, view-at-reads.Learnt, is-minus-reads.Asked, is-minus-reads.Learnt, with-unvalued-reads.Asked, with-unvalued-reads.Learnt, put-front-at-reads.Asked, put-front-at-reads.Learnt, write-split-operands-below t, write-split-operands.Post, put-rear-at-reads.Asked, put-rear-at-reads.Learnt)
+write-split-claims t = (width-reads.Asked, width-reads.Learnt, put-indent-reads.Asked, put-indent-reads.Learnt, write-text-reads.Asked, write-text-reads.Learnt, view-at-reads.Asked, view-at-reads.Learnt, is-minus-reads.Asked, is-minus-reads.Learnt, with-numberless-reads.Asked, with-numberless-reads.Learnt, put-front-at-reads.Asked, put-front-at-reads.Learnt, write-split-operands-below t, write-split-operands.Post, put-rear-at-reads.Asked, put-rear-at-reads.Learnt)
 
 abbrev write-split-operands-claims : ℕ → write-split-operands-lts.Claims
-write-split-operands-claims t = (inner-place-reads.Asked, inner-place-reads.Learnt, write-split-below t, write-split.Post, with-unvalued-reads.Asked, with-unvalued-reads.Learnt, write-split-operands-below t, write-split-operands.Post, put-between-at-reads.Asked, put-between-at-reads.Learnt, with-mark-reads.Asked, with-mark-reads.Learnt)
+write-split-operands-claims t = (inner-place-reads.Asked, inner-place-reads.Learnt, write-split-below t, write-split.Post, with-numberless-reads.Asked, with-numberless-reads.Learnt, write-split-operands-below t, write-split-operands.Post, put-between-at-reads.Asked, put-between-at-reads.Learnt, with-indents-reads.Asked, with-indents-reads.Learnt)
 
 write-split-width-requires : (t : ℕ) → write-split-lts.Need-width-requires (write-split-claims t) (write-split-at t) write-split.Post
 write-split-width-requires t c κs = (c .before .before .before .before .before .pre .1 .0, (c .before .before .before .before .before .pre .1 .1 .0, c .before .before .before .before .before .pre .1 .1 .1 .0))
@@ -95,31 +95,31 @@ write-split-view-at-requires t c κs = (starts-of (c .before .before .before .be
 write-split-is-minus-requires : (t : ℕ) → write-split-lts.Need-is-minus-requires (write-split-claims t) (write-split-at t) write-split.Post
 write-split-is-minus-requires t c κs = search needs
 
-write-split-with-unvalued-requires : (t : ℕ) → write-split-lts.Need-with-unvalued-requires (write-split-claims t) (write-split-at t) write-split.Post
-write-split-with-unvalued-requires t c κs = search needs
+write-split-with-numberless-requires : (t : ℕ) → write-split-lts.Need-with-numberless-requires (write-split-claims t) (write-split-at t) write-split.Post
+write-split-with-numberless-requires t c κs = search needs
 
 write-split-put-front-at-requires : (t : ℕ) → write-split-lts.Need-put-front-at-requires (write-split-claims t) (write-split-at t) write-split.Post
-write-split-put-front-at-requires t c κs = (c .before .before .before .view-at .ensures .stands, fits (run-split (c .before .before .before .before .before .before .before .before .before .before .before .pre .1 .0) (c .before .before .before .view-at .ensures .seen) _ _ (over-line _ _ (c .before .before .before .before .before .width .ensures) (c .before .before .before .before .if1 .left)) (c .before .before .before .before .before .before .before .before .before .before .before .args .out .now) (c .before .before .before .before .before .before .before .before .before .before .before .args .at) (c .before .before .before .before .before .before .before .before .before .before .before .pre .1 .1 .1 .1 .1)))
+write-split-put-front-at-requires t c κs = (c .before .before .before .view-at .ensures .stands, fits (run-split (c .before .before .before .before .before .before .before .before .before .before .before .pre .1 .0) (c .before .before .before .view-at .ensures .laidOut) _ _ (over-line _ _ (c .before .before .before .before .before .width .ensures) (c .before .before .before .before .if1 .left)) (c .before .before .before .before .before .before .before .before .before .before .before .args .out .now) (c .before .before .before .before .before .before .before .before .before .before .before .args .at) (c .before .before .before .before .before .before .before .before .before .before .before .pre .1 .1 .1 .1 .1)))
 
 write-split-write-split-operands-requires : (t : ℕ) → write-split-lts.Need-write-split-operands-requires (write-split-claims t) (write-split-at t) write-split.Post
 write-split-write-split-operands-requires t c κs =
-    let seen = c .before .before .before .before .before .before .before .view-at .ensures .seen in
-    let run = next (run-split (c .before .before .before .before .before .before .before .before .before .before .before .before .before .before .before .pre .1 .0) seen _ _ (over-line _ _ (c .before .before .before .before .before .before .before .before .before .width .ensures) (c .before .before .before .before .before .before .before .before .if1 .left)) (c .before .before .before .before .before .before .before .before .before .before .before .before .before .before .before .args .out .now) (c .before .before .before .before .before .before .before .before .before .before .before .before .before .before .before .args .at) (c .before .before .before .before .before .before .before .before .before .before .before .before .before .before .before .pre .1 .1 .1 .1 .1)) (c .before .before .before .put-front-at .ensures) in
-    (omega (arith, seen .low, c .before .before .before .before .before .before .before .before .before .before .before .before .before .before .before .pre .0), (fewer (c .before .before .before .before .before .before .before .before .before .before .before .before .before .before .before .pre .1 .0) (omega (arith, seen .low)), (c .before .before .before .before .before .before .before .before .before .before .before .before .before .before .before .pre .1 .1 .0, (c .before .before .before .before .before .before .before .view-at .ensures .stands, (seen .enough, rw (c .before .before .before .before .before .with-unvalued .ensures, c .before .before .before .before .before .before .is-minus .ensures) (minus-unvalued (c .before .before .before .before .before .before .before .view-at .ensures), (omega (arith, seen .low, c .before .before .before .before .before .before .before .before .before .before .before .before .before .before .before .pre .1 .1 .1 .1 .0), fits run)))))))
+    let laidOut = c .before .before .before .before .before .before .before .view-at .ensures .laidOut in
+    let run = next (run-split (c .before .before .before .before .before .before .before .before .before .before .before .before .before .before .before .pre .1 .0) laidOut _ _ (over-line _ _ (c .before .before .before .before .before .before .before .before .before .width .ensures) (c .before .before .before .before .before .before .before .before .if1 .left)) (c .before .before .before .before .before .before .before .before .before .before .before .before .before .before .before .args .out .now) (c .before .before .before .before .before .before .before .before .before .before .before .before .before .before .before .args .at) (c .before .before .before .before .before .before .before .before .before .before .before .before .before .before .before .pre .1 .1 .1 .1 .1)) (c .before .before .before .put-front-at .ensures) in
+    (omega (arith, laidOut .low, c .before .before .before .before .before .before .before .before .before .before .before .before .before .before .before .pre .0), (fewer (c .before .before .before .before .before .before .before .before .before .before .before .before .before .before .before .pre .1 .0) (omega (arith, laidOut .low)), (c .before .before .before .before .before .before .before .before .before .before .before .before .before .before .before .pre .1 .1 .0, (c .before .before .before .before .before .before .before .view-at .ensures .stands, (laidOut .enough, rw (c .before .before .before .before .before .with-numberless .ensures, c .before .before .before .before .before .before .is-minus .ensures) (minus-numberless (c .before .before .before .before .before .before .before .view-at .ensures), (omega (arith, laidOut .low, c .before .before .before .before .before .before .before .before .before .before .before .before .before .before .before .pre .1 .1 .1 .1 .0), fits run)))))))
 
 write-split-put-rear-at-requires : (t : ℕ) → write-split-lts.Need-put-rear-at-requires (write-split-claims t) (write-split-at t) write-split.Post
-write-split-put-rear-at-requires t c κs = (c .before .before .before .before .before .before .before .before .before .before .before .view-at .ensures .stands, fits (next (next (run-split (c .before .before .before .before .before .before .before .before .before .before .before .before .before .before .before .before .before .before .before .pre .1 .0) (c .before .before .before .before .before .before .before .before .before .before .before .view-at .ensures .seen) _ _ (over-line _ _ (c .before .before .before .before .before .before .before .before .before .before .before .before .before .width .ensures) (c .before .before .before .before .before .before .before .before .before .before .before .before .if1 .left)) (c .before .before .before .before .before .before .before .before .before .before .before .before .before .before .before .before .before .before .before .args .out .now) (c .before .before .before .before .before .before .before .before .before .before .before .before .before .before .before .before .before .before .before .args .at) (c .before .before .before .before .before .before .before .before .before .before .before .before .before .before .before .before .before .before .before .pre .1 .1 .1 .1 .1)) (c .before .before .before .before .before .before .before .put-front-at .ensures)) (rw (c .before .before .before .before .before .before .before .before .before .with-unvalued .ensures) at (c .before .before .before .write-split-operands .ensures))))
+write-split-put-rear-at-requires t c κs = (c .before .before .before .before .before .before .before .before .before .before .before .view-at .ensures .stands, fits (next (next (run-split (c .before .before .before .before .before .before .before .before .before .before .before .before .before .before .before .before .before .before .before .pre .1 .0) (c .before .before .before .before .before .before .before .before .before .before .before .view-at .ensures .laidOut) _ _ (over-line _ _ (c .before .before .before .before .before .before .before .before .before .before .before .before .before .width .ensures) (c .before .before .before .before .before .before .before .before .before .before .before .before .if1 .left)) (c .before .before .before .before .before .before .before .before .before .before .before .before .before .before .before .before .before .before .before .args .out .now) (c .before .before .before .before .before .before .before .before .before .before .before .before .before .before .before .before .before .before .before .args .at) (c .before .before .before .before .before .before .before .before .before .before .before .before .before .before .before .before .before .before .before .pre .1 .1 .1 .1 .1)) (c .before .before .before .before .before .before .before .put-front-at .ensures)) (rw (c .before .before .before .before .before .before .before .before .before .with-numberless .ensures) at (c .before .before .before .write-split-operands .ensures))))
 
 write-split-same-length-2 : (t : ℕ) → write-split-lts.Need-same-length-2 (write-split-claims t) (write-split-at t) write-split.Post
 write-split-same-length-2 t c = c .before .before .put-rear-at .kept .1 .1 .1 .1 .0 ∙ c .before .before .before .before .before .before .write-split-operands .kept .1 .1 .1 .1 .1 .1 .1 .1 .0 ∙ c .before .before .before .before .before .before .before .before .before .before .put-front-at .kept .1 .1 .1 .1 .1 .0
 
 write-split-returns-2 : (t : ℕ) → write-split-lts.Need-returns-2 (write-split-claims t) (write-split-at t) write-split.Post
-write-split-returns-2 t c = end (next (next (next (run-split (c .before .before .before .before .before .before .before .before .before .before .before .before .before .before .before .before .before .before .before .before .before .before .pre .1 .0) (c .before .before .before .before .before .before .before .before .before .before .before .before .before .before .view-at .ensures .seen) _ _ (over-line _ _ (c .before .before .before .before .before .before .before .before .before .before .before .before .before .before .before .before .width .ensures) (c .before .before .before .before .before .before .before .before .before .before .before .before .before .before .before .if1 .left)) (c .before .before .before .before .before .before .before .before .before .before .before .before .before .before .before .before .before .before .before .before .before .before .args .out .now) (c .before .before .before .before .before .before .before .before .before .before .before .before .before .before .before .before .before .before .before .before .before .before .args .at) (c .before .before .before .before .before .before .before .before .before .before .before .before .before .before .before .before .before .before .before .before .before .before .pre .1 .1 .1 .1 .1)) (c .before .before .before .before .before .before .before .before .before .before .put-front-at .ensures)) (rw (c .before .before .before .before .before .before .before .before .before .before .before .before .with-unvalued .ensures) at (c .before .before .before .before .before .before .write-split-operands .ensures))) (c .before .before .put-rear-at .ensures))
+write-split-returns-2 t c = end (next (next (next (run-split (c .before .before .before .before .before .before .before .before .before .before .before .before .before .before .before .before .before .before .before .before .before .before .pre .1 .0) (c .before .before .before .before .before .before .before .before .before .before .before .before .before .before .view-at .ensures .laidOut) _ _ (over-line _ _ (c .before .before .before .before .before .before .before .before .before .before .before .before .before .before .before .before .width .ensures) (c .before .before .before .before .before .before .before .before .before .before .before .before .before .before .before .if1 .left)) (c .before .before .before .before .before .before .before .before .before .before .before .before .before .before .before .before .before .before .before .before .before .before .args .out .now) (c .before .before .before .before .before .before .before .before .before .before .before .before .before .before .before .before .before .before .before .before .before .before .args .at) (c .before .before .before .before .before .before .before .before .before .before .before .before .before .before .before .before .before .before .before .before .before .before .pre .1 .1 .1 .1 .1)) (c .before .before .before .before .before .before .before .before .before .before .put-front-at .ensures)) (rw (c .before .before .before .before .before .before .before .before .before .before .before .before .with-numberless .ensures) at (c .before .before .before .before .before .before .write-split-operands .ensures))) (c .before .before .put-rear-at .ensures))
 
 write-split-operands-returns : (t : ℕ) → write-split-operands-lts.Need-returns (write-split-operands-claims t) (write-split-operands-at t) write-split-operands.Post
 write-split-operands-returns t c =
     let own = layoutAt (c .before .before .before .before .before .before .args .page .now) (c .before .before .before .before .before .before .args .own) in
-    wrote-nothing _ _ (text-none (marked (innerMark (c .before .before .before .before .before .before .args .place .mark) own) (innerLevel (c .before .before .before .before .before .before .args .place .level) own)) (marked true (innerLevel (c .before .before .before .before .before .before .args .place .level) own)) (c .before .before .before .before .before .before .pre .1 .0) _ (c .before .before .before .before .before .before .pre .1 .1 .1 .1 .0) (betweenAt (c .before .before .before .before .before .before .args .place .level) own) (c .if1 .taken))
+    wrote-nothing _ _ (text-none (prettyIndented (innerIndents (c .before .before .before .before .before .before .args .place .indents) own) (innerLevel (c .before .before .before .before .before .before .args .place .level) own)) (prettyIndented true (innerLevel (c .before .before .before .before .before .before .args .place .level) own)) (c .before .before .before .before .before .before .pre .1 .0) _ (c .before .before .before .before .before .before .pre .1 .1 .1 .1 .0) (betweenAt (c .before .before .before .before .before .before .args .place .level) own) (c .if1 .taken))
 
 write-split-operands-sub-root : (t : ℕ) → write-split-operands-lts.Need-sub-root (write-split-operands-claims t) (write-split-operands-at t) write-split-operands.Post
 write-split-operands-sub-root t c = last-operand (c .before .before .before .before .before .before .pre .1 .0) _ (c .before .before .before .before .before .before .pre .1 .1 .1 .1 .0) (c .if1 .left) .some
@@ -131,7 +131,7 @@ write-split-operands-write-split-requires : (t : ℕ) → write-split-operands-l
 write-split-operands-write-split-requires t c κs =
     let w = last-operand (c .before .before .before .before .before .before .before .before .before .pre .1 .0) _ (c .before .before .before .before .before .before .before .before .before .pre .1 .1 .1 .1 .0) (c .before .before .before .if1 .left) in
     let own = layoutAt (c .before .before .before .before .before .before .before .before .before .args .page .now) (c .before .before .before .before .before .before .before .before .before .args .own) in
-    let one = text-one (marked (innerMark (c .before .before .before .before .before .before .before .before .before .args .place .mark) own) (innerLevel (c .before .before .before .before .before .before .before .before .before .args .place .level) own)) (marked true (innerLevel (c .before .before .before .before .before .before .before .before .before .args .place .level) own)) (c .before .before .before .before .before .before .before .before .before .pre .1 .0) _ (c .before .before .before .before .before .before .before .before .before .pre .1 .1 .1 .1 .0) (betweenAt (c .before .before .before .before .before .before .before .before .before .args .place .level) own) (c .before .if2 .taken) in
+    let one = text-one (prettyIndented (innerIndents (c .before .before .before .before .before .before .before .before .before .args .place .indents) own) (innerLevel (c .before .before .before .before .before .before .before .before .before .args .place .level) own)) (prettyIndented true (innerLevel (c .before .before .before .before .before .before .before .before .before .args .place .level) own)) (c .before .before .before .before .before .before .before .before .before .pre .1 .0) _ (c .before .before .before .before .before .before .before .before .before .pre .1 .1 .1 .1 .0) (betweenAt (c .before .before .before .before .before .before .before .before .before .args .place .level) own) (c .before .if2 .taken) in
     (omega (arith, w .some, c .before .before .before .before .before .before .before .before .before .pre .0), (fewer (c .before .before .before .before .before .before .before .before .before .pre .1 .0) (omega (arith, w .some)), (c .before .before .before .before .before .before .before .before .before .pre .1 .1 .0, (rw (c .before .before .inner-place .ensures .0) (c .before .before .before .before .before .before .before .before .before .pre .1 .1 .1 .1 .1 .0), (omega (arith, w .some, c .before .before .before .before .before .before .before .before .before .pre .1 .1 .1 .1 .1 .1 .0, c .before .before .inner-place .ensures .1), rw (c .before .before .inner-place .ensures .0) (omega (arith, ap length one, c .before .before .before .before .before .before .before .before .before .pre .1 .1 .1 .1 .1 .1 .1)))))))
 
 write-split-operands-same-length : (t : ℕ) → write-split-operands-lts.Need-same-length (write-split-operands-claims t) (write-split-operands-at t) write-split-operands.Post
@@ -140,7 +140,7 @@ write-split-operands-same-length t c = c .before .before .write-split .kept .1 .
 write-split-operands-returns-2 : (t : ℕ) → write-split-operands-lts.Need-returns-2 (write-split-operands-claims t) (write-split-operands-at t) write-split-operands.Post
 write-split-operands-returns-2 t c =
     let own = layoutAt (c .before .before .before .before .before .before .before .before .before .before .before .before .args .page .now) (c .before .before .before .before .before .before .before .before .before .before .before .before .args .own) in
-    let one = text-one (marked (innerMark (c .before .before .before .before .before .before .before .before .before .before .before .before .args .place .mark) own) (innerLevel (c .before .before .before .before .before .before .before .before .before .before .before .before .args .place .level) own)) (marked true (innerLevel (c .before .before .before .before .before .before .before .before .before .before .before .before .args .place .level) own)) (c .before .before .before .before .before .before .before .before .before .before .before .before .pre .1 .0) _ (c .before .before .before .before .before .before .before .before .before .before .before .before .pre .1 .1 .1 .1 .0) (betweenAt (c .before .before .before .before .before .before .before .before .before .before .before .before .args .place .level) own) (c .before .before .before .before .if2 .taken) in
+    let one = text-one (prettyIndented (innerIndents (c .before .before .before .before .before .before .before .before .before .before .before .before .args .place .indents) own) (innerLevel (c .before .before .before .before .before .before .before .before .before .before .before .before .args .place .level) own)) (prettyIndented true (innerLevel (c .before .before .before .before .before .before .before .before .before .before .before .before .args .place .level) own)) (c .before .before .before .before .before .before .before .before .before .before .before .before .pre .1 .0) _ (c .before .before .before .before .before .before .before .before .before .before .before .before .pre .1 .1 .1 .1 .0) (betweenAt (c .before .before .before .before .before .before .before .before .before .before .before .before .args .place .level) own) (c .before .before .before .before .if2 .taken) in
     wrote-as one (rw (c .before .before .before .before .before .inner-place .ensures .0) at (c .before .before .write-split .ensures))
 
 write-split-operands-shared-slice-read-end : (t : ℕ) → write-split-operands-lts.Need-shared-slice-read-end (write-split-operands-claims t) (write-split-operands-at t) write-split-operands.Post
@@ -152,31 +152,31 @@ write-split-operands-cast-end t c = omega (arith, c .shared-slice-known5 .given 
 write-split-operands-sub-fewer : (t : ℕ) → write-split-operands-lts.Need-sub-fewer (write-split-operands-claims t) (write-split-operands-at t) write-split-operands.Post
 write-split-operands-sub-fewer t c = omega (arith, c .before .before .before .if1 .left)
 
-write-split-operands-with-unvalued-requires : (t : ℕ) → write-split-operands-lts.Need-with-unvalued-requires (write-split-operands-claims t) (write-split-operands-at t) write-split-operands.Post
-write-split-operands-with-unvalued-requires t c κs = search needs
+write-split-operands-with-numberless-requires : (t : ℕ) → write-split-operands-lts.Need-with-numberless-requires (write-split-operands-claims t) (write-split-operands-at t) write-split-operands.Post
+write-split-operands-with-numberless-requires t c κs = search needs
 
 write-split-operands-write-split-operands-requires : (t : ℕ) → write-split-operands-lts.Need-write-split-operands-requires (write-split-operands-claims t) (write-split-operands-at t) write-split-operands.Post
 write-split-operands-write-split-operands-requires t c κs =
     let w = last-operand (c .before .before .before .before .before .before .before .before .before .before .before .pre .1 .0) _ (c .before .before .before .before .before .before .before .before .before .before .before .pre .1 .1 .1 .1 .0) (c .before .before .before .before .before .if1 .left) in
     let own = layoutAt (c .before .before .before .before .before .before .before .before .before .before .before .args .page .now) (c .before .before .before .before .before .before .before .before .before .before .before .args .own) in
-    let run = run-more (marked (innerMark (c .before .before .before .before .before .before .before .before .before .before .before .args .place .mark) own) (innerLevel (c .before .before .before .before .before .before .before .before .before .before .before .args .place .level) own)) (marked true (innerLevel (c .before .before .before .before .before .before .before .before .before .before .before .args .place .level) own)) (c .before .before .before .before .before .before .before .before .before .before .before .pre .1 .0) _ (c .before .before .before .before .before .before .before .before .before .before .before .pre .1 .1 .1 .1 .0) (betweenAt (c .before .before .before .before .before .before .before .before .before .before .before .args .place .level) own) (c .before .before .before .before .before .if1 .left) (c .before .before .before .if2 .left) (c .before .before .before .before .before .before .before .before .before .before .before .args .out .now) (c .before .before .before .before .before .before .before .before .before .before .before .args .at) (c .before .before .before .before .before .before .before .before .before .before .before .pre .1 .1 .1 .1 .1 .1 .1) in
-    (omega (arith, w .low, c .before .before .before .before .before .before .before .before .before .before .before .pre .0), (fewer (c .before .before .before .before .before .before .before .before .before .before .before .pre .1 .0) (omega (arith, w .low)), (c .before .before .before .before .before .before .before .before .before .before .before .pre .1 .1 .0, (c .before .before .before .before .before .before .before .before .before .before .before .pre .1 .1 .1 .0, (fewer-operands (c .before .before .before .before .before .before .before .before .before .before .before .pre .1 .0) _ (c .before .before .before .before .before .before .before .before .before .before .before .pre .1 .1 .1 .1 .0) (c .before .before .before .before .before .if1 .left), rw (c .before .with-unvalued .ensures) (unmarked _ _, (omega (arith, w .low, c .before .before .before .before .before .before .before .before .before .before .before .pre .1 .1 .1 .1 .1 .1 .0), fits run)))))))
+    let run = run-more (prettyIndented (innerIndents (c .before .before .before .before .before .before .before .before .before .before .before .args .place .indents) own) (innerLevel (c .before .before .before .before .before .before .before .before .before .before .before .args .place .level) own)) (prettyIndented true (innerLevel (c .before .before .before .before .before .before .before .before .before .before .before .args .place .level) own)) (c .before .before .before .before .before .before .before .before .before .before .before .pre .1 .0) _ (c .before .before .before .before .before .before .before .before .before .before .before .pre .1 .1 .1 .1 .0) (betweenAt (c .before .before .before .before .before .before .before .before .before .before .before .args .place .level) own) (c .before .before .before .before .before .if1 .left) (c .before .before .before .if2 .left) (c .before .before .before .before .before .before .before .before .before .before .before .args .out .now) (c .before .before .before .before .before .before .before .before .before .before .before .args .at) (c .before .before .before .before .before .before .before .before .before .before .before .pre .1 .1 .1 .1 .1 .1 .1) in
+    (omega (arith, w .low, c .before .before .before .before .before .before .before .before .before .before .before .pre .0), (fewer (c .before .before .before .before .before .before .before .before .before .before .before .pre .1 .0) (omega (arith, w .low)), (c .before .before .before .before .before .before .before .before .before .before .before .pre .1 .1 .0, (c .before .before .before .before .before .before .before .before .before .before .before .pre .1 .1 .1 .0, (fewer-operands (c .before .before .before .before .before .before .before .before .before .before .before .pre .1 .0) _ (c .before .before .before .before .before .before .before .before .before .before .before .pre .1 .1 .1 .1 .0) (c .before .before .before .before .before .if1 .left), rw (c .before .with-numberless .ensures) (unmarked _ _, (omega (arith, w .low, c .before .before .before .before .before .before .before .before .before .before .before .pre .1 .1 .1 .1 .1 .1 .0), fits run)))))))
 
 write-split-operands-put-between-at-requires : (t : ℕ) → write-split-operands-lts.Need-put-between-at-requires (write-split-operands-claims t) (write-split-operands-at t) write-split-operands.Post
 write-split-operands-put-between-at-requires t c κs =
     let own = layoutAt (c .before .before .before .before .before .before .before .before .before .before .before .before .before .before .before .args .page .now) (c .before .before .before .before .before .before .before .before .before .before .before .before .before .before .before .args .own) in
-    let run = run-more (marked (innerMark (c .before .before .before .before .before .before .before .before .before .before .before .before .before .before .before .args .place .mark) own) (innerLevel (c .before .before .before .before .before .before .before .before .before .before .before .before .before .before .before .args .place .level) own)) (marked true (innerLevel (c .before .before .before .before .before .before .before .before .before .before .before .before .before .before .before .args .place .level) own)) (c .before .before .before .before .before .before .before .before .before .before .before .before .before .before .before .pre .1 .0) _ (c .before .before .before .before .before .before .before .before .before .before .before .before .before .before .before .pre .1 .1 .1 .1 .0) (betweenAt (c .before .before .before .before .before .before .before .before .before .before .before .before .before .before .before .args .place .level) own) (c .before .before .before .before .before .before .before .before .before .if1 .left) (c .before .before .before .before .before .before .before .if2 .left) (c .before .before .before .before .before .before .before .before .before .before .before .before .before .before .before .args .out .now) (c .before .before .before .before .before .before .before .before .before .before .before .before .before .before .before .args .at) (c .before .before .before .before .before .before .before .before .before .before .before .before .before .before .before .pre .1 .1 .1 .1 .1 .1 .1) in
-    (c .before .before .before .before .before .before .before .before .before .before .before .before .before .before .before .pre .1 .1 .1 .0, fits (next run (rw (c .before .before .before .before .before .with-unvalued .ensures) at (c .before .before .before .write-split-operands .ensures))))
+    let run = run-more (prettyIndented (innerIndents (c .before .before .before .before .before .before .before .before .before .before .before .before .before .before .before .args .place .indents) own) (innerLevel (c .before .before .before .before .before .before .before .before .before .before .before .before .before .before .before .args .place .level) own)) (prettyIndented true (innerLevel (c .before .before .before .before .before .before .before .before .before .before .before .before .before .before .before .args .place .level) own)) (c .before .before .before .before .before .before .before .before .before .before .before .before .before .before .before .pre .1 .0) _ (c .before .before .before .before .before .before .before .before .before .before .before .before .before .before .before .pre .1 .1 .1 .1 .0) (betweenAt (c .before .before .before .before .before .before .before .before .before .before .before .before .before .before .before .args .place .level) own) (c .before .before .before .before .before .before .before .before .before .if1 .left) (c .before .before .before .before .before .before .before .if2 .left) (c .before .before .before .before .before .before .before .before .before .before .before .before .before .before .before .args .out .now) (c .before .before .before .before .before .before .before .before .before .before .before .before .before .before .before .args .at) (c .before .before .before .before .before .before .before .before .before .before .before .before .before .before .before .pre .1 .1 .1 .1 .1 .1 .1) in
+    (c .before .before .before .before .before .before .before .before .before .before .before .before .before .before .before .pre .1 .1 .1 .0, fits (next run (rw (c .before .before .before .before .before .with-numberless .ensures) at (c .before .before .before .write-split-operands .ensures))))
 
-write-split-operands-with-mark-requires : (t : ℕ) → write-split-operands-lts.Need-with-mark-requires (write-split-operands-claims t) (write-split-operands-at t) write-split-operands.Post
-write-split-operands-with-mark-requires t c κs = search needs
+write-split-operands-with-indents-requires : (t : ℕ) → write-split-operands-lts.Need-with-indents-requires (write-split-operands-claims t) (write-split-operands-at t) write-split-operands.Post
+write-split-operands-with-indents-requires t c κs = search needs
 
 write-split-operands-write-split-requires-2 : (t : ℕ) → write-split-operands-lts.Need-write-split-requires-2 (write-split-operands-claims t) (write-split-operands-at t) write-split-operands.Post
 write-split-operands-write-split-requires-2 t c κs =
     let w = last-operand (c .before .before .before .before .before .before .before .before .before .before .before .before .before .before .before .before .before .before .before .before .pre .1 .0) _ (c .before .before .before .before .before .before .before .before .before .before .before .before .before .before .before .before .before .before .before .before .pre .1 .1 .1 .1 .0) (c .before .before .before .before .before .before .before .before .before .before .before .before .before .before .if1 .left) in
     let own = layoutAt (c .before .before .before .before .before .before .before .before .before .before .before .before .before .before .before .before .before .before .before .before .args .page .now) (c .before .before .before .before .before .before .before .before .before .before .before .before .before .before .before .before .before .before .before .before .args .own) in
-    let run = run-more (marked (innerMark (c .before .before .before .before .before .before .before .before .before .before .before .before .before .before .before .before .before .before .before .before .args .place .mark) own) (innerLevel (c .before .before .before .before .before .before .before .before .before .before .before .before .before .before .before .before .before .before .before .before .args .place .level) own)) (marked true (innerLevel (c .before .before .before .before .before .before .before .before .before .before .before .before .before .before .before .before .before .before .before .before .args .place .level) own)) (c .before .before .before .before .before .before .before .before .before .before .before .before .before .before .before .before .before .before .before .before .pre .1 .0) _ (c .before .before .before .before .before .before .before .before .before .before .before .before .before .before .before .before .before .before .before .before .pre .1 .1 .1 .1 .0) (betweenAt (c .before .before .before .before .before .before .before .before .before .before .before .before .before .before .before .before .before .before .before .before .args .place .level) own) (c .before .before .before .before .before .before .before .before .before .before .before .before .before .before .if1 .left) (c .before .before .before .before .before .before .before .before .before .before .before .before .if2 .left) (c .before .before .before .before .before .before .before .before .before .before .before .before .before .before .before .before .before .before .before .before .args .out .now) (c .before .before .before .before .before .before .before .before .before .before .before .before .before .before .before .before .before .before .before .before .args .at) (c .before .before .before .before .before .before .before .before .before .before .before .before .before .before .before .before .before .before .before .before .pre .1 .1 .1 .1 .1 .1 .1) in
-    (omega (arith, w .some, c .before .before .before .before .before .before .before .before .before .before .before .before .before .before .before .before .before .before .before .before .pre .0), (fewer (c .before .before .before .before .before .before .before .before .before .before .before .before .before .before .before .before .before .before .before .before .pre .1 .0) (omega (arith, w .some)), (c .before .before .before .before .before .before .before .before .before .before .before .before .before .before .before .before .before .before .before .before .pre .1 .1 .0, (rw (c .before .with-mark .ensures, c .before .before .before .before .before .before .before .before .before .before .before .before .before .inner-place .ensures .0) (c .before .before .before .before .before .before .before .before .before .before .before .before .before .before .before .before .before .before .before .before .pre .1 .1 .1 .1 .1 .0), (rw (c .before .with-mark .ensures) (omega (arith, w .some, c .before .before .before .before .before .before .before .before .before .before .before .before .before .before .before .before .before .before .before .before .pre .1 .1 .1 .1 .1 .1 .0, c .before .before .before .before .before .before .before .before .before .before .before .before .before .inner-place .ensures .1)), rw (c .before .with-mark .ensures, c .before .before .before .before .before .before .before .before .before .before .before .before .before .inner-place .ensures .0) (fits (next (next run (rw (c .before .before .before .before .before .before .before .before .before .before .with-unvalued .ensures) at (c .before .before .before .before .before .before .before .before .write-split-operands .ensures))) (c .before .before .before .before .put-between-at .ensures))))))))
+    let run = run-more (prettyIndented (innerIndents (c .before .before .before .before .before .before .before .before .before .before .before .before .before .before .before .before .before .before .before .before .args .place .indents) own) (innerLevel (c .before .before .before .before .before .before .before .before .before .before .before .before .before .before .before .before .before .before .before .before .args .place .level) own)) (prettyIndented true (innerLevel (c .before .before .before .before .before .before .before .before .before .before .before .before .before .before .before .before .before .before .before .before .args .place .level) own)) (c .before .before .before .before .before .before .before .before .before .before .before .before .before .before .before .before .before .before .before .before .pre .1 .0) _ (c .before .before .before .before .before .before .before .before .before .before .before .before .before .before .before .before .before .before .before .before .pre .1 .1 .1 .1 .0) (betweenAt (c .before .before .before .before .before .before .before .before .before .before .before .before .before .before .before .before .before .before .before .before .args .place .level) own) (c .before .before .before .before .before .before .before .before .before .before .before .before .before .before .if1 .left) (c .before .before .before .before .before .before .before .before .before .before .before .before .if2 .left) (c .before .before .before .before .before .before .before .before .before .before .before .before .before .before .before .before .before .before .before .before .args .out .now) (c .before .before .before .before .before .before .before .before .before .before .before .before .before .before .before .before .before .before .before .before .args .at) (c .before .before .before .before .before .before .before .before .before .before .before .before .before .before .before .before .before .before .before .before .pre .1 .1 .1 .1 .1 .1 .1) in
+    (omega (arith, w .some, c .before .before .before .before .before .before .before .before .before .before .before .before .before .before .before .before .before .before .before .before .pre .0), (fewer (c .before .before .before .before .before .before .before .before .before .before .before .before .before .before .before .before .before .before .before .before .pre .1 .0) (omega (arith, w .some)), (c .before .before .before .before .before .before .before .before .before .before .before .before .before .before .before .before .before .before .before .before .pre .1 .1 .0, (rw (c .before .with-indents .ensures, c .before .before .before .before .before .before .before .before .before .before .before .before .before .inner-place .ensures .0) (c .before .before .before .before .before .before .before .before .before .before .before .before .before .before .before .before .before .before .before .before .pre .1 .1 .1 .1 .1 .0), (rw (c .before .with-indents .ensures) (omega (arith, w .some, c .before .before .before .before .before .before .before .before .before .before .before .before .before .before .before .before .before .before .before .before .pre .1 .1 .1 .1 .1 .1 .0, c .before .before .before .before .before .before .before .before .before .before .before .before .before .inner-place .ensures .1)), rw (c .before .with-indents .ensures, c .before .before .before .before .before .before .before .before .before .before .before .before .before .inner-place .ensures .0) (fits (next (next run (rw (c .before .before .before .before .before .before .before .before .before .before .with-numberless .ensures) at (c .before .before .before .before .before .before .before .before .write-split-operands .ensures))) (c .before .before .before .before .put-between-at .ensures))))))))
 
 write-split-operands-same-length-2 : (t : ℕ) → write-split-operands-lts.Need-same-length-2 (write-split-operands-claims t) (write-split-operands-at t) write-split-operands.Post
 write-split-operands-same-length-2 t c = c .before .before .write-split2 .kept .1 .1 .1 .1 .1 .1 .0 ∙ c .before .before .before .before .before .before .before .put-between-at .kept .1 .1 .1 .1 .0 ∙ c .before .before .before .before .before .before .before .before .before .before .before .write-split-operands .kept .1 .1 .1 .1 .1 .1 .1 .1 .0
@@ -184,12 +184,12 @@ write-split-operands-same-length-2 t c = c .before .before .write-split2 .kept .
 write-split-operands-returns-3 : (t : ℕ) → write-split-operands-lts.Need-returns-3 (write-split-operands-claims t) (write-split-operands-at t) write-split-operands.Post
 write-split-operands-returns-3 t c =
     let own = layoutAt (c .before .before .before .before .before .before .before .before .before .before .before .before .before .before .before .before .before .before .before .before .before .before .before .args .page .now) (c .before .before .before .before .before .before .before .before .before .before .before .before .before .before .before .before .before .before .before .before .before .before .before .args .own) in
-    let run = run-more (marked (innerMark (c .before .before .before .before .before .before .before .before .before .before .before .before .before .before .before .before .before .before .before .before .before .before .before .args .place .mark) own) (innerLevel (c .before .before .before .before .before .before .before .before .before .before .before .before .before .before .before .before .before .before .before .before .before .before .before .args .place .level) own)) (marked true (innerLevel (c .before .before .before .before .before .before .before .before .before .before .before .before .before .before .before .before .before .before .before .before .before .before .before .args .place .level) own)) (c .before .before .before .before .before .before .before .before .before .before .before .before .before .before .before .before .before .before .before .before .before .before .before .pre .1 .0) _ (c .before .before .before .before .before .before .before .before .before .before .before .before .before .before .before .before .before .before .before .before .before .before .before .pre .1 .1 .1 .1 .0) (betweenAt (c .before .before .before .before .before .before .before .before .before .before .before .before .before .before .before .before .before .before .before .before .before .before .before .args .place .level) own) (c .before .before .before .before .before .before .before .before .before .before .before .before .before .before .before .before .before .if1 .left) (c .before .before .before .before .before .before .before .before .before .before .before .before .before .before .before .if2 .left) (c .before .before .before .before .before .before .before .before .before .before .before .before .before .before .before .before .before .before .before .before .before .before .before .args .out .now) (c .before .before .before .before .before .before .before .before .before .before .before .before .before .before .before .before .before .before .before .before .before .before .before .args .at) (c .before .before .before .before .before .before .before .before .before .before .before .before .before .before .before .before .before .before .before .before .before .before .before .pre .1 .1 .1 .1 .1 .1 .1) in
-    end (next (next (next run (rw (c .before .before .before .before .before .before .before .before .before .before .before .before .before .with-unvalued .ensures) at (c .before .before .before .before .before .before .before .before .before .before .before .write-split-operands .ensures))) (c .before .before .before .before .before .before .before .put-between-at .ensures)) (rw (c .before .before .before .before .with-mark .ensures, c .before .before .before .before .before .before .before .before .before .before .before .before .before .before .before .before .inner-place .ensures .0) at (c .before .before .write-split2 .ensures)))
+    let run = run-more (prettyIndented (innerIndents (c .before .before .before .before .before .before .before .before .before .before .before .before .before .before .before .before .before .before .before .before .before .before .before .args .place .indents) own) (innerLevel (c .before .before .before .before .before .before .before .before .before .before .before .before .before .before .before .before .before .before .before .before .before .before .before .args .place .level) own)) (prettyIndented true (innerLevel (c .before .before .before .before .before .before .before .before .before .before .before .before .before .before .before .before .before .before .before .before .before .before .before .args .place .level) own)) (c .before .before .before .before .before .before .before .before .before .before .before .before .before .before .before .before .before .before .before .before .before .before .before .pre .1 .0) _ (c .before .before .before .before .before .before .before .before .before .before .before .before .before .before .before .before .before .before .before .before .before .before .before .pre .1 .1 .1 .1 .0) (betweenAt (c .before .before .before .before .before .before .before .before .before .before .before .before .before .before .before .before .before .before .before .before .before .before .before .args .place .level) own) (c .before .before .before .before .before .before .before .before .before .before .before .before .before .before .before .before .before .if1 .left) (c .before .before .before .before .before .before .before .before .before .before .before .before .before .before .before .if2 .left) (c .before .before .before .before .before .before .before .before .before .before .before .before .before .before .before .before .before .before .before .before .before .before .before .args .out .now) (c .before .before .before .before .before .before .before .before .before .before .before .before .before .before .before .before .before .before .before .before .before .before .before .args .at) (c .before .before .before .before .before .before .before .before .before .before .before .before .before .before .before .before .before .before .before .before .before .before .before .pre .1 .1 .1 .1 .1 .1 .1) in
+    end (next (next (next run (rw (c .before .before .before .before .before .before .before .before .before .before .before .before .before .with-numberless .ensures) at (c .before .before .before .before .before .before .before .before .before .before .before .write-split-operands .ensures))) (c .before .before .before .before .before .before .before .put-between-at .ensures)) (rw (c .before .before .before .before .with-indents .ensures, c .before .before .before .before .before .before .before .before .before .before .before .before .before .before .before .before .inner-place .ensures .0) at (c .before .before .write-split2 .ensures)))
 
 pub +write-split+write-split-operands-spec : {M : Type 1} → statement M
 +write-split+write-split-operands-spec = close μ-write-split μ-write-split-operands
     (λ t. write-split-lts.spec (write-split-claims t) (write-split-at t) write-split.Post
-    (write-split-width-requires t) (write-split-put-indent-requires t) (write-split-write-text-requires t) (write-split-same-length t) (write-split-returns t) (write-split-view-at-requires t) (write-split-is-minus-requires t) (write-split-with-unvalued-requires t) (write-split-put-front-at-requires t) (write-split-write-split-operands-requires t) (write-split-put-rear-at-requires t) (write-split-same-length-2 t) (write-split-returns-2 t))
+    (write-split-width-requires t) (write-split-put-indent-requires t) (write-split-write-text-requires t) (write-split-same-length t) (write-split-returns t) (write-split-view-at-requires t) (write-split-is-minus-requires t) (write-split-with-numberless-requires t) (write-split-put-front-at-requires t) (write-split-write-split-operands-requires t) (write-split-put-rear-at-requires t) (write-split-same-length-2 t) (write-split-returns-2 t))
     (λ t. write-split-operands-lts.spec (write-split-operands-claims t) (write-split-operands-at t) write-split-operands.Post
-    (write-split-operands-returns t) (write-split-operands-sub-root t) (write-split-operands-inner-place-requires t) (write-split-operands-write-split-requires t) (write-split-operands-same-length t) (write-split-operands-returns-2 t) (write-split-operands-shared-slice-read-end t) (write-split-operands-cast-end t) (write-split-operands-sub-fewer t) (write-split-operands-with-unvalued-requires t) (write-split-operands-write-split-operands-requires t) (write-split-operands-put-between-at-requires t) (write-split-operands-with-mark-requires t) (write-split-operands-write-split-requires-2 t) (write-split-operands-same-length-2 t) (write-split-operands-returns-3 t))
+    (write-split-operands-returns t) (write-split-operands-sub-root t) (write-split-operands-inner-place-requires t) (write-split-operands-write-split-requires t) (write-split-operands-same-length t) (write-split-operands-returns-2 t) (write-split-operands-shared-slice-read-end t) (write-split-operands-cast-end t) (write-split-operands-sub-fewer t) (write-split-operands-with-numberless-requires t) (write-split-operands-write-split-operands-requires t) (write-split-operands-put-between-at-requires t) (write-split-operands-with-indents-requires t) (write-split-operands-write-split-requires-2 t) (write-split-operands-same-length-2 t) (write-split-operands-returns-3 t))

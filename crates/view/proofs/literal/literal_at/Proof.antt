@@ -1,4 +1,4 @@
--- `view::literal::literal_at` meets its contract: the literal stands behind the kind. Assumes nothing.
+-- `view::literal::literal_at` meets its contract: the literal stands after the kind. Assumes nothing.
 use mathlib.Core.Path.{refl}
 use Rattle.page.specs.Read.{return}
 use Rattle.records.specs.Literal.{readLiteral}

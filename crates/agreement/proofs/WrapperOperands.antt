@@ -1,0 +1,131 @@
+-- Records without operands and on one operand: what the working-out sees of each is what its node says (`NodeClaim`). One case for each node
+-- that the operand can be; @ and offset lean on the check that a subquery on the stack has passed (`isFormed`).
+use Prim.Native.Nat.{ℕ}
+use mathlib.Core.Path.{_≡_, refl}
+use mathlib.Core.Bool.{Bool, true, false, _&&_, not}
+use mathlib.Core.List.{[], _∷_}
+use mathlib.Core.Option.{Option, none, some, Option·none-ne-some}
+use lib.Dec.{T}
+use Rattle.page.specs.Bytes.{all, isEmpty, any}
+use Rattle.records.specs.Kind.{vector, matrix, isVector}
+use Rattle.records.specs.Matcher.{Selector}
+use Rattle.records.specs.Time.{Times, AtModifier, Offset}
+use Rattle.ast.specs.Refusal.{unless, when, orElse, firstFault, andThen}
+use Rattle.records.specs.Record.{range, at, offset, unary, wrapper}
+use Rattle.ast.specs.Expr.{Expr, Aggregate, AggregateParam, Unary, Binary, Paren, Subquery, NumberLiteral, StringLiteral, VectorSelector, MatrixSelector, Call, valueType, scalarValue, timesOf, withTimes}
+use Rattle.ast.specs.Construct.{atWith, setAt, offsetWith, setOffset, rangeAfter}
+use Rattle.records.specs.Matcher.{isNameMatcher, matchesEmpty}
+use Rattle.ast.specs.CheckAst.{checkAst, unaryRows, selectorRows}
+use Rattle.working_out.specs.Asked.{isNumeric}
+use Rattle.working_out.specs.WorkingOut.{wrapperNumber}
+use Rattle.agreement.proofs.Bools.{not-not}
+use Rattle.agreement.proofs.Faults.{FaultClaim, row, fine}
+use Rattle.agreement.proofs.OperandOf.{operandOf, isFormed, NodeClaim, fromFault}
+
+-- ## Selectors and ranges
+
+selectorClaim : (s : Selector) → FaultClaim true true true (firstFault (selectorRows s))
+selectorClaim s =
+    row (not (isEmpty (s .name)) && any isNameMatcher (s .matchers)) 33 _ (λ h k. absurd k) λ h.
+    row (isEmpty (s .name) && all matchesEmpty (s .matchers)) 34 none (λ h′ k. absurd k) λ h′.
+    fine (λ o. (tt, tt))
+
+pub selectorOperand : (s : Selector) (t : Times) → NodeClaim true true true vector none (checkAst (VectorSelector s t))
+unfolding checkAst
+selectorOperand s t = fromFault (firstFault (selectorRows s)) true true true (VectorSelector s t) (selectorClaim s) tt
+
+rangeOperand : (n : ℕ) (s : Selector) (t : Times) (o : Option Offset) (a : Option AtModifier)
+    → NodeClaim true true true matrix none (andThen (rangeAfter o a (MatrixSelector s t n)) checkAst)
+unfolding checkAst
+rangeOperand n s t none none = ((λ o. (tt, tt)), refl, refl, tt)
+rangeOperand n s t none (some a) = λ k. absurd k
+rangeOperand n s t (some o) a = λ k. absurd k
+
+pub rangeOne : (n : ℕ) (e : Expr) → NodeClaim true true true matrix none (operandOf (wrapper (range n)) (e ∷ []))
+unfolding checkAst
+rangeOne n (Aggregate c m e) = λ k. absurd k
+rangeOne n (AggregateParam c m p e) = λ k. absurd k
+rangeOne n (Unary e) = λ k. absurd k
+rangeOne n (Binary c m l r) = λ k. absurd k
+rangeOne n (Paren e) = λ k. absurd k
+rangeOne n (Subquery e r s t) = λ k. absurd k
+rangeOne n (NumberLiteral l) = λ k. absurd k
+rangeOne n (StringLiteral t) = λ k. absurd k
+rangeOne n (VectorSelector s t) = rangeOperand n s t (t .offset) (t .at)
+rangeOne n (MatrixSelector s t r) = λ k. absurd k
+rangeOne n (Call f es) = λ k. absurd k
+
+-- ## Subqueries
+
+pub subqueryOperand : (b : Bool) (e : Expr) → matrix ≡ valueType e → none ≡ scalarValue e → (T b → T (isFormed e))
+    → NodeClaim true true b matrix none (unless (orElse (when (not b) 32) none) e)
+subqueryOperand true e q r g = ((λ o. (tt, tt)), q, r, g tt)
+subqueryOperand false e q r g = λ k. (tt, tt)
+
+-- @ or offset on a subquery that was checked
+formedNode : (b : Bool) (e : Expr) → T b → matrix ≡ valueType e → none ≡ scalarValue e → T (isFormed e)
+    → NodeClaim true true true matrix none (unless (orElse (when (not b) 32) none) e)
+formedNode true e h q r g = ((λ o. (tt, tt)), q, r, g)
+formedNode false e h q r g = absurd h
+
+-- ## @ and offset
+
+-- the heldOperands that have @ and offset, with others
+timesNode : (u : Times) (e : Expr) (t : Times) → timesOf e ≡ some t → T (isFormed e) → NodeClaim true true true (valueType e) none (checkAst (withTimes u e))
+unfolding checkAst
+timesNode u (Aggregate c m e) t q h = absurd (Option·none-ne-some t q)
+timesNode u (AggregateParam c m p e) t q h = absurd (Option·none-ne-some t q)
+timesNode u (Unary e) t q h = absurd (Option·none-ne-some t q)
+timesNode u (Binary c m l r) t q h = absurd (Option·none-ne-some t q)
+timesNode u (Paren e) t q h = absurd (Option·none-ne-some t q)
+timesNode u (Subquery e r s v) t q h = formedNode (isVector (valueType e)) (Subquery e r s u) h refl refl h
+timesNode u (NumberLiteral l) t q h = absurd (Option·none-ne-some t q)
+timesNode u (StringLiteral x) t q h = absurd (Option·none-ne-some t q)
+timesNode u (VectorSelector s v) t q h = selectorOperand s u
+timesNode u (MatrixSelector s v r) t q h = ((λ o. (tt, tt)), refl, refl, tt)
+timesNode u (Call f es) t q h = absurd (Option·none-ne-some t q)
+
+pub atOne : (a : AtModifier) (e : Expr) → T (isFormed e) → NodeClaim true true true (valueType e) none (operandOf (wrapper (at a)) (e ∷ []))
+atOne a e h = by (timesOf e) refl
+  where
+    set : (t : Times) → timesOf e ≡ some t → (x : Option AtModifier) → NodeClaim true true true (valueType e) none (andThen (setAt a x t e) checkAst)
+    set t q none = timesNode _ e t q h
+    set t q (some b) = λ k. absurd k
+
+    by : (t : Option Times) → timesOf e ≡ t → NodeClaim true true true (valueType e) none (andThen (atWith a t e) checkAst)
+    by none q = λ k. absurd k
+    by (some t) q = set t q (t .at)
+
+pub offsetOne : (o : Offset) (e : Expr) → T (isFormed e) → NodeClaim true true true (valueType e) none (operandOf (wrapper (offset o)) (e ∷ []))
+offsetOne o e h = by (timesOf e) refl
+  where
+    set : (t : Times) → timesOf e ≡ some t → (x : Option Offset) → NodeClaim true true true (valueType e) none (andThen (setOffset o x t e) checkAst)
+    set t q none = timesNode _ e t q h
+    set t q (some b) = λ k. absurd k
+
+    by : (t : Option Times) → timesOf e ≡ t → NodeClaim true true true (valueType e) none (andThen (offsetWith o t e) checkAst)
+    by none q = λ k. absurd k
+    by (some t) q = set t q (t .offset)
+
+-- ## Unary
+
+unaryNode : (e : Expr) → NodeClaim true true (isNumeric (valueType e)) (valueType e) none (checkAst (Unary e))
+unfolding checkAst
+unaryNode e =
+    fromFault (firstFault (unaryRows (valueType e))) true true (isNumeric (valueType e)) (Unary e)
+    (row (not (isNumeric (valueType e))) 31 none (λ h k. (tt, h)) λ h. fine (λ o. (tt, not-not (isNumeric (valueType e)) h)))
+    tt
+
+pub unaryOne : (e : Expr) → NodeClaim true true (isNumeric (valueType e)) (valueType e) (wrapperNumber unary (scalarValue e)) (operandOf (wrapper unary) (e ∷ []))
+unfolding checkAst
+unaryOne (Aggregate c m e) = unaryNode (Aggregate c m e)
+unaryOne (AggregateParam c m p e) = unaryNode (AggregateParam c m p e)
+unaryOne (Unary e) = unaryNode (Unary e)
+unaryOne (Binary c m l r) = unaryNode (Binary c m l r)
+unaryOne (Paren e) = unaryNode (Paren e)
+unaryOne (Subquery e r s t) = unaryNode (Subquery e r s t)
+unaryOne (NumberLiteral l) = ((λ o. (tt, tt)), refl, refl, tt)
+unaryOne (StringLiteral t) = λ k. (tt, tt)
+unaryOne (VectorSelector s t) = unaryNode (VectorSelector s t)
+unaryOne (MatrixSelector s t r) = λ k. (tt, tt)
+unaryOne (Call f es) = unaryNode (Call f es)

@@ -1,0 +1,46 @@
+-- Operands: what later records can ask of an operand. A number has its value, as the 64-bit float that the code computes with; a
+-- selector, a range and a subquery have marks that @ and offset are set; of any other tree the kind is enough.
+use mathlib.Core.Bool.{Bool, true, false}
+use mathlib.Core.Option.{Option, none, some}
+use lib.Ieee.{Float}
+use Rattle.records.specs.Kind.{Kind, vector, scalar, matrix, string}
+use Rattle.records.specs.Float.{float}
+use Rattle.records.specs.Time.{Times}
+use Rattle.ast.specs.Expr.{Expr, Aggregate, AggregateParam, Unary, Binary, Paren, Subquery, NumberLiteral, StringLiteral, VectorSelector, MatrixSelector, Call, valueType}
+
+pub data Operand : Type 0 where
+  numberOperand : Float → Operand
+  stringOperand : Operand
+  -- whether @ is set, whether offset is set
+  selectorOperand rangeOperand subqueryOperand : Bool → Bool → Operand
+  otherOperand : Kind → Operand
+
+-- ast.rs, `value_type`, on heldOperands
+abbrev pub operandKind : Operand → Kind
+operandKind (numberOperand x) = scalar
+operandKind stringOperand = string
+operandKind (selectorOperand a o) = vector
+operandKind (rangeOperand a o) = matrix
+operandKind (subqueryOperand a o) = matrix
+operandKind (otherOperand k) = k
+
+abbrev pub isSet : {A : Type 0} → Option A → Bool
+isSet none = false
+isSet (some a) = true
+
+abbrev marked : (Bool → Bool → Operand) → Times → Operand
+marked make t = make (isSet (t .at)) (isSet (t .offset))
+
+-- the operand of a tree
+abbrev pub operandOf : Expr → Operand
+operandOf (Aggregate c m e) = otherOperand vector
+operandOf (AggregateParam c m p e) = otherOperand vector
+operandOf (Unary e) = otherOperand (valueType (Unary e))
+operandOf (Binary c m l r) = otherOperand (valueType (Binary c m l r))
+operandOf (Paren e) = otherOperand (valueType (Paren e))
+operandOf (Subquery e r s t) = marked subqueryOperand t
+operandOf (NumberLiteral l) = numberOperand (float l)
+operandOf (StringLiteral t) = stringOperand
+operandOf (VectorSelector s t) = marked selectorOperand t
+operandOf (MatrixSelector s t r) = marked rangeOperand t
+operandOf (Call f es) = otherOperand (f .returnType)

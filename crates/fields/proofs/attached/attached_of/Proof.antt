@@ -1,0 +1,58 @@
+-- `fields::attached::attached_of` meets its contract. Invariant: the attached of the records above record j, which is not below the foot. The measure
+-- is j. Assumes nothing.
+use Prim.Native.Nat.{_≤_}
+use native.Mathlib.Omega.{arith}
+use mathlib.Core.Path.{refl}
+use Rattle.view.specs.View.{setsNothing}
+use Rattle.view.proofs.ViewLaws.{starts-fewer}
+use Rattle.view.proofs.ChainedLaws.{sets-low, sets-attached}
+use Rattle.fields.specs.Attached.{SetsAttached}
+use Rattle.fields.proofs.AttachedLaws.{sets-as}
+use Rattle.fields.proofs.attached.attached_of.Statement.{statement}
+use Rattle.fields.proofs.attached.attached_of.Tie as tie
+
+abbrev Inv-loop : tie.InvT-loop
+Inv-loop page starts base j₀ attached₀ j attached = (base ≤ j) × (j ≤ j₀) × SetsAttached page starts j₀ j attached
+
+abbrev μ-loop : tie.MeasureT-loop
+μ-loop page starts base j₀ attached₀ j attached = j
+
+no-attached-requires : tie.Need-no-attached-requires Inv-loop μ-loop
+no-attached-requires c κs = tt
+
+loop-holds : tie.Need-loop-holds Inv-loop μ-loop
+loop-holds c = (sets-low (c .before .before .before .pre .chain .sets), omega arith, rw (c .no-attached .ensures) setsNothing)
+
+with-record-requires : tie.Need-with-record-requires Inv-loop μ-loop
+with-record-requires c κs =
+    let at-loop = c .before in
+    let node = at-loop .before .before .before .before .pre in
+    (starts-fewer (node .known) (omega (arith, at-loop .loop .inv .1)), sets-attached (node .chain .sets) (c .loop-test .taken) (at-loop .loop .inv .1))
+
+sub-j : tie.Need-sub-j Inv-loop μ-loop
+sub-j c = omega (arith, c .before .loop-test .taken)
+
+loop-less : tie.Need-loop-less Inv-loop μ-loop
+loop-less c = omega (arith, c .before .loop-test .taken)
+
+loop-again : tie.Need-loop-again Inv-loop μ-loop
+loop-again c =
+    let at-loop = c .before .before in
+    (omega (arith, c .before .loop-test .taken), omega (arith, at-loop .loop .inv .1), c .with-record .ensures _ (at-loop .loop .inv .2))
+
+returns : tie.Need-returns Inv-loop μ-loop
+returns c = sets-as (omega (arith, c .loop-test .left, c .before .loop .inv .0)) refl refl (c .before .loop .inv .2)
+
+pub attached-of-spec : {M : Type 1} → statement M
+attached-of-spec =
+    tie.close
+    (tie.spec
+    Inv-loop
+    μ-loop
+    no-attached-requires
+    loop-holds
+    with-record-requires
+    sub-j
+    loop-less
+    loop-again
+    returns)

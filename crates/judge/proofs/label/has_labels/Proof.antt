@@ -1,0 +1,39 @@
+-- `verdict::label::has_labels` meets its contract: a list is not empty where its first element can be read. Assumes nothing.
+use mathlib.Core.Path.{sym, ap}
+use mathlib.Core.Bool.{not}
+use mathlib.Core.List.{List}
+use native.Mathlib.Omega.{arith}
+use Prim.Native.Nat.{_<_}
+use lib.ListN.{drop}
+use denote.Ref.{now}
+use Rattle.page.specs.Bytes.{isEmpty}
+use Rattle.page.specs.Text.{Text, readAnyText}
+use Rattle.page.proofs.ListLaws.{listed-more, listed-refused, listed-none}
+use borrow.Author.Needs.{needs}
+use Rattle.judge.proofs.label.has_labels.Statement.{statement}
+use Rattle.judge.proofs.label.has_labels.Tie as tie
+
+returns : tie.Need-returns
+returns c = sym (ap (λ (l : List Text). not (isEmpty l)) (listed-none readAnyText (c .before .before .args .count) (drop (c .before .before .args .start) (now (c .before .before .args .page))) (omega arith)))
+
+read-text-requires : tie.Need-read-text-requires
+read-text-requires c κs = search needs
+
+enum-told : tie.Need-enum-told
+enum-told c = search needs
+
+enum-told-2 : tie.Need-enum-told-2
+enum-told-2 c = search needs
+
+returns-2 : tie.Need-returns-2
+returns-2 c = let e = rw (c .enum-told .given .1) at (c .before .before .read-text .ensures .0) in
+    let some : 0 < c .before .before .before .before .before .args .count = omega arith in
+    sym (ap (λ (l : List Text). not (isEmpty l)) (listed-more readAnyText (c .before .before .before .before .before .args .count) (drop (c .before .before .before .before .before .args .start) (now (c .before .before .before .before .before .args .page))) some e))
+
+returns-3 : tie.Need-returns-3
+returns-3 c = let e = rw (c .enum-told2 .given .1) at (c .before .before .read-text .ensures .0) in
+    sym (ap (λ (l : List Text). not (isEmpty l)) (listed-refused readAnyText (c .before .before .before .before .before .args .count) (drop (c .before .before .before .before .before .args .start) (now (c .before .before .before .before .before .args .page))) e))
+
+pub has-labels-spec : {M : Type 1} → statement M
+has-labels-spec =
+    tie.close (tie.spec returns read-text-requires enum-told enum-told-2 returns-2 returns-3)

@@ -1,0 +1,72 @@
+// What a record makes of the stack, and how many operands it takes.
+use crate::call::judge_call;
+use crate::modifier::judge_binary;
+use crate::selector::judge_selector;
+use float::literal_value;
+use reader::Record;
+use rules::Operand;
+use rules::Verdict;
+use rules::aggregate::judge_aggregate;
+use rules::operand::kind_of;
+use rules::operand::operand_at;
+use rules::wrapper::judge_at;
+use rules::wrapper::judge_offset;
+use rules::wrapper::judge_paren;
+use rules::wrapper::judge_range;
+use rules::wrapper::judge_subquery;
+use rules::wrapper::judge_unary;
+ghost use Prim.Native.Nat.{ℕ};
+ghost use mathlib.Core.List.{List};
+ghost use mathlib.Core.Path.{_≡_};
+ghost use lib.ListN.{drop};
+ghost use Rattle.records.specs.Record.{operands};
+ghost use Rattle.reader.specs.Answers.{recordOn};
+ghost use Rattle.ast.specs.Judge.{judgement};
+ghost use Rattle.rules.specs.Answers.{verdictMeant};
+ghost use Rattle.rules.specs.Stack.{heldOperands, Sized};
+ghost use Rattle.judge.specs.Judgeable.{Judgeable};
+
+pub fn operand_count(item: Record) -> usize
+    ensures { λ r. ⌜ ((page : List ℕ) → r ≡ operands (recordOn page item)) ⌝ }
+{
+    match item {
+        Record::Number(_) => 0,
+        Record::String(_) => 0,
+        Record::Selector(_) => 0,
+        Record::Range(_) => 1,
+        Record::Subquery(_, _) => 1,
+        Record::At(_) => 1,
+        Record::Offset(_) => 1,
+        Record::Unary => 1,
+        Record::Paren => 1,
+        Record::Binary(_, _) => 2,
+        Record::Aggregate(_, _, count) => count,
+        Record::Call(_, count) => count,
+    }
+}
+
+// The operands are there: they lie from `top` on, the last one first.
+pub fn judge_record(page: &[u8], item: Record, forms: &[u8], values: &[f64], top: usize) -> Verdict
+    requires { ⌜ Sized (now forms) (now values) ⌝ }
+    requires { ⌜ Judgeable (now page) item top ⌝ }
+    ensures { λ r. ⌜ verdictMeant r ≡ judgement (recordOn (now (page .entry)) item) (drop top (heldOperands (now (forms .entry)) (now (values .entry)))) ⌝ }
+{
+    match item {
+        Record::Number(literal) => Verdict::Put(Operand::Number(literal_value(literal))),
+        Record::String(_) => Verdict::Put(Operand::String),
+        Record::Selector(selector) => judge_selector(page, selector),
+        Record::Range(_) => judge_range(operand_at(forms, values, top)),
+        Record::Subquery(_, _) => judge_subquery(operand_at(forms, values, top)),
+        Record::At(_) => judge_at(operand_at(forms, values, top)),
+        Record::Offset(_) => judge_offset(operand_at(forms, values, top)),
+        Record::Unary => judge_unary(operand_at(forms, values, top)),
+        Record::Paren => judge_paren(operand_at(forms, values, top)),
+        Record::Binary(code, modifier) => {
+            let right = kind_of(operand_at(forms, values, top));
+            let left = kind_of(operand_at(forms, values, top + 1));
+            judge_binary(page, code, modifier, left, right)
+        }
+        Record::Aggregate(code, _, count) => judge_aggregate(code, forms, values, top, count),
+        Record::Call(function, count) => judge_call(page, function, forms, values, top, count),
+    }
+}

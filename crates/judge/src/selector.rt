@@ -1,0 +1,30 @@
+// Selectors (ast.rs, `check_ast_for_vector_selector`): refusals 33 and 34. The matchers' facts were taken when they were read.
+use reader::Selector;
+use rules::Operand;
+use rules::Refusal;
+use rules::Verdict;
+ghost use mathlib.Core.Bool.{false};
+ghost use mathlib.Core.Path.{_≡_};
+ghost use Rattle.reader.specs.Answers.{selectorOn, SelectorRead};
+ghost use Rattle.ast.specs.CheckAst.{selectorRows};
+ghost use Rattle.ast.specs.Operand.{selectorOperand};
+ghost use Rattle.ast.specs.Judge.{put};
+ghost use Rattle.rules.specs.Answers.{verdictMeant};
+
+// 33 for a name and a `__name__` matcher, 34 without a name where every matcher accepts empty text.
+pub fn judge_selector(page: &[u8], selector: Selector) -> Verdict
+    requires { ⌜ SelectorRead (now page) selector ⌝ }
+    ensures { λ r. ⌜ verdictMeant r ≡ put (selectorRows (selectorOn (now (page .entry)) selector)) (selectorOperand false false) ⌝ }
+{
+    let name = selector.name;
+    if name.start != name.end {
+        if selector.named {
+            return Verdict::Refused(Refusal::NameTwice);
+        }
+        return Verdict::Put(Operand::Selector(false, false));
+    }
+    if selector.empty {
+        return Verdict::Refused(Refusal::EmptySelector);
+    }
+    Verdict::Put(Operand::Selector(false, false))
+}

@@ -1,0 +1,65 @@
+-- Texts of @ times and offsets by their forms, as the code has them. Assumes nothing.
+use Prim.Native.Nat.{ℕ, _+_, _/_, _%_, _≤_}
+use native.Mathlib.Omega.{arith}
+use mathlib.Core.List.{List, [], _∷_, append-assoc}
+use mathlib.Core.Path.{_≡_, ap, _∙_}
+use lib.ListN.{length, length-append}
+use Rattle.base.specs.Splice.{Cut, join}
+use Rattle.records.specs.Answers.{atModifierOf, offsetOf}
+use Rattle.records.specs.declared.time.AtModifier.{AtModifier}
+use Rattle.records.specs.declared.time.AtModifier.the-variants.{Start, End, After, Before}
+use Rattle.records.specs.declared.time.Offset.{Offset}
+use Rattle.records.specs.declared.time.Offset.the-variants.{Pos, Neg}
+use Rattle.leaves.specs.Decimal.{decimal, threeDigits}
+use Rattle.leaves.specs.Duration.{displayDuration}
+use Rattle.leaves.specs.Time.{displayTime, displayAt, displayOffset}
+use Rattle.leaves.proofs.DecimalLaws.{decimal-last}
+
+-- ## displayTime
+
+pub displayTime-pieces : (ms : ℕ) → displayTime ms ≡ join ((64 ∷ 32 ∷ []) ∷ decimal (ms / 1000) ∷ (46 ∷ []) ∷ threeDigits (ms % 1000) ∷ [])
+unfolding displayTime threeDigits join
+displayTime-pieces ms = ap (λ (l : List ℕ). 64 ∷ 32 ∷ l) (append-assoc (decimal (ms / 1000)) (46 ∷ []) (threeDigits (ms % 1000)))
+
+pub length-displayTime : (ms : ℕ) → length (displayTime ms) ≡ length (decimal (ms / 1000)) + 6
+unfolding join threeDigits
+length-displayTime ms =
+    ap length (displayTime-pieces ms) ∙ omega (arith, length-append (decimal (ms / 1000)) (46 ∷ threeDigits (ms % 1000)))
+
+-- ## displayAt
+
+module _ (m : AtModifier) where
+  pub displayAt-start : m ≡ Start → displayAt (atModifierOf m) ≡ 64 ∷ 32 ∷ 115 ∷ 116 ∷ 97 ∷ 114 ∷ 116 ∷ 40 ∷ 41 ∷ []
+  unfolding displayAt
+  displayAt-start e = rw e
+
+  pub displayAt-end : m ≡ End → displayAt (atModifierOf m) ≡ 64 ∷ 32 ∷ 101 ∷ 110 ∷ 100 ∷ 40 ∷ 41 ∷ []
+  unfolding displayAt
+  displayAt-end e = rw e
+
+  pub displayAt-after : (n : ℕ) → m ≡ After n → displayAt (atModifierOf m) ≡ displayTime n
+  unfolding displayAt
+  displayAt-after n e = rw e
+
+  pub displayAt-before : (n : ℕ) → m ≡ Before n → displayAt (atModifierOf m) ≡ displayTime 0
+  unfolding displayAt
+  displayAt-before n e = rw e
+
+  -- what `at_len` answers: d is the number of digits
+  pub at-len-after : (n d : ℕ) → m ≡ After n → (d ≡ length (decimal (n / 1000))) × (d ≤ 20)
+      → (d + 6 ≡ length (displayAt (atModifierOf m))) × (d + 6 ≤ 26)
+  at-len-after n d e (is, short·) = omega (arith, ap length (displayAt-after n e), length-displayTime n)
+
+  pub at-len-before : (n : ℕ) → m ≡ Before n → (7 ≡ length (displayAt (atModifierOf m))) × (7 ≤ 26)
+  at-len-before n e = omega (arith, ap length (displayAt-before n e), length-displayTime 0, ap length (decimal-last 0 (omega arith)))
+
+-- ## displayOffset
+
+module _ (o : Offset) where
+  pub displayOffset-pos : (n : ℕ) → o ≡ Pos n → displayOffset (offsetOf o) ≡ displayDuration n
+  unfolding displayOffset
+  displayOffset-pos n e = rw e
+
+  pub displayOffset-neg : (n : ℕ) → o ≡ Neg n → Cut (displayOffset (offsetOf o)) (45 ∷ []) (displayDuration n)
+  unfolding displayOffset
+  displayOffset-neg n e = record { is = rw e }

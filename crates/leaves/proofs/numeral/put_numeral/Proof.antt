@@ -1,0 +1,104 @@
+-- `util::numeral::put_numeral` meets its contract, form by form. Assumes nothing.
+use borrow.Author.Needs.{needs}
+use mathlib.Core.Path.{refl}
+use Rattle.base.specs.Splice.{begin, first, room, step, finish, cut-last}
+use Rattle.leaves.proofs.NumeralLaws.{displayNumber-whole, displayNumber-negative, displayNumber-nan, displayNumber-inf, displayNumber-neg-inf}
+use Rattle.leaves.proofs.numeral.put_numeral.Statement.{statement}
+use Rattle.leaves.proofs.numeral.put_numeral.Tie as tie
+
+enum-known-literal : tie.Need-enum-known-literal
+enum-known-literal c = search needs
+
+put-decimal-requires : tie.Need-put-decimal-requires
+put-decimal-requires c κs = rw (displayNumber-whole _ _ _ (c .before .before .literal .given .1)) at (c .before .before .before .before .before .pre)
+
+enum-known-literal-2 : tie.Need-enum-known-literal-2
+enum-known-literal-2 c = search needs
+
+put-byte-requires : tie.Need-put-byte-requires
+put-byte-requires c κs = first _ _ (c .before .before .before .before .before .pre) (displayNumber-negative _ _ _ (c .before .before .literal2 .given .1))
+
+put-decimal-requires-2 : tie.Need-put-decimal-requires-2
+put-decimal-requires-2 c κs = room (step (begin _ _ _ (c .before .before .before .before .before .before .before .before .before .pre)) (displayNumber-negative _ _ _ (c .before .before .before .before .before .before .literal2 .given .1)) (c .before .before .before .put-byte .ensures)) (cut-last _)
+
+enum-told : tie.Need-enum-told
+enum-told c = search needs
+
+slice-aggregate-put-bytes : tie.Need-slice-aggregate-put-bytes
+slice-aggregate-put-bytes c = search needs
+
+put-bytes-requires : tie.Need-put-bytes-requires
+put-bytes-requires c κs = rw (displayNumber-nan _ _ (c .before .before .enum-told .given .1)) at (c .before .before .before .before .before .pre)
+
+enum-told-2 : tie.Need-enum-told-2
+enum-told-2 c = search needs
+
+put-infinity-requires : tie.Need-put-infinity-requires
+put-infinity-requires c κs = rw (displayNumber-inf _ _ (c .before .enum-told2 .given .1)) at (c .before .before .before .before .pre)
+
+enum-told-3 : tie.Need-enum-told-3
+enum-told-3 c = search needs
+
+put-byte-requires-2 : tie.Need-put-byte-requires-2
+put-byte-requires-2 c κs = first _ _ (c .before .before .before .before .pre) (displayNumber-neg-inf _ _ (c .before .enum-told3 .given .1))
+
+put-infinity-requires-2 : tie.Need-put-infinity-requires-2
+put-infinity-requires-2 c κs = room (step (begin _ _ _ (c .before .before .before .before .before .before .before .before .pre)) (displayNumber-neg-inf _ _ (c .before .before .before .before .before .enum-told3 .given .1)) (c .before .before .before .put-byte2 .ensures)) (cut-last _)
+
+same-length : tie.Need-same-length
+same-length c = search needs
+
+returns : tie.Need-returns
+returns c = rw (displayNumber-whole _ _ _ (c .before .before .before .before .before .literal .given .1)) (c .before .before .put-decimal .ensures)
+
+same-length-2 : tie.Need-same-length-2
+same-length-2 c = search needs
+
+returns-2 : tie.Need-returns-2
+returns-2 c = finish (step (step (begin _ _ _ (c .before .before .before .before .before .before .before .before .before .before .before .before .pre)) (displayNumber-negative _ _ _ (c .before .before .before .before .before .before .before .before .before .literal2 .given .1)) (c .before .before .before .before .before .before .put-byte .ensures)) (cut-last _) (c .before .before .put-decimal2 .ensures)) refl
+
+same-length-3 : tie.Need-same-length-3
+same-length-3 c = search needs
+
+returns-3 : tie.Need-returns-3
+returns-3 c = rw (displayNumber-nan _ _ (c .before .before .before .before .before .enum-told .given .1)) (c .before .before .put-bytes .ensures)
+
+same-length-4 : tie.Need-same-length-4
+same-length-4 c = search needs
+
+returns-4 : tie.Need-returns-4
+returns-4 c = rw (displayNumber-inf _ _ (c .before .before .before .before .enum-told2 .given .1)) (c .before .before .put-infinity .ensures)
+
+same-length-5 : tie.Need-same-length-5
+same-length-5 c = search needs
+
+returns-5 : tie.Need-returns-5
+returns-5 c = finish (step (step (begin _ _ _ (c .before .before .before .before .before .before .before .before .before .before .before .pre)) (displayNumber-neg-inf _ _ (c .before .before .before .before .before .before .before .before .enum-told3 .given .1)) (c .before .before .before .before .before .before .put-byte2 .ensures)) (cut-last _) (c .before .before .put-infinity2 .ensures)) refl
+
+pub put-numeral-spec : {M : Type 1} → statement M
+put-numeral-spec =
+    tie.close
+    (tie.spec
+    enum-known-literal
+    put-decimal-requires
+    enum-known-literal-2
+    put-byte-requires
+    put-decimal-requires-2
+    enum-told
+    slice-aggregate-put-bytes
+    put-bytes-requires
+    enum-told-2
+    put-infinity-requires
+    enum-told-3
+    put-byte-requires-2
+    put-infinity-requires-2
+    same-length
+    returns
+    same-length-2
+    returns-2
+    same-length-3
+    returns-3
+    same-length-4
+    returns-4
+    same-length-5
+    returns-5)

@@ -1,0 +1,3 @@
+pub mod StackLaws
+pub mod CodeLaws
+pub mod AggregateLaws

@@ -1,0 +1,95 @@
+-- The two arrays as one list of heldOperands. Assumes nothing.
+use Prim.Native.Nat.{ℕ, zero, suc, _+_, _-_, _<_, _≤_}
+use mathlib.Core.Path.{_≡_, refl, ap, sym, _∙_}
+use mathlib.Core.Bool.{true, false}
+use mathlib.Core.List.{List, [], _∷_, reverse-append}
+use native.Mathlib.Numerals.{add-one}
+use lib.ListN.{length, getD, set, take, drop, length-drop, drop-of-length-le, length-reverse}
+use lib.Seq.{length-take-le, drop-cons, take-suc, getD-drop}
+use lib.Ieee.{Float}
+use native.Mathlib.Omega.{arith}
+use Rattle.records.specs.Kind.{vector, scalar, matrix, string}
+use Rattle.records.specs.Stack.{operandsOf}
+use Rattle.ast.specs.Operand.{Operand, numberOperand, stringOperand, selectorOperand, rangeOperand, subqueryOperand, otherOperand}
+use Rattle.rules.specs.Stack.{formOf, valueOf, formTable, operandFrom, heldOperands, Sized}
+
+-- ## operandFrom
+
+-- a operand is what its form and its value say
+pub operandFrom-formOf : (x : Operand) → operandFrom (formOf x) (valueOf x) ≡ x
+operandFrom-formOf (numberOperand v) = refl
+operandFrom-formOf stringOperand = refl
+operandFrom-formOf (selectorOperand true true) = refl
+operandFrom-formOf (selectorOperand true false) = refl
+operandFrom-formOf (selectorOperand false true) = refl
+operandFrom-formOf (selectorOperand false false) = refl
+operandFrom-formOf (rangeOperand true true) = refl
+operandFrom-formOf (rangeOperand true false) = refl
+operandFrom-formOf (rangeOperand false true) = refl
+operandFrom-formOf (rangeOperand false false) = refl
+operandFrom-formOf (subqueryOperand true true) = refl
+operandFrom-formOf (subqueryOperand true false) = refl
+operandFrom-formOf (subqueryOperand false true) = refl
+operandFrom-formOf (subqueryOperand false false) = refl
+operandFrom-formOf (otherOperand vector) = refl
+operandFrom-formOf (otherOperand scalar) = refl
+operandFrom-formOf (otherOperand matrix) = refl
+operandFrom-formOf (otherOperand string) = refl
+
+pub getD-past : {A : Type 0} (l : List A) (i : ℕ) (d : A) → length l ≤ i → getD l i d ≡ d
+getD-past [] i d h = refl
+getD-past (x ∷ xs) zero d h = absurd (let z : ⊥ = omega arith in z)
+getD-past (x ∷ xs) (suc i) d h = getD-past xs i d (omega arith)
+
+-- a number that is at least n, and not n
+pub further : {n f : ℕ} → n ≤ f → (f ≡ n → ⊥) → suc n ≤ f
+further h g = omega arith
+
+pub operandFrom-last : (f : ℕ) (x : Float) → 17 ≤ f → operandFrom f x ≡ otherOperand string
+operandFrom-last f x h = getD-past (formTable x) f (otherOperand string) h
+
+-- ## heldOperands
+
+pub heldOperands-getD : (fs : List ℕ) (xs : List Float) (i : ℕ) (d : Operand) (f : ℕ) (x : Float) → i < length fs → i < length xs
+    → getD (heldOperands fs xs) i d ≡ operandFrom (getD fs i f) (getD xs i x)
+heldOperands-getD [] xs i d g y h l = absurd (let z : ⊥ = omega arith in z)
+heldOperands-getD (f ∷ fs) [] i d g y h l = absurd (let z : ⊥ = omega arith in z)
+heldOperands-getD (f ∷ fs) (x ∷ xs) zero d g y h l = refl
+heldOperands-getD (f ∷ fs) (x ∷ xs) (suc i) d g y h l = heldOperands-getD fs xs i d g y (omega arith) (omega arith)
+
+pub heldOperands-set : (fs : List ℕ) (xs : List Float) (i : ℕ) (f : ℕ) (x : Float) → heldOperands (set fs i f) (set xs i x) ≡ set (heldOperands fs xs) i (operandFrom f x)
+heldOperands-set [] xs i f x = refl
+heldOperands-set (g ∷ fs) [] zero f x = refl
+heldOperands-set (g ∷ fs) [] (suc i) f x = refl
+heldOperands-set (g ∷ fs) (y ∷ xs) zero f x = refl
+heldOperands-set (g ∷ fs) (y ∷ xs) (suc i) f x = ap (λ (ns : List Operand). operandFrom g y ∷ ns) (heldOperands-set fs xs i f x)
+
+pub heldOperands-length : (fs : List ℕ) (xs : List Float) → length fs ≡ length xs → length (heldOperands fs xs) ≡ length fs
+heldOperands-length [] xs e = refl
+heldOperands-length (f ∷ fs) [] e = sym e
+heldOperands-length (f ∷ fs) (x ∷ xs) e = ap suc (heldOperands-length fs xs (omega arith))
+
+-- ## The stack from its top on
+
+module _ (forms : List ℕ) (values : List Float) (sized : Sized forms values) where
+  pub heldOperands-size : length (heldOperands forms values) ≡ 256
+  heldOperands-size = heldOperands-length forms values (omega (arith, sized)) ∙ sized .forms-size
+
+  pub stack-size : (top : ℕ) → length (drop top (heldOperands forms values)) ≡ 256 - top
+  stack-size top = simp length-drop (rw heldOperands-size)
+
+  pub stack-empty : (top : ℕ) → 256 ≤ top → drop top (heldOperands forms values) ≡ []
+  stack-empty top h = drop-of-length-le (heldOperands forms values) {i = top} (rw heldOperands-size h)
+
+  pub stack-top : (top : ℕ) → top < 256 → drop top (heldOperands forms values) ≡ getD (heldOperands forms values) top stringOperand ∷ drop (top + 1) (heldOperands forms values)
+  stack-top top h = rw add-one (drop-cons (heldOperands forms values) top stringOperand (rw heldOperands-size h))
+
+  -- the operands of a record
+  pub operands-size : (top n : ℕ) → top + n ≤ 256 → length (operandsOf n (drop top (heldOperands forms values))) ≡ n
+  operands-size top n h = length-reverse (take n (drop top (heldOperands forms values))) ∙ length-take-le n (drop top (heldOperands forms values)) (rw (stack-size top) (omega arith))
+
+  -- the first of n + 1 operands lies deepest
+  pub operands-first : (top n : ℕ) → top + (n + 1) ≤ 256
+      → operandsOf (n + 1) (drop top (heldOperands forms values)) ≡ getD (heldOperands forms values) (top + n) stringOperand ∷ operandsOf n (drop top (heldOperands forms values))
+  operands-first top n h =
+      rw (add-one, take-suc (drop top (heldOperands forms values)) n stringOperand (rw (stack-size top) (omega arith)), reverse-append, getD-drop)

@@ -1,0 +1,53 @@
+-- `judge::aggregate::judge_operand` meets its contract: at each return the tests before it say which row of the table is the first that applies. Assumes nothing.
+use borrow.Author.Needs.{needs}
+use Rattle.rules.proofs.aggregate.judge_operand.Statement.{statement}
+use Rattle.rules.proofs.aggregate.judge_operand.Tie as tie
+
+is-aggregator-requires : tie.Need-is-aggregator-requires
+is-aggregator-requires c κs = search needs
+
+returns : tie.Need-returns
+returns c = simp (← c .before .is-aggregator .ensures, c .if1 .taken)
+
+is-vector-requires : tie.Need-is-vector-requires
+is-vector-requires c κs = search needs
+
+returns-2 : tie.Need-returns-2
+returns-2 c = simp (← c .before .before .before .is-aggregator .ensures, ← c .before .is-vector .ensures, c .before .before .if1 .left, c .if2 .taken)
+
+asks-scalar-requires : tie.Need-asks-scalar-requires
+asks-scalar-requires c κs = search needs
+
+parameter-is-scalar-requires : tie.Need-parameter-is-scalar-requires
+parameter-is-scalar-requires c κs = search needs
+
+returns-3 : tie.Need-returns-3
+returns-3 c = simp (← c .before .before .before .before .before .before .is-aggregator .ensures, ← c .before .before .before .before .is-vector .ensures, ← c .before .before .asks-scalar .ensures, ← c .before .parameter-is-scalar .ensures, c .before .before .before .before .before .if1 .left, c .before .before .before .if2 .left, c .if3 .taken)
+
+is-count-values-requires : tie.Need-is-count-values-requires
+is-count-values-requires c κs = search needs
+
+parameter-is-string-requires : tie.Need-parameter-is-string-requires
+parameter-is-string-requires c κs = search needs
+
+returns-4 : tie.Need-returns-4
+returns-4 c = simp (← c .before .before .before .before .before .before .before .before .before .is-aggregator .ensures, ← c .before .before .before .before .before .before .before .is-vector .ensures, ← c .before .before .before .before .before .asks-scalar .ensures, ← c .before .before .before .before .parameter-is-scalar .ensures, ← c .before .before .is-count-values .ensures, ← c .before .parameter-is-string .ensures, c .before .before .before .before .before .before .before .before .if1 .left, c .before .before .before .before .before .before .if2 .left, c .before .before .before .if3 .left, c .if4 .taken)
+
+returns-5 : tie.Need-returns-5
+returns-5 c = simp (← c .before .before .before .before .before .before .before .before .before .is-aggregator .ensures, ← c .before .before .before .before .before .before .before .is-vector .ensures, ← c .before .before .before .before .before .asks-scalar .ensures, ← c .before .before .before .before .parameter-is-scalar .ensures, ← c .before .before .is-count-values .ensures, ← c .before .parameter-is-string .ensures, c .before .before .before .before .before .before .before .before .if1 .left, c .before .before .before .before .before .before .if2 .left, c .before .before .before .if3 .left, c .if4 .left)
+
+pub judge-operand-spec : {M : Type 1} → statement M
+judge-operand-spec =
+    tie.close
+    (tie.spec
+    is-aggregator-requires
+    returns
+    is-vector-requires
+    returns-2
+    asks-scalar-requires
+    parameter-is-scalar-requires
+    returns-3
+    is-count-values-requires
+    parameter-is-string-requires
+    returns-4
+    returns-5)

@@ -1,0 +1,58 @@
+-- How a stack of heldOperands lies in two arrays: a operand is a form, and the value that a number has. The arrays are filled from the end
+-- downwards, so that the stack is what lies from its top on.
+use Prim.Native.Nat.{ℕ, _+_}
+use mathlib.Core.Bool.{Bool, true, false}
+use mathlib.Core.List.{List, [], _∷_}
+use mathlib.Core.Path.{_≡_}
+use lib.ListN.{length, getD}
+use lib.Ieee.{Float}
+use Rattle.records.specs.Kind.{vector, scalar, matrix, string, kindNumber}
+use Rattle.records.specs.Float.{zeroFloat}
+use Rattle.ast.specs.Operand.{Operand, numberOperand, stringOperand, selectorOperand, rangeOperand, subqueryOperand, otherOperand}
+
+-- the form of a operand with facts, from its form without any
+abbrev pub markedForm : ℕ → Bool → Bool → ℕ
+markedForm f false false = f
+markedForm f true false = f + 1
+markedForm f false true = f + 2
+markedForm f true true = f + 3
+
+abbrev pub formOf : Operand → ℕ
+formOf (numberOperand x) = 0
+formOf stringOperand = 1
+formOf (selectorOperand a o) = markedForm 2 a o
+formOf (rangeOperand a o) = markedForm 6 a o
+formOf (subqueryOperand a o) = markedForm 10 a o
+formOf (otherOperand k) = 14 + kindNumber k
+
+abbrev pub valueOf : Operand → Float
+valueOf (numberOperand x) = x
+valueOf stringOperand = zeroFloat
+valueOf (selectorOperand a o) = zeroFloat
+valueOf (rangeOperand a o) = zeroFloat
+valueOf (subqueryOperand a o) = zeroFloat
+valueOf (otherOperand k) = zeroFloat
+
+-- the forms 0 to 16; 17 is a string that is no literal
+abbrev pub formTable : Float → List Operand
+formTable x =
+    numberOperand x ∷ stringOperand
+    ∷ selectorOperand false false ∷ selectorOperand true false ∷ selectorOperand false true ∷ selectorOperand true true
+    ∷ rangeOperand false false ∷ rangeOperand true false ∷ rangeOperand false true ∷ rangeOperand true true
+    ∷ subqueryOperand false false ∷ subqueryOperand true false ∷ subqueryOperand false true ∷ subqueryOperand true true
+    ∷ otherOperand vector ∷ otherOperand scalar ∷ otherOperand matrix
+    ∷ []
+
+abbrev pub operandFrom : ℕ → Float → Operand
+operandFrom f x = getD (formTable x) f (otherOperand string)
+
+-- the heldOperands that two arrays hold
+abbrev pub heldOperands : List ℕ → List Float → List Operand
+heldOperands [] xs = []
+heldOperands (f ∷ fs) [] = []
+heldOperands (f ∷ fs) (x ∷ xs) = operandFrom f x ∷ heldOperands fs xs
+
+-- both arrays have a place for each record
+pub record Sized (forms : List ℕ) (values : List Float) : Type 0 where
+  pub forms-size : length forms ≡ 256
+  pub values-size : length values ≡ 256

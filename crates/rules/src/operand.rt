@@ -1,0 +1,122 @@
+// Operands: what later records can ask of an operand. A stack of heldOperands lies in two arrays, the forms and the values of the numbers.
+use records::Kind;
+ghost use Prim.Native.Nat.{_<_};
+ghost use mathlib.Core.Path.{_≡_};
+ghost use lib.ListN.{getD};
+ghost use Rattle.records.specs.Answers.{kindOf};
+ghost use Rattle.ast.specs.Operand.{stringOperand, otherOperand, operandKind};
+ghost use Rattle.rules.specs.Answers.{operandMeant};
+ghost use Rattle.rules.specs.Stack.{markedForm, formOf, valueOf, operandFrom, heldOperands, Sized};
+
+// The facts of a selector, a range and a subquery say that @ is set and that offset is set.
+pub enum Operand {
+    Number(f64),
+    String,
+    Selector(bool, bool),
+    Range(bool, bool),
+    Subquery(bool, bool),
+    Other(Kind),
+}
+
+pub fn kind_of(operand: Operand) -> Kind
+    ensures { λ r. ⌜ kindOf r ≡ operandKind (operandMeant operand) ⌝ }
+{
+    match operand {
+        Operand::Number(_) => Kind::Scalar,
+        Operand::String => Kind::String,
+        Operand::Selector(_, _) => Kind::Vector,
+        Operand::Range(_, _) => Kind::Matrix,
+        Operand::Subquery(_, _) => Kind::Matrix,
+        Operand::Other(kind) => kind,
+    }
+}
+
+// A operand as a byte, and the value that a number has.
+
+// The form of a operand with facts, from its form without any.
+fn marked(form: u8, at: bool, offset: bool) -> u8
+    requires { ⌜ form < 250 ⌝ }
+    ensures { λ r. ⌜ r ≡ markedForm form at offset ⌝ }
+{
+    if at {
+        if offset {
+            return form + 3;
+        }
+        return form + 1;
+    }
+    if offset {
+        return form + 2;
+    }
+    form
+}
+
+fn kind_form(kind: Kind) -> u8
+    ensures { λ r. ⌜ r ≡ formOf (otherOperand (kindOf kind)) ⌝ }
+{
+    match kind {
+        Kind::Vector => 14,
+        Kind::Scalar => 15,
+        Kind::Matrix => 16,
+        Kind::String => 17,
+    }
+}
+
+pub fn form_of(operand: Operand) -> u8
+    ensures { λ r. ⌜ r ≡ formOf (operandMeant operand) ⌝ }
+{
+    match operand {
+        Operand::Number(_) => 0,
+        Operand::String => 1,
+        Operand::Selector(at, offset) => marked(2, at, offset),
+        Operand::Range(at, offset) => marked(6, at, offset),
+        Operand::Subquery(at, offset) => marked(10, at, offset),
+        Operand::Other(kind) => kind_form(kind),
+    }
+}
+
+pub fn value_of(operand: Operand) -> f64
+    ensures { λ r. ⌜ r ≡ valueOf (operandMeant operand) ⌝ }
+{
+    match operand {
+        Operand::Number(value) => value,
+        Operand::String => 0.0,
+        Operand::Selector(_, _) => 0.0,
+        Operand::Range(_, _) => 0.0,
+        Operand::Subquery(_, _) => 0.0,
+        Operand::Other(_) => 0.0,
+    }
+}
+
+pub fn operand_from(form: u8, value: f64) -> Operand
+    ensures { λ r. ⌜ operandMeant r ≡ operandFrom form value ⌝ }
+{
+    match form {
+        0 => Operand::Number(value),
+        1 => Operand::String,
+        2 => Operand::Selector(false, false),
+        3 => Operand::Selector(true, false),
+        4 => Operand::Selector(false, true),
+        5 => Operand::Selector(true, true),
+        6 => Operand::Range(false, false),
+        7 => Operand::Range(true, false),
+        8 => Operand::Range(false, true),
+        9 => Operand::Range(true, true),
+        10 => Operand::Subquery(false, false),
+        11 => Operand::Subquery(true, false),
+        12 => Operand::Subquery(false, true),
+        13 => Operand::Subquery(true, true),
+        14 => Operand::Other(Kind::Vector),
+        15 => Operand::Other(Kind::Scalar),
+        16 => Operand::Other(Kind::Matrix),
+        _ => Operand::Other(Kind::String),
+    }
+}
+
+// The operand at an index of the stack.
+pub fn operand_at(forms: &[u8], values: &[f64], i: usize) -> Operand
+    requires { ⌜ Sized (now forms) (now values) ⌝ }
+    requires { ⌜ i < 256 ⌝ }
+    ensures { λ r. ⌜ operandMeant r ≡ getD (heldOperands (now (forms .entry)) (now (values .entry))) i stringOperand ⌝ }
+{
+    operand_from(forms[i], values[i])
+}

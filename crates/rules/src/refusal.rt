@@ -1,0 +1,88 @@
+// The 34 refusals of document 01's table, in its order, each named after its rule.
+use crate::operand::Operand;
+ghost use mathlib.Core.Path.{_≡_};
+ghost use Rattle.rules.specs.Answers.{refusalNumber};
+
+pub enum Refusal {
+    BadField,
+    OperandsMissing,
+    PastLimit,
+    BadText,
+    OutputTooShort,
+    UnaryOnLiteral,
+    RangeAfterOffset,
+    RangeAfterAt,
+    RangeOnNoSelector,
+    AtTwice,
+    AtOnNoSelector,
+    OffsetTwice,
+    OffsetOnNoSelector,
+    AggregateOfNothing,
+    ArgumentCount,
+    AggregatorAsOperator,
+    BoolWithoutComparison,
+    ScalarsCompared,
+    LabelInBothLists,
+    SetOfScalar,
+    SetGrouped,
+    SideKind,
+    MatchingWithoutVectors,
+    OperatorAsAggregator,
+    AggregateKind,
+    FixedArity,
+    TooFewArguments,
+    TooManyArguments,
+    NoDeclaredKinds,
+    ArgumentKind,
+    UnaryKind,
+    SubqueryKind,
+    NameTwice,
+    EmptySelector,
+}
+
+pub fn refusal_number(refusal: Refusal) -> u64
+    ensures { λ r. ⌜ r ≡ refusalNumber refusal ⌝ }
+{
+    match refusal {
+        Refusal::BadField => 1,
+        Refusal::OperandsMissing => 2,
+        Refusal::PastLimit => 3,
+        Refusal::BadText => 4,
+        Refusal::OutputTooShort => 5,
+        Refusal::UnaryOnLiteral => 6,
+        Refusal::RangeAfterOffset => 7,
+        Refusal::RangeAfterAt => 8,
+        Refusal::RangeOnNoSelector => 9,
+        Refusal::AtTwice => 10,
+        Refusal::AtOnNoSelector => 11,
+        Refusal::OffsetTwice => 12,
+        Refusal::OffsetOnNoSelector => 13,
+        Refusal::AggregateOfNothing => 14,
+        Refusal::ArgumentCount => 15,
+        Refusal::AggregatorAsOperator => 16,
+        Refusal::BoolWithoutComparison => 17,
+        Refusal::ScalarsCompared => 18,
+        Refusal::LabelInBothLists => 19,
+        Refusal::SetOfScalar => 20,
+        Refusal::SetGrouped => 21,
+        Refusal::SideKind => 22,
+        Refusal::MatchingWithoutVectors => 23,
+        Refusal::OperatorAsAggregator => 24,
+        Refusal::AggregateKind => 25,
+        Refusal::FixedArity => 26,
+        Refusal::TooFewArguments => 27,
+        Refusal::TooManyArguments => 28,
+        Refusal::NoDeclaredKinds => 29,
+        Refusal::ArgumentKind => 30,
+        Refusal::UnaryKind => 31,
+        Refusal::SubqueryKind => 32,
+        Refusal::NameTwice => 33,
+        Refusal::EmptySelector => 34,
+    }
+}
+
+// What a record comes to: a operand on the stack, or a refusal.
+pub enum Verdict {
+    Put(Operand),
+    Refused(Refusal),
+}

@@ -1,0 +1,130 @@
+// Records on one operand (ast.rs, `new_unary_expr`, `new_matrix_selector`, `at_expr`, `offset_expr`, `new_subquery_expr`).
+use crate::kind::is_operand;
+use crate::kind::is_vector;
+use crate::operand::Operand;
+use crate::operand::kind_of;
+use crate::refusal::Refusal;
+use crate::refusal::Verdict;
+use records::Kind;
+ghost use mathlib.Core.Path.{_≡_};
+ghost use Rattle.ast.specs.Refusal.{ok};
+ghost use Rattle.ast.specs.Operand.{otherOperand, operandKind};
+ghost use Rattle.ast.specs.Judge.{judgeUnary, judgeRange, judgeAt, judgeOffset, judgeSubquery};
+ghost use Rattle.rules.specs.Answers.{operandMeant, verdictMeant};
+
+// A number is negated; 6 on a string literal or a range selector, 31 on another operand that is no scalar or vector.
+pub fn judge_unary(operand: Operand) -> Verdict
+    ensures { λ r. ⌜ verdictMeant r ≡ judgeUnary (operandMeant operand) ⌝ }
+{
+    match operand {
+        Operand::Number(value) => Verdict::Put(Operand::Number(-value)),
+        Operand::String => Verdict::Refused(Refusal::UnaryOnLiteral),
+        Operand::Selector(_, _) => Verdict::Put(Operand::Other(Kind::Vector)),
+        Operand::Range(_, _) => Verdict::Refused(Refusal::UnaryOnLiteral),
+        Operand::Subquery(_, _) => Verdict::Refused(Refusal::UnaryKind),
+        Operand::Other(kind) => {
+            if is_operand(kind) {
+                Verdict::Put(Operand::Other(kind))
+            } else {
+                Verdict::Refused(Refusal::UnaryKind)
+            }
+        }
+    }
+}
+
+// 7 after offset, 8 after @, 9 on anything but a selector.
+pub fn judge_range(operand: Operand) -> Verdict
+    ensures { λ r. ⌜ verdictMeant r ≡ judgeRange (operandMeant operand) ⌝ }
+{
+    match operand {
+        Operand::Number(_) => Verdict::Refused(Refusal::RangeOnNoSelector),
+        Operand::String => Verdict::Refused(Refusal::RangeOnNoSelector),
+        Operand::Selector(at, offset) => {
+            if offset {
+                return Verdict::Refused(Refusal::RangeAfterOffset);
+            }
+            if at {
+                return Verdict::Refused(Refusal::RangeAfterAt);
+            }
+            Verdict::Put(Operand::Range(false, false))
+        }
+        Operand::Range(_, _) => Verdict::Refused(Refusal::RangeOnNoSelector),
+        Operand::Subquery(_, _) => Verdict::Refused(Refusal::RangeOnNoSelector),
+        Operand::Other(_) => Verdict::Refused(Refusal::RangeOnNoSelector),
+    }
+}
+
+// 10 where @ is set already, 11 on a operand that has none.
+pub fn judge_at(operand: Operand) -> Verdict
+    ensures { λ r. ⌜ verdictMeant r ≡ judgeAt (operandMeant operand) ⌝ }
+{
+    match operand {
+        Operand::Number(_) => Verdict::Refused(Refusal::AtOnNoSelector),
+        Operand::String => Verdict::Refused(Refusal::AtOnNoSelector),
+        Operand::Selector(at, offset) => {
+            if at {
+                return Verdict::Refused(Refusal::AtTwice);
+            }
+            Verdict::Put(Operand::Selector(true, offset))
+        }
+        Operand::Range(at, offset) => {
+            if at {
+                return Verdict::Refused(Refusal::AtTwice);
+            }
+            Verdict::Put(Operand::Range(true, offset))
+        }
+        Operand::Subquery(at, offset) => {
+            if at {
+                return Verdict::Refused(Refusal::AtTwice);
+            }
+            Verdict::Put(Operand::Subquery(true, offset))
+        }
+        Operand::Other(_) => Verdict::Refused(Refusal::AtOnNoSelector),
+    }
+}
+
+// 12 where offset is set already, 13 on a operand that has none.
+pub fn judge_offset(operand: Operand) -> Verdict
+    ensures { λ r. ⌜ verdictMeant r ≡ judgeOffset (operandMeant operand) ⌝ }
+{
+    match operand {
+        Operand::Number(_) => Verdict::Refused(Refusal::OffsetOnNoSelector),
+        Operand::String => Verdict::Refused(Refusal::OffsetOnNoSelector),
+        Operand::Selector(at, offset) => {
+            if offset {
+                return Verdict::Refused(Refusal::OffsetTwice);
+            }
+            Verdict::Put(Operand::Selector(at, true))
+        }
+        Operand::Range(at, offset) => {
+            if offset {
+                return Verdict::Refused(Refusal::OffsetTwice);
+            }
+            Verdict::Put(Operand::Range(at, true))
+        }
+        Operand::Subquery(at, offset) => {
+            if offset {
+                return Verdict::Refused(Refusal::OffsetTwice);
+            }
+            Verdict::Put(Operand::Subquery(at, true))
+        }
+        Operand::Other(_) => Verdict::Refused(Refusal::OffsetOnNoSelector),
+    }
+}
+
+// 32 where the operand is no vector.
+pub fn judge_subquery(operand: Operand) -> Verdict
+    ensures { λ r. ⌜ verdictMeant r ≡ judgeSubquery (operandMeant operand) ⌝ }
+{
+    if is_vector(kind_of(operand)) {
+        Verdict::Put(Operand::Subquery(false, false))
+    } else {
+        Verdict::Refused(Refusal::SubqueryKind)
+    }
+}
+
+pub fn judge_paren(operand: Operand) -> Verdict
+    ensures { λ r. ⌜ verdictMeant r ≡ ok (otherOperand (operandKind (operandMeant operand))) ⌝ }
+{
+    Verdict::Put(Operand::Other(kind_of(operand)))
+}

@@ -1,0 +1,124 @@
+-- Tokens with labels in brackets: the texts of matching, cardinality and grouping by their forms, as the code has them. Assumes nothing.
+use Prim.Native.Nat.{ℕ, _+_, min}
+use Prim.Native.String.{String}
+use native.Mathlib.Omega.{arith}
+use mathlib.Core.Bool.{Bool, true, false}
+use mathlib.Core.List.{List, [], _∷_, _++_, append-assoc}
+use mathlib.Core.Option.{some}
+use mathlib.Core.Path.{_≡_, refl, sym, ap, _∙_}
+use lib.ListN.{length, length-append, drop}
+use Rattle.base.specs.Splice.{Cut, cut-length, join}
+use Rattle.page.specs.Bytes.{pick, bytes, isEmpty}
+use Rattle.page.specs.Read.{Reader}
+use Rattle.page.specs.Text.{readAnyText}
+use Rattle.page.specs.Listed.{listed, AllRead}
+use Rattle.page.proofs.ListLaws.{listed-none}
+use Rattle.records.specs.Field.{Labels}
+use Rattle.records.specs.Modifier.{include, exclude}
+use Rattle.records.specs.Answers.{labelsOn, labelModifierOn, LabelModifierStored, cardinalityOn}
+use Rattle.records.specs.declared.modifier.LabelModifier.{LabelModifier}
+use Rattle.records.specs.declared.modifier.LabelModifier.the-variants.{None, Include, Exclude}
+use Rattle.records.specs.declared.modifier.Cardinality.{Cardinality}
+use Rattle.records.specs.declared.modifier.Cardinality.the-variants.{OneToOne, ManyToOne, OneToMany, ManyToMany}
+use Rattle.label.specs.Label.{displayLabels}
+use Rattle.text.specs.Display.{labelled, displayMatching, displayCardinality, displayGrouping}
+use Rattle.tokens.specs.Labelled.{labelledBytes}
+
+pub never : false ≡ true → ⊥
+never e = let z : _≡_ {A = ℕ} 0 1 = ap (λ (b : Bool). pick b 1 0) e in omega arith
+
+-- ## labelled
+
+pub four : (a b c d : List ℕ) → ((a ++ b) ++ c) ++ d ≡ a ++ (b ++ (c ++ d))
+four a b c d = append-assoc (a ++ b) c d ∙ append-assoc a b (c ++ d)
+
+pub labelled-bytes : (w : String) (ls : Labels) → labelled w ls ≡ labelledBytes (bytes w) ls
+unfolding labelledBytes join
+labelled-bytes w ls = four (bytes w) (32 ∷ 40 ∷ []) (displayLabels ls) (41 ∷ [])
+
+pub length-labelledBytes : (w : List ℕ) (ls : Labels) → length (labelledBytes w ls) ≡ length w + 3 + length (displayLabels ls)
+unfolding labelledBytes join
+length-labelledBytes w ls = omega (arith, length-append w (32 ∷ 40 ∷ (displayLabels ls ++ (41 ∷ []))), length-append (displayLabels ls) (41 ∷ []))
+
+-- ## isEmpty of a list that can be read: its count says it
+
+module _ {A : Type 0} (r : Reader A) (n : ℕ) (s : List ℕ) where
+  pub none-listed : n ≡ 0 → isEmpty (listed r n s) ≡ true
+  none-listed none = rw (listed-none r n s (omega arith))
+
+  pub some-listed : AllRead r n s → (n ≡ 0 → ⊥) → isEmpty (listed r n s) ≡ false
+  some-listed all some· = by (listed r n s) all
+    where
+      by : (l : List A) → length l ≡ n → isEmpty l ≡ false
+      by [] e = absurd (some· (sym e))
+      by (a ∷ l) e = refl
+
+-- ## Matching and grouping
+
+ignored : (ls : Labels) → isEmpty ls ≡ false → displayMatching (some (exclude ls)) ≡ labelled " ignoring" ls
+ignored [] e = absurd (never (sym e))
+ignored (l ∷ ls) e = refl
+
+vanished : (ls : Labels) → isEmpty ls ≡ true → displayMatching (some (exclude ls)) ≡ []
+vanished [] e = refl
+vanished (l ∷ ls) e = absurd (never e)
+
+grouped : (ls : Labels) → isEmpty ls ≡ false → displayGrouping (some (include ls)) ≡ labelled " by" ls ++ (32 ∷ [])
+grouped [] e = absurd (never (sym e))
+grouped (l ∷ ls) e = refl
+
+ungrouped : (ls : Labels) → isEmpty ls ≡ true → displayGrouping (some (include ls)) ≡ []
+ungrouped [] e = refl
+ungrouped (l ∷ ls) e = absurd (never e)
+
+module _ (page : List ℕ) (m : LabelModifier) where
+  pub matching-none : m ≡ None → displayMatching (labelModifierOn page m) ≡ []
+  matching-none e = rw e
+
+  pub matching-on : (s n : ℕ) → m ≡ Include s n → displayMatching (labelModifierOn page m) ≡ labelledBytes (32 ∷ 111 ∷ 110 ∷ []) (labelsOn page s n)
+  matching-on s n e = rw e (labelled-bytes " on" (labelsOn page s n))
+
+  module _ (s n : ℕ) (e : m ≡ Exclude s n) where
+    pub matching-vanishes : n ≡ 0 → displayMatching (labelModifierOn page m) ≡ []
+    matching-vanishes none = rw e (vanished (labelsOn page s n) (none-listed readAnyText n (drop s page) none))
+
+    pub matching-ignoring : LabelModifierStored page m → (n ≡ 0 → ⊥) → displayMatching (labelModifierOn page m) ≡ labelledBytes (32 ∷ 105 ∷ 103 ∷ 110 ∷ 111 ∷ 114 ∷ 105 ∷ 110 ∷ 103 ∷ []) (labelsOn page s n)
+    matching-ignoring all some· = rw e (ignored (labelsOn page s n) (some-listed readAnyText n (drop s page) (rw e at all) some·) ∙ labelled-bytes " ignoring" (labelsOn page s n))
+
+  pub grouping-none : m ≡ None → displayGrouping (labelModifierOn page m) ≡ []
+  grouping-none e = rw e
+
+  pub grouping-without : (s n : ℕ) → m ≡ Exclude s n
+      → Cut (displayGrouping (labelModifierOn page m)) (labelledBytes (32 ∷ 119 ∷ 105 ∷ 116 ∷ 104 ∷ 111 ∷ 117 ∷ 116 ∷ []) (labelsOn page s n)) (32 ∷ [])
+  grouping-without s n e = record { is = rw e (ap (λ (l : List ℕ). l ++ (32 ∷ [])) (labelled-bytes " without" (labelsOn page s n))) }
+
+  module _ (s n : ℕ) (e : m ≡ Include s n) where
+    pub grouping-vanishes : n ≡ 0 → displayGrouping (labelModifierOn page m) ≡ []
+    grouping-vanishes none = rw e (ungrouped (labelsOn page s n) (none-listed readAnyText n (drop s page) none))
+
+    pub grouping-by : LabelModifierStored page m → (n ≡ 0 → ⊥) → Cut (displayGrouping (labelModifierOn page m)) (labelledBytes (32 ∷ 98 ∷ 121 ∷ []) (labelsOn page s n)) (32 ∷ [])
+    grouping-by all some· = record { is = rw e (grouped (labelsOn page s n) (some-listed readAnyText n (drop s page) (rw e at all) some·) ∙ ap (λ (l : List ℕ). l ++ (32 ∷ [])) (labelled-bytes " by" (labelsOn page s n))) }
+
+-- ## Cardinality
+
+module _ (page : List ℕ) (c : Cardinality) where
+  pub cardinality-one : c ≡ OneToOne → displayCardinality (cardinalityOn page c) ≡ []
+  cardinality-one e = rw e
+
+  pub cardinality-many : c ≡ ManyToMany → displayCardinality (cardinalityOn page c) ≡ []
+  cardinality-many e = rw e
+
+  pub cardinality-left : (s n : ℕ) → c ≡ ManyToOne s n
+      → displayCardinality (cardinalityOn page c) ≡ labelledBytes (32 ∷ 103 ∷ 114 ∷ 111 ∷ 117 ∷ 112 ∷ 95 ∷ 108 ∷ 101 ∷ 102 ∷ 116 ∷ []) (labelsOn page s n)
+  cardinality-left s n e = rw e (labelled-bytes " group_left" (labelsOn page s n))
+
+  pub cardinality-right : (s n : ℕ) → c ≡ OneToMany s n
+      → displayCardinality (cardinalityOn page c) ≡ labelledBytes (32 ∷ 103 ∷ 114 ∷ 111 ∷ 117 ∷ 112 ∷ 95 ∷ 114 ∷ 105 ∷ 103 ∷ 104 ∷ 116 ∷ []) (labelsOn page s n)
+  cardinality-right s n e = rw e (labelled-bytes " group_right" (labelsOn page s n))
+
+-- ## Lengths
+
+-- a list with a space after it: n is the length of its token and that space
+pub grouping-measured : {text : List ℕ} (w : List ℕ) (ls : Labels) (n cap r : ℕ) → n ≡ length w + 1 → Cut text (labelledBytes w ls) (32 ∷ [])
+    → r ≡ min (n + 3 + length (displayLabels ls)) cap → r ≡ min (length text) cap
+grouping-measured w ls n cap r e cutting is = omega (arith, cut-length cutting, length-labelledBytes w ls)

@@ -1,0 +1,39 @@
+-- `words::fill::both_len` meets its contract: one fill, or each. Assumes nothing.
+use borrow.Author.Needs.{needs}
+use native.Mathlib.Omega.{arith}
+use mathlib.Core.Path.{ap}
+use lib.ListN.{length}
+use Rattle.base.specs.Splice.{cut-length}
+use Rattle.records.specs.Answers.{literalOf}
+use Rattle.tokens.proofs.FillLaws.{length-filledBytes, fillWord, leftWord, rightWord, both-one, both-each}
+use Rattle.tokens.proofs.fill.both_len.Statement.{statement}
+use Rattle.tokens.proofs.fill.both_len.Tie as tie
+
+filled-len-requires : tie.Need-filled-len-requires
+filled-len-requires c κs = search needs
+
+returns : tie.Need-returns
+returns c = omega (arith, c .filled-len .ensures, ap length (both-one _ (literalOf (c .before .before .args .left)) (literalOf (c .before .before .args .right)) (c .before .if1 .taken)), length-filledBytes fillWord (literalOf (c .before .before .args .right)))
+
+filled-len-requires-2 : tie.Need-filled-len-requires-2
+filled-len-requires-2 c κs = search needs
+
+filled-len-requires-3 : tie.Need-filled-len-requires-3
+filled-len-requires-3 c κs = search needs
+
+add-result : tie.Need-add-result
+add-result c = search needs
+
+returns-2 : tie.Need-returns-2
+returns-2 c = omega (arith, c .before .filled-len2 .ensures, c .filled-len3 .ensures, cut-length (both-each _ (literalOf (c .before .before .before .args .left)) (literalOf (c .before .before .before .args .right)) (c .before .before .if1 .left)), length-filledBytes leftWord (literalOf (c .before .before .before .args .left)), length-filledBytes rightWord (literalOf (c .before .before .before .args .right)))
+
+pub both-len-spec : {M : Type 1} → statement M
+both-len-spec =
+    tie.close
+    (tie.spec
+    filled-len-requires
+    returns
+    filled-len-requires-2
+    filled-len-requires-3
+    add-result
+    returns-2)

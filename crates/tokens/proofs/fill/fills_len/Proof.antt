@@ -1,0 +1,87 @@
+-- `words::fill::fills_len` meets its contract: the marks of the values say which fills are there. Assumes nothing.
+use borrow.Author.Needs.{needs}
+use native.Mathlib.Omega.{arith}
+use mathlib.Core.Path.{ap}
+use lib.ListN.{length}
+use Rattle.records.specs.Answers.{fillOf}
+use Rattle.tokens.proofs.FillLaws.{length-filledBytes, fills-none, fills-right, fills-left, fills-both}
+use Rattle.tokens.proofs.fill.fills_len.Statement.{statement}
+use Rattle.tokens.proofs.fill.fills_len.Tie as tie
+
+same-fills-requires : tie.Need-same-fills-requires
+same-fills-requires c κs = search needs
+
+digits-of-requires : tie.Need-digits-of-requires
+digits-of-requires c κs = search needs
+
+digits-of-requires-2 : tie.Need-digits-of-requires-2
+digits-of-requires-2 c κs = search needs
+
+both-len-requires : tie.Need-both-len-requires
+both-len-requires c κs = search needs
+
+returns : tie.Need-returns
+returns c =
+    let at-same = c .before .before .before in
+    let at-if2 = at-same .before in
+    let start = at-if2 .before .before in
+    rw (
+      fills-both (fillOf (start .args .lhs)) (fillOf (start .args .rhs)) _ (start .pre .0) _ (at-if2 .before .if1 .taken) (at-if2 .if2 .taken)
+          (start .pre .1) (start .pre .2) (at-same .same-fills .ensures),
+      ← c .before .before .digits-of .ensures,
+      ← c .before .digits-of2 .ensures,
+    ) (c .both-len .ensures)
+
+digits-of-requires-3 : tie.Need-digits-of-requires-3
+digits-of-requires-3 c κs = search needs
+
+filled-len-requires : tie.Need-filled-len-requires
+filled-len-requires c κs = search needs
+
+returns-2 : tie.Need-returns-2
+returns-2 c =
+    let at-if2 = c .before .before in
+    let start = at-if2 .before .before in
+    rw (
+      fills-left (fillOf (start .args .lhs)) (fillOf (start .args .rhs)) _ (start .pre .0) (at-if2 .before .if1 .taken) (at-if2 .if2 .left),
+      length-filledBytes,
+      ← c .before .digits-of3 .ensures,
+    ) (omega (arith, c .filled-len .ensures))
+
+digits-of-requires-4 : tie.Need-digits-of-requires-4
+digits-of-requires-4 c κs = search needs
+
+filled-len-requires-2 : tie.Need-filled-len-requires-2
+filled-len-requires-2 c κs = search needs
+
+returns-3 : tie.Need-returns-3
+returns-3 c =
+    let at-if3 = c .before .before in
+    let start = at-if3 .before .before in
+    rw (
+      fills-right (fillOf (start .args .lhs)) (fillOf (start .args .rhs)) _ (start .pre .0) (at-if3 .before .if1 .left) (at-if3 .if3 .taken),
+      length-filledBytes,
+      ← c .before .digits-of4 .ensures,
+    ) (omega (arith, c .filled-len2 .ensures))
+
+returns-4 : tie.Need-returns-4
+returns-4 c =
+    let start = c .before .before in
+    omega (arith, ap length (fills-none (fillOf (start .args .lhs)) (fillOf (start .args .rhs)) _ (start .pre .0) (c .before .if1 .left) (c .if3 .left)))
+
+pub fills-len-spec : {M : Type 1} → statement M
+fills-len-spec =
+    tie.close
+    (tie.spec
+    same-fills-requires
+    digits-of-requires
+    digits-of-requires-2
+    both-len-requires
+    returns
+    digits-of-requires-3
+    filled-len-requires
+    returns-2
+    digits-of-requires-4
+    filled-len-requires-2
+    returns-3
+    returns-4)

@@ -1,0 +1,51 @@
+-- `words::fill::put_filled` meets its contract: the pieces of its text, one after the other. Assumes nothing.
+use borrow.Author.Needs.{needs}
+use denote.Ref.{now}
+use mathlib.Core.Path.{refl}
+use mathlib.Core.List.{[], _∷_}
+use Rattle.base.specs.Splice.{join, start, fits, next, end, Run}
+use Rattle.records.specs.Answers.{literalOf}
+use Rattle.leaves.specs.Numeral.{displayFill}
+use Rattle.tokens.specs.Labelled.{filledBytes}
+use Rattle.tokens.proofs.fill.put_filled.Statement.{statement}
+use Rattle.tokens.proofs.fill.put_filled.Tie as tie
+
+-- before the first write
+begun : (s : tie.Start)
+    → Run (now (s .args .out)) (now (s .args .out)) (s .args .at) (filledBytes (now (s .args .token)) (literalOf (s .args .literal)))
+    (now (s .args .token) ∷ (32 ∷ 40 ∷ []) ∷ displayFill (literalOf (s .args .literal)) ∷ (41 ∷ []) ∷ []) (s .args .at)
+unfolding join filledBytes
+begun s = start (s .pre) (refl)
+
+put-bytes-requires : tie.Need-put-bytes-requires
+put-bytes-requires c κs = fits (begun (c .before .before .before))
+
+slice-aggregate-put-bytes : tie.Need-slice-aggregate-put-bytes
+slice-aggregate-put-bytes c = search needs
+
+put-bytes-requires-2 : tie.Need-put-bytes-requires-2
+put-bytes-requires-2 c κs = fits (next (begun (c .before .before .before .before .before .before .before .before)) (c .before .before .before .before .put-bytes .ensures))
+
+put-fill-requires : tie.Need-put-fill-requires
+put-fill-requires c κs = fits (next (next (begun (c .before .before .before .before .before .before .before .before .before .before .before .before)) (c .before .before .before .before .before .before .before .before .put-bytes .ensures)) (c .before .before .before .put-bytes2 .ensures))
+
+put-byte-requires : tie.Need-put-byte-requires
+put-byte-requires c κs = fits (next (next (next (begun (c .before .before .before .before .before .before .before .before .before .before .before .before .before .before .before .before)) (c .before .before .before .before .before .before .before .before .before .before .before .before .put-bytes .ensures)) (c .before .before .before .before .before .before .before .put-bytes2 .ensures)) (c .before .before .before .put-fill .ensures))
+
+same-length : tie.Need-same-length
+same-length c = search needs
+
+returns : tie.Need-returns
+returns c = end (next (next (next (next (begun (c .before .before .before .before .before .before .before .before .before .before .before .before .before .before .before .before .before .before .before)) (c .before .before .before .before .before .before .before .before .before .before .before .before .before .before .before .put-bytes .ensures)) (c .before .before .before .before .before .before .before .before .before .before .put-bytes2 .ensures)) (c .before .before .before .before .before .before .put-fill .ensures)) (c .before .before .put-byte .ensures))
+
+pub put-filled-spec : {M : Type 1} → statement M
+put-filled-spec =
+    tie.close
+    (tie.spec
+    put-bytes-requires
+    slice-aggregate-put-bytes
+    put-bytes-requires-2
+    put-fill-requires
+    put-byte-requires
+    same-length
+    returns)

@@ -1,0 +1,123 @@
+// Matching, grouping and cardinality (ast.rs, `BinModifier`, `get_op_string`): words with labels, each with its space in front.
+use crate::labelled::labelled_len;
+use crate::labelled::put_labelled;
+use page::put_byte;
+use records::Cardinality;
+use records::LabelModifier;
+ghost use mathlib.Core.Path.{_≡_};
+ghost use Prim.Native.Nat.{_+_, _≤_, min};
+ghost use lib.ListN.{length};
+ghost use Rattle.base.specs.Splice.{Wrote};
+ghost use Rattle.records.specs.Answers.{labelModifierOn, LabelModifierStored, cardinalityOn, CardinalityStored};
+ghost use Rattle.text.specs.Display.{displayMatching, displayCardinality, displayGrouping};
+
+// `ignoring ()` vanishes, `on ()` is printed.
+pub fn matching_len(page: &[u8], matching: LabelModifier, cap: usize) -> usize
+    requires { ⌜ LabelModifierStored (now page) matching ⌝ }
+    ensures { λ r. ⌜ r ≡ min (length (displayMatching (labelModifierOn (now (page .entry)) matching))) cap ⌝ }
+{
+    match matching {
+        LabelModifier::None => 0,
+        LabelModifier::Include(start, count) => labelled_len(3, page, start, count, cap),
+        LabelModifier::Exclude(start, count) => {
+            if count == 0 {
+                return 0;
+            }
+            labelled_len(9, page, start, count, cap)
+        }
+    }
+}
+
+pub fn put_matching(page: &[u8], matching: LabelModifier, out: &mut [u8], at: usize) -> usize
+    requires { ⌜ LabelModifierStored (now page) matching ⌝ }
+    requires { ⌜ at + length (displayMatching (labelModifierOn (now page) matching)) ≤ length (now out) ⌝ }
+    ensures { λ r. ⌜ Wrote (now (out .entry)) (now (out .exit)) at (displayMatching (labelModifierOn (now (page .entry)) matching)) r ⌝ }
+{
+    match matching {
+        LabelModifier::None => at,
+        LabelModifier::Include(start, count) => put_labelled(b" on", page, start, count, out, at),
+        LabelModifier::Exclude(start, count) => {
+            if count == 0 {
+                return at;
+            }
+            put_labelled(b" ignoring", page, start, count, out, at)
+        }
+    }
+}
+
+pub fn cardinality_len(page: &[u8], card: Cardinality, cap: usize) -> usize
+    requires { ⌜ CardinalityStored (now page) card ⌝ }
+    ensures { λ r. ⌜ r ≡ min (length (displayCardinality (cardinalityOn (now (page .entry)) card))) cap ⌝ }
+{
+    match card {
+        Cardinality::OneToOne => 0,
+        Cardinality::ManyToOne(start, count) => labelled_len(11, page, start, count, cap),
+        Cardinality::OneToMany(start, count) => labelled_len(12, page, start, count, cap),
+        Cardinality::ManyToMany => 0,
+    }
+}
+
+pub fn put_cardinality(page: &[u8], card: Cardinality, out: &mut [u8], at: usize) -> usize
+    requires { ⌜ CardinalityStored (now page) card ⌝ }
+    requires { ⌜ at + length (displayCardinality (cardinalityOn (now page) card)) ≤ length (now out) ⌝ }
+    ensures { λ r. ⌜ Wrote (now (out .entry)) (now (out .exit)) at (displayCardinality (cardinalityOn (now (page .entry)) card)) r ⌝ }
+{
+    match card {
+        Cardinality::OneToOne => at,
+        Cardinality::ManyToOne(start, count) => put_labelled(
+            b" group_left",
+            page,
+            start,
+            count,
+            out,
+            at,
+        ),
+        Cardinality::OneToMany(start, count) => put_labelled(
+            b" group_right",
+            page,
+            start,
+            count,
+            out,
+            at,
+        ),
+        Cardinality::ManyToMany => at,
+    }
+}
+
+// `by ()` vanishes, `without ()` is printed. A space stands after a list.
+pub fn grouping_len(page: &[u8], grouping: LabelModifier, cap: usize) -> usize
+    requires { ⌜ LabelModifierStored (now page) grouping ⌝ }
+    ensures { λ r. ⌜ r ≡ min (length (displayGrouping (labelModifierOn (now (page .entry)) grouping))) cap ⌝ }
+{
+    match grouping {
+        LabelModifier::None => 0,
+        LabelModifier::Include(start, count) => {
+            if count == 0 {
+                return 0;
+            }
+            labelled_len(4, page, start, count, cap)
+        }
+        LabelModifier::Exclude(start, count) => labelled_len(9, page, start, count, cap),
+    }
+}
+
+pub fn put_grouping(page: &[u8], grouping: LabelModifier, out: &mut [u8], at: usize) -> usize
+    requires { ⌜ LabelModifierStored (now page) grouping ⌝ }
+    requires { ⌜ at + length (displayGrouping (labelModifierOn (now page) grouping)) ≤ length (now out) ⌝ }
+    ensures { λ r. ⌜ Wrote (now (out .entry)) (now (out .exit)) at (displayGrouping (labelModifierOn (now (page .entry)) grouping)) r ⌝ }
+{
+    match grouping {
+        LabelModifier::None => at,
+        LabelModifier::Include(start, labels) => {
+            if labels == 0 {
+                return at;
+            }
+            let space = put_labelled(b" by", page, start, labels, out, at);
+            put_byte(b' ', out, space)
+        }
+        LabelModifier::Exclude(start, count) => {
+            let space = put_labelled(b" without", page, start, count, out, at);
+            put_byte(b' ', out, space)
+        }
+    }
+}

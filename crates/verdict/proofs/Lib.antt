@@ -1,4 +1,0 @@
-pub mod ModifierLaws
-pub mod DeclaredLaws
-pub mod CallLaws
-pub mod RecordLaws

@@ -1,0 +1,29 @@
+-- `checking::walk::first_record` meets its contract. Assumes nothing.
+use denote.Ref.{now}
+use Rattle.walk.proofs.BasesLaws.{firstOf-some}
+use borrow.Author.Needs.{needs}
+use Rattle.walk.proofs.walk.first_record.Statement.{statement}
+use Rattle.walk.proofs.walk.first_record.Tie as tie
+
+cast-result : tie.Need-cast-result
+cast-result c = search needs
+
+returns : tie.Need-returns
+returns c = search needs
+
+sub-result : tie.Need-sub-result
+sub-result c = search needs
+
+add-result : tie.Need-add-result
+add-result c = search needs
+
+shared-slice-read-result : tie.Need-shared-slice-read-result
+shared-slice-read-result c = search needs
+
+returns-2 : tie.Need-returns-2
+returns-2 c = firstOf-some (now (c .before .before .args .bases)) (c .before .before .args .top) (c .before .before .args .needed) (c .before .before .args .count) (c .before .if1 .left)
+
+pub first-record-spec : {M : Type 1} → statement M
+first-record-spec =
+    tie.close
+    (tie.spec cast-result returns sub-result add-result shared-slice-read-result returns-2)

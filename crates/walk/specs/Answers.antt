@@ -1,0 +1,49 @@
+-- What the answers of the check mean: document 01's kinds and numbers, and what the walk leaves in its tables.
+use Prim.Native.Nat.{ℕ, _-_}
+use mathlib.Core.List.{List}
+use mathlib.Core.Path.{_≡_}
+use lib.ListN.{drop}
+use Rattle.records.specs.Kind.{Kind}
+use Rattle.records.specs.Outcome as spec
+use Rattle.records.specs.Answers.{kindOf}
+use Rattle.ast.specs.Walk.{accepted, refusedAt}
+use Rattle.ast.specs.Expr.{valueType}
+use Rattle.ast.specs.CheckPage.{checkPage}
+use Rattle.ast.specs.Tables.{treeAt, Tables}
+use Rattle.rules.specs.Answers.{refusalNumber}
+use Rattle.walk.specs.declared.answer.Outcome.{Outcome}
+use Rattle.walk.specs.declared.answer.Outcome.the-variants as outcome
+use Rattle.walk.specs.declared.walk.Walked.{Walked}
+use Rattle.walk.specs.declared.walk.Walked.the-variants as walked
+
+-- the kind and the count of bytes written, or the refusal's number and the record's index
+abbrev pub outcomeMeant : Outcome → spec.Outcome
+outcomeMeant (outcome.Accepted k n) = spec.answer (kindOf k) n
+outcomeMeant (outcome.Refused r i) = spec.refusal (refusalNumber r) i
+
+-- an accepted page of n records: the tables, the tree that its last record ends, and the kind of this tree
+pub record Accepts (page starts firsts : List ℕ) (k : Kind) (n : ℕ) : Type 0 where
+  pub tables : Tables page starts firsts n
+  pub tree : checkPage page ≡ accepted (treeAt page (n - 1)) n
+  pub kind : valueType (treeAt page (n - 1)) ≡ k
+
+-- a page refused with a number at record i: the tables of the records before it
+pub record Refuses (page starts firsts : List ℕ) (number i : ℕ) : Type 0 where
+  pub tables : Tables page starts firsts i
+  pub refuses : checkPage page ≡ refusedAt number i
+
+-- what the walk's answer says of the page and of the tables
+abbrev pub WalkSays : List ℕ → List ℕ → List ℕ → Walked → Type 0
+WalkSays page starts firsts (walked.Accepted k n) = Accepts page starts firsts (kindOf k) n
+WalkSays page starts firsts (walked.Refused r i) = Refuses page starts firsts (refusalNumber r) i
+
+-- how many records were accepted, each with an entry in both tables
+abbrev pub entriesOf : Walked → ℕ
+entriesOf (walked.Accepted k n) = n
+entriesOf (walked.Refused r i) = i
+
+-- the walk's answer, and that the entries after those of the records accepted are as they were
+pub record Walks (page startsBefore firstsBefore starts firsts : List ℕ) (r : Walked) : Type 0 where
+  pub says : WalkSays page starts firsts r
+  pub starts-kept : drop (entriesOf r) starts ≡ drop (entriesOf r) startsBefore
+  pub firsts-kept : drop (entriesOf r) firsts ≡ drop (entriesOf r) firstsBefore

@@ -1,0 +1,107 @@
+// The walk over a page's records. The stack of heldOperands lies in two arrays, filled from the end downwards, and beside them the first
+// record of each entry's expression. In two tables it leaves where each record starts, and the first record of the expression that
+// the record ends.
+use crate::answer::field_refusal;
+use judge::record::judge_record;
+use judge::record::operand_count;
+use reader::Record;
+use reader::RecordField;
+use reader::read_record;
+use records::Kind;
+use rules::Refusal;
+use rules::Verdict;
+use rules::operand::form_of;
+use rules::operand::kind_of;
+use rules::operand::operand_at;
+use rules::operand::value_of;
+ghost use Prim.Native.Nat.{_+_, _≤_, _<_};
+ghost use mathlib.Core.Path.{_≡_};
+ghost use lib.ListN.{length, drop};
+ghost use Rattle.reader.specs.Answers.{recordOn};
+ghost use Rattle.ast.specs.Judge.{judgement};
+ghost use Rattle.rules.specs.Answers.{verdictMeant};
+ghost use Rattle.rules.specs.Stack.{heldOperands, Sized};
+ghost use Rattle.walk.specs.Answers.{Walks};
+ghost use Rattle.walk.specs.Walk.{RecordRead, firstOf};
+
+// The kind and the number of records, or a refusal and the index of its record.
+pub enum Walked {
+    Accepted(Kind, usize),
+    Refused(Refusal, usize),
+}
+
+// The verdict on a record that takes so many operands: 2 where they are missing.
+fn judge_next(
+    page: &[u8],
+    item: Record,
+    needed: usize,
+    forms: &[u8],
+    values: &[f64],
+    top: usize,
+) -> Verdict
+    requires { ⌜ Sized (now forms) (now values) ⌝ }
+    requires { ⌜ RecordRead (now page) item needed ⌝ }
+    requires { ⌜ top ≤ 256 ⌝ }
+    ensures { λ r. ⌜ verdictMeant r ≡ judgement (recordOn (now (page .entry)) item) (drop top (heldOperands (now (forms .entry)) (now (values .entry)))) ⌝ }
+{
+    if 256 - top < needed {
+        return Verdict::Refused(Refusal::OperandsMissing);
+    }
+    judge_record(page, item, forms, values, top)
+}
+
+// The first record of the expression that record `count` ends: that of its deepest operand, or itself.
+fn first_record(bases: &[u8], top: usize, needed: usize, count: usize) -> u8
+    requires { ⌜ length (now bases) ≡ 256 ⌝ }
+    requires { ⌜ (top + needed ≤ 256) × (count < 256) ⌝ }
+    ensures { λ r. ⌜ r ≡ firstOf needed count (drop top (now (bases .entry))) ⌝ }
+{
+    if needed == 0 {
+        return count as u8;
+    }
+    bases[top + (needed - 1)]
+}
+
+pub fn walk(page: &[u8], starts: &mut [u16], firsts: &mut [u8]) -> Walked
+    requires { ⌜ (length (now starts) ≡ 256) × (length (now firsts) ≡ 256) ⌝ }
+    ensures { λ r. ⌜ Walks (now (page .entry)) (now (starts .entry)) (now (firsts .entry)) (now (starts .exit)) (now (firsts .exit)) r ⌝ }
+{
+    if 8192 < page.len() {
+        return Walked::Refused(Refusal::PastLimit, 0);
+    }
+    let mut forms = [0u8; 256];
+    let mut values = [0.0f64; 256];
+    let mut bases = [0u8; 256];
+    let mut top: usize = 256;
+    let mut at: usize = 0;
+    let mut count: usize = 0;
+    while at < page.len() {
+        if count == 256 {
+            return Walked::Refused(Refusal::PastLimit, count);
+        }
+        match read_record(page, at) {
+            RecordField::Bad(fault) => return Walked::Refused(field_refusal(fault), count),
+            RecordField::Got(item, next) => {
+                let needed = operand_count(item);
+                match judge_next(page, item, needed, &forms, &values, top) {
+                    Verdict::Refused(refusal) => return Walked::Refused(refusal, count),
+                    Verdict::Put(operand) => {
+                        let first = first_record(&bases, top, needed, count);
+                        starts[count] = at as u16;
+                        firsts[count] = first;
+                        top = top + needed - 1;
+                        forms[top] = form_of(operand);
+                        values[top] = value_of(operand);
+                        bases[top] = first;
+                        at = page::within(page, next);
+                        count += 1;
+                    }
+                }
+            }
+        }
+    }
+    if top != 255 {
+        return Walked::Refused(Refusal::OperandsMissing, count);
+    }
+    Walked::Accepted(kind_of(operand_at(&forms, &values, 255)), count)
+}

@@ -1,3 +1,0 @@
-pub mod WordLaws
-pub mod LabelledLaws
-pub mod FillLaws

@@ -1,2 +1,0 @@
-pub mod Labelled
-pub mod Words
