@@ -9,7 +9,7 @@ use lib.ListN.{length, length-append}
 use Rattle.base.specs.Splice.{Cut, join}
 use Rattle.page.specs.Bytes.{isEmpty}
 use Rattle.page.specs.Listed.{listed, AllRead}
-use Rattle.records.specs.Code.{word}
+use Rattle.records.specs.Code.{token}
 use Rattle.records.specs.Matcher.{Matcher, readMatcher, Selector}
 use Rattle.records.specs.Modifier.{LabelModifier, BinModifier}
 use Rattle.records.specs.Answers.{binModifierOn, modifierOn}
@@ -49,10 +49,10 @@ modifier-measured m cap flag fills matching card matched sum e₁ e₂ e₃ e₄
 -- ## displayOperator
 
 module _ (page : List ℕ) (c : ℕ) (m : Modifier) where
-  pub operator-plain : m ≡ None → displayOperator c (modifierOn page m) ≡ word c
-  operator-plain e = rw e (append-nil (word c))
+  pub operator-plain : m ≡ None → displayOperator c (modifierOn page m) ≡ token c
+  operator-plain e = rw e (append-nil (token c))
 
-  pub operator-modified : (own : CodeModifier) → m ≡ Some own → Cut (displayOperator c (modifierOn page m)) (word c) (displayModifier (binModifierOn page own))
+  pub operator-modified : (own : CodeModifier) → m ≡ Some own → Cut (displayOperator c (modifierOn page m)) (token c) (displayModifier (binModifierOn page own))
   operator-modified own e = record { is = rw e }
 
 -- the fills of a modifier that is there
@@ -87,5 +87,5 @@ selector-cut s = record { is = refl }
 
 -- ## displayAggregator
 
-pub aggregator-cut : (c : ℕ) (m : Option LabelModifier) → Cut (displayAggregator c m) (word c) (displayGrouping m)
+pub aggregator-cut : (c : ℕ) (m : Option LabelModifier) → Cut (displayAggregator c m) (token c) (displayGrouping m)
 aggregator-cut c m = record { is = refl }

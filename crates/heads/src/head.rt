@@ -86,14 +86,14 @@ pub fn operator_len(page: &[u8], code: u64, modifier: Modifier, cap: usize) -> u
     requires { ⌜ ModifierExact (modifierOn (now page) modifier) ⌝ }
     ensures { λ r. ⌜ r ≡ min (length (displayOperator code (modifierOn (now (page .entry)) modifier))) cap ⌝ }
 {
-    let word = token_len(code);
+    let token = token_len(code);
     match modifier {
-        Modifier::None => capped_add(word, 0, cap),
+        Modifier::None => capped_add(token, 0, cap),
         Modifier::Some(own) => {
             let lhs = own.lhs;
             let rhs = own.rhs;
             let values = fill_values(lhs, rhs);
-            capped_add(word, modifier_len(page, own, values, cap), cap)
+            capped_add(token, modifier_len(page, own, values, cap), cap)
         }
     }
 }
@@ -120,8 +120,8 @@ pub fn aggregator_len(page: &[u8], code: u64, grouping: LabelModifier, cap: usiz
     requires { ⌜ LabelModifierStored (now page) grouping ⌝ }
     ensures { λ r. ⌜ r ≡ min (length (displayAggregator code (labelModifierOn (now (page .entry)) grouping))) cap ⌝ }
 {
-    let word = token_len(code);
-    capped_add(word, grouping_len(page, grouping, cap), cap)
+    let token = token_len(code);
+    capped_add(token, grouping_len(page, grouping, cap), cap)
 }
 
 pub fn put_aggregator(

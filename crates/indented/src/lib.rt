@@ -183,8 +183,8 @@ pub fn put_between_at(
         Form::Enclosed => page::put_bytes(b",\n", out, at),
         Form::Infixed => {
             let lead = page::put_byte(b'\n', out, at);
-            let word = put_spaces(level, out, lead);
-            let behind = put_operator(page, starts, node, out, word);
+            let token = put_spaces(level, out, lead);
+            let behind = put_operator(page, starts, node, out, token);
             page::put_byte(b'\n', out, behind)
         }
     }

@@ -26,12 +26,12 @@ use Rattle.label.specs.declared.key.Printed.{Printed}
 
 -- ## displayMatcher
 
-pub operator-word : (o : MatchOp) → operatorToken (matchOpNumber o) ≡ matchOpToken o
+pub operator-token : (o : MatchOp) → operatorToken (matchOpNumber o) ≡ matchOpToken o
 unfolding operatorToken
-operator-word equal = refl
-operator-word notEqual = refl
-operator-word (re b) = refl
-operator-word (notRe b) = refl
+operator-token equal = refl
+operator-token notEqual = refl
+operator-token (re b) = refl
+operator-token (notRe b) = refl
 
 pub operator-small : (o : MatchOp) → matchOpNumber o < 4
 operator-small equal = omega arith
@@ -41,7 +41,7 @@ operator-small (notRe b) = omega arith
 
 pub displayMatcher-parts : (m : Matcher) → matcherText (m .name) (matchOpNumber (m .op)) (m .value) ≡ displayMatcher m
 unfolding matcherText displayMatcher
-displayMatcher-parts m = rw (operator-word (m .op)) (sym (append-assoc (displayLabel (m .name)) (matchOpToken (m .op)) (quote (m .value))))
+displayMatcher-parts m = rw (operator-token (m .op)) (sym (append-assoc (displayLabel (m .name)) (matchOpToken (m .op)) (quote (m .value))))
 
 -- what `printed` answers: r and o are what `is_label` and `operator_number` answered
 pub prints : (page : List ℕ) (m : CodeMatcher) (u : Text) (r : Bool) (o : ℕ) → MatcherLies page m → IsMatcher (matcherOn page m)

@@ -115,10 +115,10 @@ module _ (n : ℕ) (s : List ℕ) where
   matchers-empty e = omega (arith, displayMatchers-length (listed readMatcher n s))
 
 -- what `matcher_len` answers: the lengths of the three parts, added up to the cap
-pub matcher-measured : (m : Matcher) (u v : Text) (cap name value op word with sum : ℕ) → u ≡ m .name → name ≡ min (length (displayLabel u)) cap
-    → v ≡ m .value → value ≡ min (length (quote v)) cap → op ≡ matchOpNumber (m .op) → word ≡ length (operatorToken op)
-    → with ≡ min (name + word) cap → sum ≡ min (with + value) cap → sum ≡ min (length (displayMatcher m)) cap
-matcher-measured m u v cap name value op word with sum eu en ev evalue eop eword ewith esum =
+pub matcher-measured : (m : Matcher) (u v : Text) (cap name value op token with sum : ℕ) → u ≡ m .name → name ≡ min (length (displayLabel u)) cap
+    → v ≡ m .value → value ≡ min (length (quote v)) cap → op ≡ matchOpNumber (m .op) → token ≡ length (operatorToken op)
+    → with ≡ min (name + token) cap → sum ≡ min (with + value) cap → sum ≡ min (length (displayMatcher m)) cap
+matcher-measured m u v cap name value op token with sum eu en ev evalue eop eword ewith esum =
     let a : length (displayLabel u) ≡ length (displayLabel (m .name)) = ap (λ (t : Text). length (displayLabel t)) eu in
     let b : length (quote v) ≡ length (quote (m .value)) = ap (λ (t : Text). length (quote t)) ev in
     let d : length (operatorToken op) ≡ length (operatorToken (matchOpNumber (m .op))) = ap (λ (n : ℕ). length (operatorToken n)) eop in

@@ -44,17 +44,17 @@ escape-none : escape [] ≡ []
 unfolding escape
 escape-none = refl
 
-words-plain : (t : List ℕ) → all isAlphaNumeric t ≡ true → escape t ≡ t
-words-plain [] h = escape-none
-words-plain (b ∷ t) h =
+tokens-plain : (t : List ℕ) → all isAlphaNumeric t ≡ true → escape t ≡ t
+tokens-plain [] h = escape-none
+tokens-plain (b ∷ t) h =
     let p = both (isAlphaNumeric b) (all isAlphaNumeric t) h in
-    escape-more b t (plain isAlphaNumeric b refl refl refl refl refl (p .0)) (words-plain t (p .1))
+    escape-more b t (plain isAlphaNumeric b refl refl refl refl refl (p .0)) (tokens-plain t (p .1))
 
 label-plain : (t : List ℕ) → isLabel t ≡ true → escape t ≡ t
 label-plain [] h = escape-none
 label-plain (b ∷ t) h =
     let p = both (isAlpha b) (all isAlphaNumeric t) h in
-    escape-more b t (plain isAlpha b refl refl refl refl refl (p .0)) (words-plain t (p .1))
+    escape-more b t (plain isAlpha b refl refl refl refl refl (p .0)) (tokens-plain t (p .1))
 
 -- an operator neither: its number is 0 to 3
 op-plain : (op : ℕ) → escape (operatorToken op) ≡ operatorToken op
@@ -191,9 +191,9 @@ pub record Words (op : ℕ) : Type 0 where
   pub re : op ≡ 2 → operatorToken op ≡ 61 ∷ 126 ∷ []
   pub notRe : op ≡ 3 → operatorToken op ≡ 33 ∷ 126 ∷ []
 
-pub words : (op : ℕ) → Words op
+pub tokens : (op : ℕ) → Words op
 unfolding operatorToken
-words op = record { equal = λ e. rw e; notEqual = λ e. rw e; re = λ e. rw e; notRe = λ e. rw e }
+tokens op = record { equal = λ e. rw e; notEqual = λ e. rw e; re = λ e. rw e; notRe = λ e. rw e }
 
 pub op-last : (op : ℕ) → op < 4 → (op ≡ 0 → ⊥) → (op ≡ 1 → ⊥) → (op ≡ 2 → ⊥) → op ≡ 3
 op-last zero h a b d = absurd (a refl)
@@ -213,12 +213,12 @@ op-second op zero a b e n h = absurd (n refl)
 op-second op (suc j) a b e n h = let k : suc j < 2 = (rw e at h) in let z : j ≡ 0 = omega arith in rw (e, z)
 
 pub one-byte : (op : ℕ) → op ≡ 0 → 1 ≡ length (operatorToken op)
-one-byte op e = rw (words op .equal e)
+one-byte op e = rw (tokens op .equal e)
 
 pub two-bytes : (op : ℕ) → op < 4 → (op ≡ 0 → ⊥) → 2 ≡ length (operatorToken op)
 two-bytes op h n =
-    by-eq op 1 (λ e. rw (words op .notEqual e))
-    (λ m. by-eq op 2 (λ e. rw (words op .re e)) (λ k. rw (words op .notRe (op-last op h n m k))))
+    by-eq op 1 (λ e. rw (tokens op .notEqual e))
+    (λ m. by-eq op 2 (λ e. rw (tokens op .re e)) (λ k. rw (tokens op .notRe (op-last op h n m k))))
 
 pub op-short : (op : ℕ) → op < 4 → length (operatorToken op) ≤ 2
 op-short op h = by-eq op 0 (λ e. omega (arith, one-byte op e)) (λ n. omega (arith, two-bytes op h n))

@@ -149,8 +149,8 @@ fn matcher_len(page: &[u8], matcher: Matcher, cap: usize) -> usize
     let name = label_len(text_at(page, matcher.name), cap);
     let value = quoted_len(text_at(page, matcher.value), cap);
     let op = matcher.op;
-    let word = operator_count(operator_number(op));
-    capped_add(capped_add(name, word, cap), value, cap)
+    let token = operator_count(operator_number(op));
+    capped_add(capped_add(name, token, cap), value, cap)
 }
 
 // A comma and a matcher, for each. The length needs no order.

@@ -11,7 +11,7 @@ use lib.ListN.{replicate}
 use Rattle.base.specs.Cases.{by-lt}
 use Rattle.base.specs.Table.{every, at}
 use Rattle.page.specs.Bytes.{bytes, any, equal}
-use Rattle.records.specs.Code.{words, isOneOf}
+use Rattle.records.specs.Code.{tokens, isOneOf}
 use Rattle.rules.proofs.StackLaws.{getD-past}
 
 same : (a b : Bool) → T (Bool·beq a b) → a ≡ b
@@ -29,7 +29,7 @@ pub isOneOf-test : (ws : List String) (test : ℕ → Bool) → T (every (λ c x
     → (c : ℕ) → (31 ≤ c → test c ≡ false) → test c ≡ isOneOf ws c
 isOneOf-test ws test table full c beyond =
     by-lt c 31 (λ h. same (test c) (isOneOf ws c) (at (λ c x. Bool·beq (test c) (isOneOf ws c)) codes table c h))
-    (λ h. beyond h ∙ sym (rw (getD-past words (c - 1) "" (omega arith)) full))
+    (λ h. beyond h ∙ sym (rw (getD-past tokens (c - 1) "" (omega arith)) full))
 
 -- a code from 31 on is none below
 pub is-not : (c n : ℕ) → 31 ≤ c → n < 31 → eqb c n ≡ false

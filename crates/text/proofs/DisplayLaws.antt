@@ -5,7 +5,7 @@ use mathlib.Core.Bool.{Bool, true, false}
 use mathlib.Core.List.{List, [], _∷_, _++_, map, append-assoc, append-nil}
 use mathlib.Core.Option.{Option, none, some}
 use Rattle.page.specs.Bytes.{pick, bytes, join}
-use Rattle.records.specs.Code.{word, isSetOperator}
+use Rattle.records.specs.Code.{token, isSetOperator}
 use Rattle.records.specs.Modifier.{BinModifier, Cardinality, oneToOne, manyToMany, manyToOne, oneToMany}
 use Rattle.ast.specs.Expr.{Expr, Args, noArgs, arg, Aggregate, AggregateParam, Unary, Binary, Paren, Subquery, NumberLiteral, StringLiteral, VectorSelector, MatrixSelector, Call}
 use Rattle.ast.specs.CheckAst.{manyToManyOf, setOperatorModifier, checkedModifier}
@@ -52,5 +52,5 @@ displayOperator-checked c m = by (isSetOperator c)
         card (oneToMany ls) = refl
 
     by : (b : Bool) → displayOperator c (pick b (some (setOperatorModifier m)) m) ≡ displayOperator c m
-    by true = ap (λ (t : List ℕ). word c ++ t) (prints m)
+    by true = ap (λ (t : List ℕ). token c ++ t) (prints m)
     by false = refl

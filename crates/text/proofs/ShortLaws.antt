@@ -14,7 +14,7 @@ use Rattle.page.specs.Number.{writeNumber}
 use Rattle.page.specs.Allowed.{IsNumber}
 use Rattle.page.proofs.LengthLaws.{writeText-some}
 use Rattle.page.proofs.NumberLaws.{left-of, right-of}
-use Rattle.records.specs.Code.{words, word}
+use Rattle.records.specs.Code.{tokens, token}
 use Rattle.records.specs.Literal.{Literal, plus, minus, nan, negate, writeLiteral, equalAsFloats}
 use Rattle.records.specs.Float.{IsExact}
 use Rattle.records.specs.Field.{Labels, writeFlag, writeOption, writeLabels}
@@ -35,13 +35,13 @@ use Rattle.text.specs.Chain.{orElse, overlaid, withAt, withOffset}
 
 -- ## Words
 
-words-short : (ws : List String) → T (all (λ w. leb (length (bytes w)) 12) ws) → (i : ℕ) → length (bytes (getD ws i "")) ≤ 12
-words-short [] h i = omega arith
-words-short (w ∷ ws) h zero = leb→le (length (bytes w)) 12 (left-of (leb (length (bytes w)) 12) _ h)
-words-short (w ∷ ws) h (suc i) = words-short ws (right-of (leb (length (bytes w)) 12) _ h) i
+tokens-short : (ws : List String) → T (all (λ w. leb (length (bytes w)) 12) ws) → (i : ℕ) → length (bytes (getD ws i "")) ≤ 12
+tokens-short [] h i = omega arith
+tokens-short (w ∷ ws) h zero = leb→le (length (bytes w)) 12 (left-of (leb (length (bytes w)) 12) _ h)
+tokens-short (w ∷ ws) h (suc i) = tokens-short ws (right-of (leb (length (bytes w)) 12) _ h) i
 
-word-short : (c : ℕ) → length (word c) ≤ 12
-word-short c = words-short words tt (c - 1)
+token-short : (c : ℕ) → length (token c) ≤ 12
+token-short c = tokens-short tokens tt (c - 1)
 
 -- ## Numbers
 
@@ -128,8 +128,8 @@ displayModifier-short m h = omega (arith, shown, written)
         )
 
 pub displayOperator-short : (c : ℕ) (m : Option BinModifier) → IsOptionOf IsBinModifier m → length (displayOperator c m) ≤ 105 + 4 * length (writeOption writeBinModifier m)
-displayOperator-short c none h = omega (arith, length-append (word c) [], word-short c)
-displayOperator-short c (some m) h = omega (arith, length-append (word c) (displayModifier m), word-short c, displayModifier-short m h)
+displayOperator-short c none h = omega (arith, length-append (token c) [], token-short c)
+displayOperator-short c (some m) h = omega (arith, length-append (token c) (displayModifier m), token-short c, displayModifier-short m h)
 
 displayGrouping-short : (m : Option LabelModifier) → length (displayGrouping m) ≤ 12 + 4 * length (writeLabelModifier m)
 displayGrouping-short none = omega arith
@@ -138,7 +138,7 @@ displayGrouping-short (some (include [])) = omega arith
 displayGrouping-short (some (include (l ∷ ls))) = omega (arith, length-append (labelled " by" (l ∷ ls)) (bytes " "), labelled-short " by" (l ∷ ls))
 
 pub displayAggregator-short : (c : ℕ) (m : Option LabelModifier) → length (displayAggregator c m) ≤ 24 + 4 * length (writeLabelModifier m)
-displayAggregator-short c m = omega (arith, length-append (word c) (displayGrouping m), word-short c, displayGrouping-short m)
+displayAggregator-short c m = omega (arith, length-append (token c) (displayGrouping m), token-short c, displayGrouping-short m)
 
 -- ## Times
 

@@ -13,7 +13,7 @@ use Rattle.page.specs.Bytes.{bytes, all, between}
 use Rattle.page.specs.Read.{got}
 use Rattle.page.specs.Text.{Text, isAlpha, isAlphaNumeric, isLabel, isMetricName, isSelectorName}
 use Rattle.records.specs.Stack.{operandsOf}
-use Rattle.records.specs.Code.{isCode, words, word, hasParameter}
+use Rattle.records.specs.Code.{isCode, tokens, token, hasParameter}
 use Rattle.records.specs.Matcher.{Matcher, Selector}
 use Rattle.records.specs.Record.{Leaf, number, string, selector, Wrapper, range, subquery, at as atRecord, offset, unary, paren, Record, leaf, wrapper, binary, aggregate, call, operands, readRecord}
 use Rattle.page.specs.Allowed.{Each}
@@ -82,12 +82,12 @@ beginning [] h = absurd h
 beginning (c ∷ cs) h = begins c cs (ltb→lt 32 c h)
 
 -- the words of all codes, by one table
-word-test : ℕ → ℕ → Bool
-word-test k x = isBeginning (bytes (getD words k ""))
+token-test : ℕ → ℕ → Bool
+token-test k x = isBeginning (bytes (getD tokens k ""))
 
-word-begins : (c : ℕ) → T (isCode c) → Begins (word c)
-unfolding isBeginning word-test
-word-begins c h = beginning (word c) (at word-test (replicate 30 0) tt (c - 1) (below (leb→le 1 c (left-of (leb 1 c) (leb c 30) h)) (leb→le c 30 (right-of (leb 1 c) (leb c 30) h))))
+token-begins : (c : ℕ) → T (isCode c) → Begins (token c)
+unfolding isBeginning token-test
+token-begins c h = beginning (token c) (at token-test (replicate 30 0) tt (c - 1) (below (leb→le 1 c (left-of (leb 1 c) (leb c 30) h)) (leb→le c 30 (right-of (leb 1 c) (leb c 30) h))))
   where
     below : 1 ≤ c → c ≤ 30 → c - 1 < 30
     below x y = omega arith
@@ -140,7 +140,7 @@ wrap-sound paren e node s h = let same : node ≡ Paren e = cc in rw same tt
 
 -- ## Records
 
-aggregate-sound : (c : ℕ) (m : Option LabelModifier) (b : Bool) (es : List Expr) (node : Expr) → Begins (word c) → newAggregateOf b c m es ≡ ok node → Sound (checkedExpr node)
+aggregate-sound : (c : ℕ) (m : Option LabelModifier) (b : Bool) (es : List Expr) (node : Expr) → Begins (token c) → newAggregateOf b c m es ≡ ok node → Sound (checkedExpr node)
 aggregate-sound c m true [] node w h = absurd (let z : _≡_ {A = ℕ} 0 1 = cc in omega arith)
 aggregate-sound c m false [] node w h = absurd (let z : _≡_ {A = ℕ} 0 1 = cc in omega arith)
 aggregate-sound c m true (p ∷ []) node w h = absurd (let z : _≡_ {A = ℕ} 0 1 = cc in omega arith)
@@ -182,7 +182,7 @@ apply-begins (binary c m) (r ∷ l ∷ s) after a n h k = let p = binary-ok c m 
     left node q = let same : node ≡ Binary c m l r = cc in rw same (h .1 .0)
 apply-begins (aggregate c m count) s after a n h k =
     let p = aggregate-ok c m count s after k in
-    pushed-sound p (aggregate-sound c m (hasParameter c) (operandsOf count s) (p .node) (word-begins c (a .0)) (p .makes)) (below-sound count s h)
+    pushed-sound p (aggregate-sound c m (hasParameter c) (operandsOf count s) (p .node) (token-begins c (a .0)) (p .makes)) (below-sound count s h)
 apply-begins (call f count) s after a n h k =
     let p = call-ok f count s after k in
     pushed-sound p (named (p .node) (p .makes)) (below-sound count s h)

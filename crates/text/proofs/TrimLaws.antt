@@ -8,7 +8,7 @@ use mathlib.Core.List.{List, [], _∷_, _++_}
 use borrow.Author.Tests.{ne-eqb}
 use lib.Dec.{eqb, ltb}
 use Rattle.page.specs.Bytes.{pick, any}
-use Rattle.records.specs.Code.{word}
+use Rattle.records.specs.Code.{token}
 use Rattle.records.specs.Literal.{Literal, plus, minus, nan, whole, infinite}
 use Rattle.leaves.specs.Decimal.{digits, decimal}
 use Rattle.leaves.specs.Escape.{quote}
@@ -56,8 +56,8 @@ trim-append (c ∷ t) u h = by (any (eqb c) whiteCharacters) (trim-append t u) h
 
 -- the first text of a node, and of those operands that stand first in it
 abbrev pub Sound : Expr → Type 0
-Sound (Aggregate c m e) = Begins (word c)
-Sound (AggregateParam c m p e) = Begins (word c)
+Sound (Aggregate c m e) = Begins (token c)
+Sound (AggregateParam c m p e) = Begins (token c)
 Sound (Unary e) = Sound e
 Sound (Binary c m l r) = Sound l
 Sound (Paren e) = Unit {0}

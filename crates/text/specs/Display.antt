@@ -5,7 +5,7 @@ use mathlib.Core.Bool.{Bool, true, false}
 use mathlib.Core.List.{List, [], _∷_, _++_}
 use mathlib.Core.Option.{Option, none, some}
 use Rattle.page.specs.Bytes.{pick, bytes, join}
-use Rattle.records.specs.Code.{word}
+use Rattle.records.specs.Code.{token}
 use Rattle.records.specs.Literal.{Literal, equalAsFloats}
 use Rattle.leaves.specs.Numeral.{displayLiteral, displayFill}
 use Rattle.records.specs.Field.{Labels}
@@ -67,7 +67,7 @@ displayModifier m =
 
 -- `get_op_matching_string`
 abbrev pub displayOperator : ℕ → Option BinModifier → List ℕ
-displayOperator c m = word c ++ optional displayModifier m
+displayOperator c m = token c ++ optional displayModifier m
 
 -- `by ()` vanishes, `without ()` is printed
 abbrev pub displayGrouping : Option LabelModifier → List ℕ
@@ -78,7 +78,7 @@ displayGrouping (some (include (l ∷ ls))) = labelled " by" (l ∷ ls) ++ bytes
 
 -- `get_op_string`
 abbrev pub displayAggregator : ℕ → Option LabelModifier → List ℕ
-displayAggregator c m = word c ++ displayGrouping m
+displayAggregator c m = token c ++ displayGrouping m
 
 -- ## Times
 

@@ -12,14 +12,14 @@ use Rattle.base.specs.Splice.{Cut}
 use Rattle.base.specs.Table.{at}
 use Rattle.page.specs.Bytes.{equal, bytes}
 use Rattle.page.proofs.NumberLaws.{left-of, right-of}
-use Rattle.records.specs.Code.{words, token}
+use Rattle.records.specs.Code.{tokens, token}
 use Rattle.tokens.specs.Tokens.{letters, starts, tokenAt}
 
 -- ## The tables
 
 -- at place i begins token i + 1; the next begins after it, at most 12 letters further and within the letters
 spells : ℕ → ℕ → Bool
-spells i x = equal (take (getD starts (i + 1) 0 - x) (drop x letters)) (bytes (getD words i ""))
+spells i x = equal (take (getD starts (i + 1) 0 - x) (drop x letters)) (bytes (getD tokens i ""))
 
 ordered : ℕ → ℕ → Bool
 ordered i x = leb x (getD starts (i + 1) 0)
@@ -43,7 +43,7 @@ places : List ℕ
 places = take 31 starts
 
 pub record Placed (i : ℕ) : Type 0 where
-  pub token : tokenAt i ≡ bytes (getD words i "")
+  pub token : tokenAt i ≡ bytes (getD tokens i "")
   pub ordered : getD starts i 0 ≤ getD starts (i + 1) 0
   pub short : getD starts (i + 1) 0 - getD starts i 0 ≤ 12
   pub inside : getD starts (i + 1) 0 ≤ length letters
@@ -73,7 +73,7 @@ pub place-zero : (c : ℕ) → c ≡ 0 → tokenAt 0 ≡ token c
 place-zero c e = placed 0 (omega arith) .token ∙ rw e
 
 pub place-past : (c : ℕ) → 30 < c → tokenAt 30 ≡ token c
-place-past c h = placed 30 (omega arith) .token ∙ ap bytes (sym (List·getD-eq-default words "" {n = c - 1} (omega arith)))
+place-past c h = placed 30 (omega arith) .token ∙ ap bytes (sym (List·getD-eq-default tokens "" {n = c - 1} (omega arith)))
 
 pub place-code : (c : ℕ) → c ≤ 30 → (c ≡ 0 → ⊥) → tokenAt (c - 1) ≡ token c
 place-code c h n = placed (c - 1) (omega arith) .token

@@ -4,7 +4,7 @@ use denote.Ref.{now}
 use native.Mathlib.Omega.{arith}
 use lib.ListN.{length-append}
 use Rattle.records.specs.Answers.{labelModifierOn}
-use Rattle.records.specs.Code.{word}
+use Rattle.records.specs.Code.{token}
 use Rattle.text.specs.Display.{displayGrouping}
 use Rattle.heads.proofs.head.aggregator_len.Statement.{statement}
 use Rattle.heads.proofs.head.aggregator_len.Tie as tie
@@ -19,7 +19,7 @@ capped-add-requires : tie.Need-capped-add-requires
 capped-add-requires c κs = search needs
 
 returns : tie.Need-returns
-returns c = omega (arith, c .before .before .token-len .ensures .0, c .before .grouping-len .ensures, c .capped-add .ensures, length-append (word (c .before .before .before .before .args .code)) (displayGrouping (labelModifierOn (now (c .before .before .before .before .args .page)) (c .before .before .before .before .args .grouping))))
+returns c = omega (arith, c .before .before .token-len .ensures .0, c .before .grouping-len .ensures, c .capped-add .ensures, length-append (token (c .before .before .before .before .args .code)) (displayGrouping (labelModifierOn (now (c .before .before .before .before .args .page)) (c .before .before .before .before .args .grouping))))
 
 pub aggregator-len-spec : {M : Type 1} → statement M
 aggregator-len-spec =
