@@ -39,11 +39,11 @@ cfn=memcpy
 calls=16 0 
 0 4160
 0 20
-cfn=checking::walk::walk
+cfn=walk::walk
 calls=16 0 
 0 4730
 
-fn=checking::walk::walk
+fn=walk::walk
 0 304
 cfn=memset
 calls=8 0 

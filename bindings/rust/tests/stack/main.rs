@@ -28,7 +28,7 @@ const OVER_RECORDS: [&str; 5] = [
 
 const OTHERS: [(&str, usize); 3] = [
     ("page::number::read_up_to", 8),
-    ("util::decimal::put_decimal", 20),
+    ("leaves::decimal::put_decimal", 20),
     ("indented::put_spaces", 257),
 ];
 
