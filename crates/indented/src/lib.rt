@@ -1,4 +1,4 @@
-// What a node longer than a line writes of its own, by its form: before its operands' texts, between each two and after them, with
+// What a node longer than a line writes of its own, by its shape: before its operands' texts, between each two and after them, with
 // line feeds and two spaces a level. Lengths are capped.
 use pieces::head_len;
 use pieces::operator_len;
@@ -6,8 +6,8 @@ use pieces::put_head;
 use pieces::put_operator;
 use pieces::put_suffix;
 use pieces::suffix_len;
-use view::Form;
 use view::Node;
+use view::Shape;
 ghost use mathlib.Core.Path.{_≡_};
 ghost use mathlib.Core.List.{_++_};
 ghost use Prim.Native.Nat.{_+_, _≤_, min};
@@ -95,16 +95,16 @@ pub fn front_at_len(
     requires { ⌜ level ≤ 256 ⌝ }
     ensures { λ r. ⌜ r ≡ min (length (frontAt indents level (layoutAt (now (page .entry)) node))) cap ⌝ }
 {
-    match view::form_of(node) {
-        Form::Whole => led_len(page, starts, node, indents, level, cap),
-        Form::Minus => led_len(page, starts, node, indents, level, cap),
-        Form::Suffixed => 0,
-        Form::Enclosed => leaves::capped_add(
+    match view::shape_of(node) {
+        Shape::Whole => led_len(page, starts, node, indents, level, cap),
+        Shape::Minus => led_len(page, starts, node, indents, level, cap),
+        Shape::Suffixed => 0,
+        Shape::Enclosed => leaves::capped_add(
             led_len(page, starts, node, indents, level, cap),
             2,
             cap,
         ),
-        Form::Infixed => 0,
+        Shape::Infixed => 0,
     }
 }
 
@@ -113,12 +113,12 @@ pub fn between_at_len(page: &[u8], starts: &[u16], node: Node, level: usize, cap
     requires { ⌜ level ≤ 256 ⌝ }
     ensures { λ r. ⌜ r ≡ min (length (betweenAt level (layoutAt (now (page .entry)) node))) cap ⌝ }
 {
-    match view::form_of(node) {
-        Form::Whole => 0,
-        Form::Minus => 0,
-        Form::Suffixed => 0,
-        Form::Enclosed => leaves::capped_add(0, 2, cap),
-        Form::Infixed => {
+    match view::shape_of(node) {
+        Shape::Whole => 0,
+        Shape::Minus => 0,
+        Shape::Suffixed => 0,
+        Shape::Enclosed => leaves::capped_add(0, 2, cap),
+        Shape::Infixed => {
             let lead = indent_len(true, level, cap);
             leaves::capped_add(lead + operator_len(page, starts, node, cap - lead), 2, cap)
         }
@@ -130,12 +130,12 @@ pub fn rear_at_len(page: &[u8], starts: &[u16], node: Node, level: usize, cap: u
     requires { ⌜ level ≤ 256 ⌝ }
     ensures { λ r. ⌜ r ≡ min (length (rearAt level (layoutAt (now (page .entry)) node))) cap ⌝ }
 {
-    match view::form_of(node) {
-        Form::Whole => 0,
-        Form::Minus => 0,
-        Form::Suffixed => suffix_len(page, starts, node, cap),
-        Form::Enclosed => leaves::capped_add(indent_len(true, level, cap), 2, cap),
-        Form::Infixed => 0,
+    match view::shape_of(node) {
+        Shape::Whole => 0,
+        Shape::Minus => 0,
+        Shape::Suffixed => suffix_len(page, starts, node, cap),
+        Shape::Enclosed => leaves::capped_add(indent_len(true, level, cap), 2, cap),
+        Shape::Infixed => 0,
     }
 }
 
@@ -152,15 +152,15 @@ pub fn put_front_at(
     requires { ⌜ at + length (frontAt indents level (layoutAt (now page) node)) ≤ length (now out) ⌝ }
     ensures { λ r. ⌜ Wrote (now (out .entry)) (now (out .exit)) at (frontAt indents level (layoutAt (now (page .entry)) node)) r ⌝ }
 {
-    match view::form_of(node) {
-        Form::Whole => put_led(page, starts, node, indents, level, out, at),
-        Form::Minus => put_led(page, starts, node, indents, level, out, at),
-        Form::Suffixed => at,
-        Form::Enclosed => {
+    match view::shape_of(node) {
+        Shape::Whole => put_led(page, starts, node, indents, level, out, at),
+        Shape::Minus => put_led(page, starts, node, indents, level, out, at),
+        Shape::Suffixed => at,
+        Shape::Enclosed => {
             let next = put_led(page, starts, node, indents, level, out, at);
             page::put_bytes(b"(\n", out, next)
         }
-        Form::Infixed => at,
+        Shape::Infixed => at,
     }
 }
 
@@ -176,12 +176,12 @@ pub fn put_between_at(
     requires { ⌜ at + length (betweenAt level (layoutAt (now page) node)) ≤ length (now out) ⌝ }
     ensures { λ r. ⌜ Wrote (now (out .entry)) (now (out .exit)) at (betweenAt level (layoutAt (now (page .entry)) node)) r ⌝ }
 {
-    match view::form_of(node) {
-        Form::Whole => at,
-        Form::Minus => at,
-        Form::Suffixed => at,
-        Form::Enclosed => page::put_bytes(b",\n", out, at),
-        Form::Infixed => {
+    match view::shape_of(node) {
+        Shape::Whole => at,
+        Shape::Minus => at,
+        Shape::Suffixed => at,
+        Shape::Enclosed => page::put_bytes(b",\n", out, at),
+        Shape::Infixed => {
             let lead = page::put_byte(b'\n', out, at);
             let token = put_spaces(level, out, lead);
             let behind = put_operator(page, starts, node, out, token);
@@ -202,15 +202,15 @@ pub fn put_rear_at(
     requires { ⌜ at + length (rearAt level (layoutAt (now page) node)) ≤ length (now out) ⌝ }
     ensures { λ r. ⌜ Wrote (now (out .entry)) (now (out .exit)) at (rearAt level (layoutAt (now (page .entry)) node)) r ⌝ }
 {
-    match view::form_of(node) {
-        Form::Whole => at,
-        Form::Minus => at,
-        Form::Suffixed => put_suffix(page, starts, node, out, at),
-        Form::Enclosed => {
+    match view::shape_of(node) {
+        Shape::Whole => at,
+        Shape::Minus => at,
+        Shape::Suffixed => put_suffix(page, starts, node, out, at),
+        Shape::Enclosed => {
             let lead = page::put_byte(b'\n', out, at);
             let last = put_spaces(level, out, lead);
             page::put_byte(b')', out, last)
         }
-        Form::Infixed => at,
+        Shape::Infixed => at,
     }
 }

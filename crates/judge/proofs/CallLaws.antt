@@ -95,8 +95,8 @@ call-empty f [] k c fine z = sym (later f [] k c fine ∙ go (f .argTypes))
 call-empty f (x ∷ xs) k c fine z = absurd (omega arith)
 
 -- the first of some arguments lies deepest
-pub exempt-first : {forms : List ℕ} {values : List Float} → Sized forms values → (name : Text) (top count : ℕ) → (count ≡ 0 → ⊥) → top + count ≤ 256
-    → isExemptOperand name (getD (heldOperands forms values) (top + (count - 1)) stringOperand) ≡ isExemptCall name (operandsOf count (drop top (heldOperands forms values)))
-exempt-first {forms} {values} sized name top count any h =
+pub exempt-first : {tags : List ℕ} {values : List Float} → Sized tags values → (name : Text) (top count : ℕ) → (count ≡ 0 → ⊥) → top + count ≤ 256
+    → isExemptOperand name (getD (heldOperands tags values) (top + (count - 1)) stringOperand) ≡ isExemptCall name (operandsOf count (drop top (heldOperands tags values)))
+exempt-first {tags} {values} sized name top count any h =
     let one : count ≡ (count - 1) + 1 = omega arith in
-    sym (ap (λ (n : ℕ). isExemptCall name (operandsOf n (drop top (heldOperands forms values)))) one ∙ ap (isExemptCall name) (operands-first forms values sized top (count - 1) (omega arith)))
+    sym (ap (λ (n : ℕ). isExemptCall name (operandsOf n (drop top (heldOperands tags values)))) one ∙ ap (isExemptCall name) (operands-first tags values sized top (count - 1) (omega arith)))

@@ -57,19 +57,19 @@ match-undeclared (i ∷ []) a args e = absurd (let z : _≡_ {A = ℕ} 0 1 = cc 
 match-undeclared (i ∷ j ∷ ks) a args e = absurd (let z : _≡_ {A = ℕ} 0 1 = cc in omega arith)
 
 -- the loop over arguments: `left` of them are left, matched against the kinds `ks`
-module _ {forms : List ℕ} {values : List Float} (sized : Sized forms values) (top left : ℕ) (any : 0 < left) (fits : top + left ≤ 256) (ks : List Kind) where
+module _ {tags : List ℕ} {values : List Float} (sized : Sized tags values) (top left : ℕ) (any : 0 < left) (fits : top + left ≤ 256) (ks : List Kind) where
   abbrev first : Kind
-  first = operandKind (getD (heldOperands forms values) (top + (left - 1)) stringOperand)
+  first = operandKind (getD (heldOperands tags values) (top + (left - 1)) stringOperand)
 
   abbrev rest : List Kind
-  rest = map operandKind (operandsOf (left - 1) (drop top (heldOperands forms values)))
+  rest = map operandKind (operandsOf (left - 1) (drop top (heldOperands tags values)))
 
-  arguments : map operandKind (operandsOf left (drop top (heldOperands forms values))) ≡ first ∷ rest
+  arguments : map operandKind (operandsOf left (drop top (heldOperands tags values))) ≡ first ∷ rest
   arguments =
       let one : left ≡ (left - 1) + 1 = omega arith in
-      ap (λ (n : ℕ). map operandKind (operandsOf n (drop top (heldOperands forms values)))) one ∙ ap (map operandKind) (operands-first forms values sized top (left - 1) (omega arith))
+      ap (λ (n : ℕ). map operandKind (operandsOf n (drop top (heldOperands tags values)))) one ∙ ap (map operandKind) (operands-first tags values sized top (left - 1) (omega arith))
 
-  module _ {whole : Bool} (inv : whole ≡ argsMatch ks (map operandKind (operandsOf left (drop top (heldOperands forms values))))) where
+  module _ {whole : Bool} (inv : whole ≡ argsMatch ks (map operandKind (operandsOf left (drop top (heldOperands tags values))))) where
     by-next : {k : Kind} {js : List Kind} → next k js ≡ nextKind ks → whole ≡ equalKind k first && argsMatch js rest
     by-next {k} {js} e = inv ∙ ap (argsMatch ks) arguments ∙ match-next ks js k first rest e
 

@@ -56,21 +56,21 @@ judgement-short (binary c m) (r ∷ l ∷ below) h = absurd (let z : ⊥ = omega
 judgement-short (aggregate c m n) stack h = rw (lt-leb n (length stack) h)
 judgement-short (call f n) stack h = rw (lt-leb n (length stack) h)
 
-module _ {forms : List ℕ} {values : List Float} (sized : Sized forms values) (top : ℕ) where
+module _ {tags : List ℕ} {values : List Float} (sized : Sized tags values) (top : ℕ) where
   abbrev stack : List Operand
-  stack = drop top (heldOperands forms values)
+  stack = drop top (heldOperands tags values)
 
   enough : (n : ℕ) → top + n ≤ 256 → n ≤ length stack
-  enough n h = rw (stack-size forms values sized top) (omega arith)
+  enough n h = rw (stack-size tags values sized top) (omega arith)
 
-  pub judgement-wrapper : (w : Wrapper) → top + 1 ≤ 256 → judgeWrapper w (getD (heldOperands forms values) top stringOperand) ≡ judgement (wrapper w) stack
-  judgement-wrapper w h = sym (ap (judgement (wrapper w)) (stack-top forms values sized top (omega arith)) ∙ on-one w _ _)
+  pub judgement-wrapper : (w : Wrapper) → top + 1 ≤ 256 → judgeWrapper w (getD (heldOperands tags values) top stringOperand) ≡ judgement (wrapper w) stack
+  judgement-wrapper w h = sym (ap (judgement (wrapper w)) (stack-top tags values sized top (omega arith)) ∙ on-one w _ _)
 
   pub judgement-binary : (c : ℕ) (m : Option BinModifier) → top + 2 ≤ 256
-      → judgeBinary c m (operandKind (getD (heldOperands forms values) (top + 1) stringOperand)) (operandKind (getD (heldOperands forms values) top stringOperand)) ≡ judgement (binary c m) stack
+      → judgeBinary c m (operandKind (getD (heldOperands tags values) (top + 1) stringOperand)) (operandKind (getD (heldOperands tags values) top stringOperand)) ≡ judgement (binary c m) stack
   judgement-binary c m h =
-      sym (ap (judgement (binary c m)) (stack-top forms values sized top (omega arith)
-      ∙ ap {B = List Operand} (λ below. getD (heldOperands forms values) top stringOperand ∷ below) (stack-top forms values sized (top + 1) (omega arith))) ∙ on-two c m _ _ _)
+      sym (ap (judgement (binary c m)) (stack-top tags values sized top (omega arith)
+      ∙ ap {B = List Operand} (λ below. getD (heldOperands tags values) top stringOperand ∷ below) (stack-top tags values sized (top + 1) (omega arith))) ∙ on-two c m _ _ _)
 
   pub judgement-aggregate : (c : ℕ) (m : Option LabelModifier) (n : ℕ) → top + n ≤ 256
       → judgeAggregate c (map operandKind (operandsOf n stack)) ≡ judgement (aggregate c m n) stack

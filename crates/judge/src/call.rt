@@ -78,14 +78,14 @@ fn arguments_match(
     page: &[u8],
     kinds: usize,
     declared: usize,
-    forms: &[u8],
+    tags: &[u8],
     values: &[f64],
     top: usize,
     count: usize,
 ) -> bool
-    requires { ⌜ Sized (now forms) (now values) ⌝ }
+    requires { ⌜ Sized (now tags) (now values) ⌝ }
     requires { ⌜ top + count ≤ 256 ⌝ }
-    ensures { λ r. ⌜ r ≡ argsMatch (kindsOn (now (page .entry)) kinds declared) (map operandKind (operandsOf count (drop top (heldOperands (now (forms .entry)) (now (values .entry)))))) ⌝ }
+    ensures { λ r. ⌜ r ≡ argsMatch (kindsOn (now (page .entry)) kinds declared) (map operandKind (operandsOf count (drop top (heldOperands (now (tags .entry)) (now (values .entry)))))) ⌝ }
 {
     let mut left = count;
     let mut at = kinds;
@@ -93,7 +93,7 @@ fn arguments_match(
     while 0 < left {
         match next_kind(page, at, more) {
             Declared::Got(kind, next, rest) => {
-                if !same_kind(kind, kind_of(operand_at(forms, values, top + (left - 1)))) {
+                if !same_kind(kind, kind_of(operand_at(tags, values, top + (left - 1)))) {
                     return false;
                 }
                 at = next;
@@ -112,15 +112,15 @@ fn arguments_match(
 pub fn judge_call(
     page: &[u8],
     function: Function,
-    forms: &[u8],
+    tags: &[u8],
     values: &[f64],
     top: usize,
     count: usize,
 ) -> Verdict
-    requires { ⌜ Sized (now forms) (now values) ⌝ }
+    requires { ⌜ Sized (now tags) (now values) ⌝ }
     requires { ⌜ FunctionLies (now page) function ⌝ }
     requires { ⌜ top + count ≤ 256 ⌝ }
-    ensures { λ r. ⌜ verdictMeant r ≡ judgeCall (functionOn (now (page .entry)) function) (operandsOf count (drop top (heldOperands (now (forms .entry)) (now (values .entry))))) ⌝ }
+    ensures { λ r. ⌜ verdictMeant r ≡ judgeCall (functionOn (now (page .entry)) function) (operandsOf count (drop top (heldOperands (now (tags .entry)) (now (values .entry))))) ⌝ }
 {
     let name = function.name;
     let variadic = function.variadic;
@@ -132,13 +132,13 @@ pub fn judge_call(
             if count == 0 {
                 return Verdict::Put(Operand::Other(result));
             }
-            if is_exempt(page, name, operand_at(forms, values, top + (count - 1))) {
+            if is_exempt(page, name, operand_at(tags, values, top + (count - 1))) {
                 return Verdict::Put(Operand::Other(result));
             }
             if declared == 0 {
                 return Verdict::Refused(Refusal::NoDeclaredKinds);
             }
-            if arguments_match(page, function.kinds, declared, forms, values, top, count) {
+            if arguments_match(page, function.kinds, declared, tags, values, top, count) {
                 return Verdict::Put(Operand::Other(result));
             }
             Verdict::Refused(Refusal::ArgumentKind)

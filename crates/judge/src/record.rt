@@ -46,27 +46,27 @@ pub fn operand_count(item: Record) -> usize
 }
 
 // The operands are there: they lie from `top` on, the last one first.
-pub fn judge_record(page: &[u8], item: Record, forms: &[u8], values: &[f64], top: usize) -> Verdict
-    requires { ⌜ Sized (now forms) (now values) ⌝ }
+pub fn judge_record(page: &[u8], item: Record, tags: &[u8], values: &[f64], top: usize) -> Verdict
+    requires { ⌜ Sized (now tags) (now values) ⌝ }
     requires { ⌜ Judgeable (now page) item top ⌝ }
-    ensures { λ r. ⌜ verdictMeant r ≡ judgement (recordOn (now (page .entry)) item) (drop top (heldOperands (now (forms .entry)) (now (values .entry)))) ⌝ }
+    ensures { λ r. ⌜ verdictMeant r ≡ judgement (recordOn (now (page .entry)) item) (drop top (heldOperands (now (tags .entry)) (now (values .entry)))) ⌝ }
 {
     match item {
         Record::Number(literal) => Verdict::Put(Operand::Number(literal_value(literal))),
         Record::String(_) => Verdict::Put(Operand::String),
         Record::Selector(selector) => judge_selector(page, selector),
-        Record::Range(_) => judge_range(operand_at(forms, values, top)),
-        Record::Subquery(_, _) => judge_subquery(operand_at(forms, values, top)),
-        Record::At(_) => judge_at(operand_at(forms, values, top)),
-        Record::Offset(_) => judge_offset(operand_at(forms, values, top)),
-        Record::Unary => judge_unary(operand_at(forms, values, top)),
-        Record::Paren => judge_paren(operand_at(forms, values, top)),
+        Record::Range(_) => judge_range(operand_at(tags, values, top)),
+        Record::Subquery(_, _) => judge_subquery(operand_at(tags, values, top)),
+        Record::At(_) => judge_at(operand_at(tags, values, top)),
+        Record::Offset(_) => judge_offset(operand_at(tags, values, top)),
+        Record::Unary => judge_unary(operand_at(tags, values, top)),
+        Record::Paren => judge_paren(operand_at(tags, values, top)),
         Record::Binary(code, modifier) => {
-            let right = kind_of(operand_at(forms, values, top));
-            let left = kind_of(operand_at(forms, values, top + 1));
+            let right = kind_of(operand_at(tags, values, top));
+            let left = kind_of(operand_at(tags, values, top + 1));
             judge_binary(page, code, modifier, left, right)
         }
-        Record::Aggregate(code, _, count) => judge_aggregate(code, forms, values, top, count),
-        Record::Call(function, count) => judge_call(page, function, forms, values, top, count),
+        Record::Aggregate(code, _, count) => judge_aggregate(code, tags, values, top, count),
+        Record::Call(function, count) => judge_call(page, function, tags, values, top, count),
     }
 }

@@ -30,12 +30,12 @@ plain-count c [] h g = absurd (h refl)
 plain-count c (e ∷ []) h g = absurd (g refl)
 plain-count c (e ∷ x ∷ es) h g = refl
 
-module _ {forms : List ℕ} {values : List Float} (sized : Sized forms values) (code top count : ℕ) where
+module _ {tags : List ℕ} {values : List Float} (sized : Sized tags values) (code top count : ℕ) where
   abbrev kinds : List Kind
-  kinds = map operandKind (operandsOf count (drop top (heldOperands forms values)))
+  kinds = map operandKind (operandsOf count (drop top (heldOperands tags values)))
 
   kinds-size : top + count ≤ 256 → length kinds ≡ count
-  kinds-size h = length-map (operandsOf count (drop top (heldOperands forms values))) operandKind ∙ operands-size forms values sized top count h
+  kinds-size h = length-map (operandsOf count (drop top (heldOperands tags values))) operandKind ∙ operands-size tags values sized top count h
 
   pub aggregate-none : count ≡ 0 → refused 14 ≡ judgeAggregate code kinds
   aggregate-none e = rw e
@@ -48,12 +48,12 @@ module _ {forms : List ℕ} {values : List Float} (sized : Sized forms values) (
   plain-other has any other h =
       rw has (sym (plain-count code kinds (λ e. any (sym (kinds-size h) ∙ e)) (λ e. other (sym (kinds-size h) ∙ e))))
 
-  pub plain-one : hasParameter code ≡ false → count ≡ 1 → top + count ≤ 256 → {k : Kind} → k ≡ operandKind (getD (heldOperands forms values) top stringOperand)
+  pub plain-one : hasParameter code ≡ false → count ≡ 1 → top + count ≤ 256 → {k : Kind} → k ≡ operandKind (getD (heldOperands tags values) top stringOperand)
       → put (aggregateRows code none k) (otherOperand vector) ≡ judgeAggregate code kinds
-  plain-one has one h operand = rw (has, one, operands-first forms values sized top 0 (omega arith), add-zero top, ← operand)
+  plain-one has one h operand = rw (has, one, operands-first tags values sized top 0 (omega arith), add-zero top, ← operand)
 
   pub parameter-two : hasParameter code ≡ true → count ≡ 2 → top + count ≤ 256
-      → {j k : Kind} → j ≡ operandKind (getD (heldOperands forms values) (top + 1) stringOperand) → k ≡ operandKind (getD (heldOperands forms values) top stringOperand)
+      → {j k : Kind} → j ≡ operandKind (getD (heldOperands tags values) (top + 1) stringOperand) → k ≡ operandKind (getD (heldOperands tags values) top stringOperand)
       → put (aggregateRows code (some j) k) (otherOperand vector) ≡ judgeAggregate code kinds
   parameter-two has two h parameter operand =
-      rw (has, two, operands-first forms values sized top 1 (omega arith), operands-first forms values sized top 0 (omega arith), add-zero top, ← parameter, ← operand)
+      rw (has, two, operands-first tags values sized top 1 (omega arith), operands-first tags values sized top 0 (omega arith), add-zero top, ← parameter, ← operand)

@@ -11,30 +11,30 @@ use native.Mathlib.Omega.{arith}
 use Rattle.records.specs.Kind.{vector, scalar, matrix, string}
 use Rattle.records.specs.Stack.{operandsOf}
 use Rattle.ast.specs.Operand.{Operand, numberOperand, stringOperand, selectorOperand, rangeOperand, subqueryOperand, otherOperand}
-use Rattle.rules.specs.Stack.{formOf, valueOf, formTable, operandFrom, heldOperands, Sized}
+use Rattle.rules.specs.Stack.{tagOf, valueOf, tagTable, operandFrom, heldOperands, Sized}
 
 -- ## operandFrom
 
--- a operand is what its form and its value say
-pub operandFrom-formOf : (x : Operand) → operandFrom (formOf x) (valueOf x) ≡ x
-operandFrom-formOf (numberOperand v) = refl
-operandFrom-formOf stringOperand = refl
-operandFrom-formOf (selectorOperand true true) = refl
-operandFrom-formOf (selectorOperand true false) = refl
-operandFrom-formOf (selectorOperand false true) = refl
-operandFrom-formOf (selectorOperand false false) = refl
-operandFrom-formOf (rangeOperand true true) = refl
-operandFrom-formOf (rangeOperand true false) = refl
-operandFrom-formOf (rangeOperand false true) = refl
-operandFrom-formOf (rangeOperand false false) = refl
-operandFrom-formOf (subqueryOperand true true) = refl
-operandFrom-formOf (subqueryOperand true false) = refl
-operandFrom-formOf (subqueryOperand false true) = refl
-operandFrom-formOf (subqueryOperand false false) = refl
-operandFrom-formOf (otherOperand vector) = refl
-operandFrom-formOf (otherOperand scalar) = refl
-operandFrom-formOf (otherOperand matrix) = refl
-operandFrom-formOf (otherOperand string) = refl
+-- a operand is what its tag and its value say
+pub operandFrom-tagOf : (x : Operand) → operandFrom (tagOf x) (valueOf x) ≡ x
+operandFrom-tagOf (numberOperand v) = refl
+operandFrom-tagOf stringOperand = refl
+operandFrom-tagOf (selectorOperand true true) = refl
+operandFrom-tagOf (selectorOperand true false) = refl
+operandFrom-tagOf (selectorOperand false true) = refl
+operandFrom-tagOf (selectorOperand false false) = refl
+operandFrom-tagOf (rangeOperand true true) = refl
+operandFrom-tagOf (rangeOperand true false) = refl
+operandFrom-tagOf (rangeOperand false true) = refl
+operandFrom-tagOf (rangeOperand false false) = refl
+operandFrom-tagOf (subqueryOperand true true) = refl
+operandFrom-tagOf (subqueryOperand true false) = refl
+operandFrom-tagOf (subqueryOperand false true) = refl
+operandFrom-tagOf (subqueryOperand false false) = refl
+operandFrom-tagOf (otherOperand vector) = refl
+operandFrom-tagOf (otherOperand scalar) = refl
+operandFrom-tagOf (otherOperand matrix) = refl
+operandFrom-tagOf (otherOperand string) = refl
 
 pub getD-past : {A : Type 0} (l : List A) (i : ℕ) (d : A) → length l ≤ i → getD l i d ≡ d
 getD-past [] i d h = refl
@@ -46,7 +46,7 @@ pub further : {n f : ℕ} → n ≤ f → (f ≡ n → ⊥) → suc n ≤ f
 further h g = omega arith
 
 pub operandFrom-last : (f : ℕ) (x : Float) → 17 ≤ f → operandFrom f x ≡ otherOperand string
-operandFrom-last f x h = getD-past (formTable x) f (otherOperand string) h
+operandFrom-last f x h = getD-past (tagTable x) f (otherOperand string) h
 
 -- ## heldOperands
 
@@ -71,25 +71,25 @@ heldOperands-length (f ∷ fs) (x ∷ xs) e = ap suc (heldOperands-length fs xs 
 
 -- ## The stack from its top on
 
-module _ (forms : List ℕ) (values : List Float) (sized : Sized forms values) where
-  pub heldOperands-size : length (heldOperands forms values) ≡ 256
-  heldOperands-size = heldOperands-length forms values (omega (arith, sized)) ∙ sized .forms-size
+module _ (tags : List ℕ) (values : List Float) (sized : Sized tags values) where
+  pub heldOperands-size : length (heldOperands tags values) ≡ 256
+  heldOperands-size = heldOperands-length tags values (omega (arith, sized)) ∙ sized .tags-size
 
-  pub stack-size : (top : ℕ) → length (drop top (heldOperands forms values)) ≡ 256 - top
+  pub stack-size : (top : ℕ) → length (drop top (heldOperands tags values)) ≡ 256 - top
   stack-size top = simp length-drop (rw heldOperands-size)
 
-  pub stack-empty : (top : ℕ) → 256 ≤ top → drop top (heldOperands forms values) ≡ []
-  stack-empty top h = drop-of-length-le (heldOperands forms values) {i = top} (rw heldOperands-size h)
+  pub stack-empty : (top : ℕ) → 256 ≤ top → drop top (heldOperands tags values) ≡ []
+  stack-empty top h = drop-of-length-le (heldOperands tags values) {i = top} (rw heldOperands-size h)
 
-  pub stack-top : (top : ℕ) → top < 256 → drop top (heldOperands forms values) ≡ getD (heldOperands forms values) top stringOperand ∷ drop (top + 1) (heldOperands forms values)
-  stack-top top h = rw add-one (drop-cons (heldOperands forms values) top stringOperand (rw heldOperands-size h))
+  pub stack-top : (top : ℕ) → top < 256 → drop top (heldOperands tags values) ≡ getD (heldOperands tags values) top stringOperand ∷ drop (top + 1) (heldOperands tags values)
+  stack-top top h = rw add-one (drop-cons (heldOperands tags values) top stringOperand (rw heldOperands-size h))
 
   -- the operands of a record
-  pub operands-size : (top n : ℕ) → top + n ≤ 256 → length (operandsOf n (drop top (heldOperands forms values))) ≡ n
-  operands-size top n h = length-reverse (take n (drop top (heldOperands forms values))) ∙ length-take-le n (drop top (heldOperands forms values)) (rw (stack-size top) (omega arith))
+  pub operands-size : (top n : ℕ) → top + n ≤ 256 → length (operandsOf n (drop top (heldOperands tags values))) ≡ n
+  operands-size top n h = length-reverse (take n (drop top (heldOperands tags values))) ∙ length-take-le n (drop top (heldOperands tags values)) (rw (stack-size top) (omega arith))
 
   -- the first of n + 1 operands lies deepest
   pub operands-first : (top n : ℕ) → top + (n + 1) ≤ 256
-      → operandsOf (n + 1) (drop top (heldOperands forms values)) ≡ getD (heldOperands forms values) (top + n) stringOperand ∷ operandsOf n (drop top (heldOperands forms values))
+      → operandsOf (n + 1) (drop top (heldOperands tags values)) ≡ getD (heldOperands tags values) (top + n) stringOperand ∷ operandsOf n (drop top (heldOperands tags values))
   operands-first top n h =
-      rw (add-one, take-suc (drop top (heldOperands forms values)) n stringOperand (rw (stack-size top) (omega arith)), reverse-append, getD-drop)
+      rw (add-one, take-suc (drop top (heldOperands tags values)) n stringOperand (rw (stack-size top) (omega arith)), reverse-append, getD-drop)

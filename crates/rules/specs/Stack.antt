@@ -1,4 +1,4 @@
--- How a stack of heldOperands lies in two arrays: a operand is a form, and the value that a number has. The arrays are filled from the end
+-- How a stack of heldOperands lies in two arrays: a operand is a tag, and the value that a number has. The arrays are filled from the end
 -- downwards, so that the stack is what lies from its top on.
 use Prim.Native.Nat.{ℕ, _+_}
 use mathlib.Core.Bool.{Bool, true, false}
@@ -10,20 +10,20 @@ use Rattle.records.specs.Kind.{vector, scalar, matrix, string, kindNumber}
 use Rattle.records.specs.Float.{zeroFloat}
 use Rattle.ast.specs.Operand.{Operand, numberOperand, stringOperand, selectorOperand, rangeOperand, subqueryOperand, otherOperand}
 
--- the form of a operand with facts, from its form without any
-abbrev pub markedForm : ℕ → Bool → Bool → ℕ
-markedForm f false false = f
-markedForm f true false = f + 1
-markedForm f false true = f + 2
-markedForm f true true = f + 3
+-- the tag of a operand with facts, from its tag without any
+abbrev pub tagWith : ℕ → Bool → Bool → ℕ
+tagWith f false false = f
+tagWith f true false = f + 1
+tagWith f false true = f + 2
+tagWith f true true = f + 3
 
-abbrev pub formOf : Operand → ℕ
-formOf (numberOperand x) = 0
-formOf stringOperand = 1
-formOf (selectorOperand a o) = markedForm 2 a o
-formOf (rangeOperand a o) = markedForm 6 a o
-formOf (subqueryOperand a o) = markedForm 10 a o
-formOf (otherOperand k) = 14 + kindNumber k
+abbrev pub tagOf : Operand → ℕ
+tagOf (numberOperand x) = 0
+tagOf stringOperand = 1
+tagOf (selectorOperand a o) = tagWith 2 a o
+tagOf (rangeOperand a o) = tagWith 6 a o
+tagOf (subqueryOperand a o) = tagWith 10 a o
+tagOf (otherOperand k) = 14 + kindNumber k
 
 abbrev pub valueOf : Operand → Float
 valueOf (numberOperand x) = x
@@ -33,9 +33,9 @@ valueOf (rangeOperand a o) = zeroFloat
 valueOf (subqueryOperand a o) = zeroFloat
 valueOf (otherOperand k) = zeroFloat
 
--- the forms 0 to 16; 17 is a string that is no literal
-abbrev pub formTable : Float → List Operand
-formTable x =
+-- the tags 0 to 16; 17 is a string that is no literal
+abbrev pub tagTable : Float → List Operand
+tagTable x =
     numberOperand x ∷ stringOperand
     ∷ selectorOperand false false ∷ selectorOperand true false ∷ selectorOperand false true ∷ selectorOperand true true
     ∷ rangeOperand false false ∷ rangeOperand true false ∷ rangeOperand false true ∷ rangeOperand true true
@@ -44,7 +44,7 @@ formTable x =
     ∷ []
 
 abbrev pub operandFrom : ℕ → Float → Operand
-operandFrom f x = getD (formTable x) f (otherOperand string)
+operandFrom f x = getD (tagTable x) f (otherOperand string)
 
 -- the heldOperands that two arrays hold
 abbrev pub heldOperands : List ℕ → List Float → List Operand
@@ -53,6 +53,6 @@ heldOperands (f ∷ fs) [] = []
 heldOperands (f ∷ fs) (x ∷ xs) = operandFrom f x ∷ heldOperands fs xs
 
 -- both arrays have a place for each record
-pub record Sized (forms : List ℕ) (values : List Float) : Type 0 where
-  pub forms-size : length forms ≡ 256
+pub record Sized (tags : List ℕ) (values : List Float) : Type 0 where
+  pub tags-size : length tags ≡ 256
   pub values-size : length values ≡ 256

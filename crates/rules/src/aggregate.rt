@@ -70,10 +70,10 @@ fn judge_operand(code: u64, parameter: Parameter, operand: Kind) -> Verdict
 }
 
 // The arguments are the topmost so many entries of the stack, the operand being the last.
-pub fn judge_aggregate(code: u64, forms: &[u8], values: &[f64], top: usize, count: usize) -> Verdict
-    requires { ⌜ Sized (now forms) (now values) ⌝ }
+pub fn judge_aggregate(code: u64, tags: &[u8], values: &[f64], top: usize, count: usize) -> Verdict
+    requires { ⌜ Sized (now tags) (now values) ⌝ }
     requires { ⌜ top + count ≤ 256 ⌝ }
-    ensures { λ r. ⌜ verdictMeant r ≡ judgeAggregate code (map operandKind (operandsOf count (drop top (heldOperands (now (forms .entry)) (now (values .entry)))))) ⌝ }
+    ensures { λ r. ⌜ verdictMeant r ≡ judgeAggregate code (map operandKind (operandsOf count (drop top (heldOperands (now (tags .entry)) (now (values .entry)))))) ⌝ }
 {
     if count == 0 {
         return Verdict::Refused(Refusal::AggregateOfNothing);
@@ -82,13 +82,13 @@ pub fn judge_aggregate(code: u64, forms: &[u8], values: &[f64], top: usize, coun
         if count != 2 {
             return Verdict::Refused(Refusal::ArgumentCount);
         }
-        let parameter = kind_of(operand_at(forms, values, top + 1));
-        let operand = kind_of(operand_at(forms, values, top));
+        let parameter = kind_of(operand_at(tags, values, top + 1));
+        let operand = kind_of(operand_at(tags, values, top));
         return judge_operand(code, Parameter::Some(parameter), operand);
     }
     if count != 1 {
         return Verdict::Refused(Refusal::ArgumentCount);
     }
-    let operand = kind_of(operand_at(forms, values, top));
+    let operand = kind_of(operand_at(tags, values, top));
     judge_operand(code, Parameter::None, operand)
 }

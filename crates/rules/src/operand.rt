@@ -1,4 +1,4 @@
-// Operands: what later records can ask of an operand. A stack of heldOperands lies in two arrays, the forms and the values of the numbers.
+// Operands: what later records can ask of an operand. A stack of heldOperands lies in two arrays, the tags and the values of the numbers.
 use records::Kind;
 ghost use Prim.Native.Nat.{_<_};
 ghost use mathlib.Core.Path.{_≡_};
@@ -6,7 +6,7 @@ ghost use lib.ListN.{getD};
 ghost use Rattle.records.specs.Answers.{kindOf};
 ghost use Rattle.ast.specs.Operand.{stringOperand, otherOperand, operandKind};
 ghost use Rattle.rules.specs.Answers.{operandMeant};
-ghost use Rattle.rules.specs.Stack.{markedForm, formOf, valueOf, operandFrom, heldOperands, Sized};
+ghost use Rattle.rules.specs.Stack.{tagWith, tagOf, valueOf, operandFrom, heldOperands, Sized};
 
 // The facts of a selector, a range and a subquery say that @ is set and that offset is set.
 pub enum Operand {
@@ -33,25 +33,25 @@ pub fn kind_of(operand: Operand) -> Kind
 
 // A operand as a byte, and the value that a number has.
 
-// The form of a operand with facts, from its form without any.
-fn marked(form: u8, at: bool, offset: bool) -> u8
-    requires { ⌜ form < 250 ⌝ }
-    ensures { λ r. ⌜ r ≡ markedForm form at offset ⌝ }
+// The tag of a operand with facts, from its tag without any.
+fn tag_with(tag: u8, at: bool, offset: bool) -> u8
+    requires { ⌜ tag < 250 ⌝ }
+    ensures { λ r. ⌜ r ≡ tagWith tag at offset ⌝ }
 {
     if at {
         if offset {
-            return form + 3;
+            return tag + 3;
         }
-        return form + 1;
+        return tag + 1;
     }
     if offset {
-        return form + 2;
+        return tag + 2;
     }
-    form
+    tag
 }
 
-fn kind_form(kind: Kind) -> u8
-    ensures { λ r. ⌜ r ≡ formOf (otherOperand (kindOf kind)) ⌝ }
+fn kind_tag(kind: Kind) -> u8
+    ensures { λ r. ⌜ r ≡ tagOf (otherOperand (kindOf kind)) ⌝ }
 {
     match kind {
         Kind::Vector => 14,
@@ -61,16 +61,16 @@ fn kind_form(kind: Kind) -> u8
     }
 }
 
-pub fn form_of(operand: Operand) -> u8
-    ensures { λ r. ⌜ r ≡ formOf (operandMeant operand) ⌝ }
+pub fn tag_of(operand: Operand) -> u8
+    ensures { λ r. ⌜ r ≡ tagOf (operandMeant operand) ⌝ }
 {
     match operand {
         Operand::Number(_) => 0,
         Operand::String => 1,
-        Operand::Selector(at, offset) => marked(2, at, offset),
-        Operand::Range(at, offset) => marked(6, at, offset),
-        Operand::Subquery(at, offset) => marked(10, at, offset),
-        Operand::Other(kind) => kind_form(kind),
+        Operand::Selector(at, offset) => tag_with(2, at, offset),
+        Operand::Range(at, offset) => tag_with(6, at, offset),
+        Operand::Subquery(at, offset) => tag_with(10, at, offset),
+        Operand::Other(kind) => kind_tag(kind),
     }
 }
 
@@ -87,10 +87,10 @@ pub fn value_of(operand: Operand) -> f64
     }
 }
 
-pub fn operand_from(form: u8, value: f64) -> Operand
-    ensures { λ r. ⌜ operandMeant r ≡ operandFrom form value ⌝ }
+pub fn operand_from(tag: u8, value: f64) -> Operand
+    ensures { λ r. ⌜ operandMeant r ≡ operandFrom tag value ⌝ }
 {
-    match form {
+    match tag {
         0 => Operand::Number(value),
         1 => Operand::String,
         2 => Operand::Selector(false, false),
@@ -113,10 +113,10 @@ pub fn operand_from(form: u8, value: f64) -> Operand
 }
 
 // The operand at an index of the stack.
-pub fn operand_at(forms: &[u8], values: &[f64], i: usize) -> Operand
-    requires { ⌜ Sized (now forms) (now values) ⌝ }
+pub fn operand_at(tags: &[u8], values: &[f64], i: usize) -> Operand
+    requires { ⌜ Sized (now tags) (now values) ⌝ }
     requires { ⌜ i < 256 ⌝ }
-    ensures { λ r. ⌜ operandMeant r ≡ getD (heldOperands (now (forms .entry)) (now (values .entry))) i stringOperand ⌝ }
+    ensures { λ r. ⌜ operandMeant r ≡ getD (heldOperands (now (tags .entry)) (now (values .entry))) i stringOperand ⌝ }
 {
-    operand_from(forms[i], values[i])
+    operand_from(tags[i], values[i])
 }

@@ -5,8 +5,8 @@ pub mod place;
 pub mod whole;
 pub mod write;
 
-use view::Form;
 use view::Node;
+use view::Shape;
 pub use whole::prettify_len;
 pub use whole::put_prettify;
 ghost use mathlib.Core.Path.{_≡_};
@@ -19,12 +19,12 @@ fn inner_indents(page: &[u8], starts: &[u16], node: Node, indents: bool) -> bool
     requires { ⌜ NodeAt (now page) (now starts) node ⌝ }
     ensures { λ r. ⌜ r ≡ innerIndents indents (layoutAt (now (page .entry)) node) ⌝ }
 {
-    match view::form_of(node) {
-        Form::Whole => true,
-        Form::Minus => false,
-        Form::Suffixed => indents,
-        Form::Enclosed => true,
-        Form::Infixed => indents,
+    match view::shape_of(node) {
+        Shape::Whole => true,
+        Shape::Minus => false,
+        Shape::Suffixed => indents,
+        Shape::Enclosed => true,
+        Shape::Infixed => indents,
     }
 }
 
@@ -34,11 +34,11 @@ fn inner_level(page: &[u8], starts: &[u16], node: Node, level: usize) -> usize
     requires { ⌜ level ≤ 256 ⌝ }
     ensures { λ r. ⌜ (r ≡ innerLevel level (layoutAt (now (page .entry)) node)) × (r ≤ suc level) ⌝ }
 {
-    match view::form_of(node) {
-        Form::Whole => level,
-        Form::Minus => level,
-        Form::Suffixed => level,
-        Form::Enclosed => level + 1,
-        Form::Infixed => level + 1,
+    match view::shape_of(node) {
+        Shape::Whole => level,
+        Shape::Minus => level,
+        Shape::Suffixed => level,
+        Shape::Enclosed => level + 1,
+        Shape::Infixed => level + 1,
     }
 }

@@ -1,5 +1,5 @@
 -- What the record at the foot of a node gives it, one law for all kinds of record (`seen-item`): its layout, under what
--- the records above set, and its operands. Form and count go by the foot's kind, which two short tables hold.
+-- the records above set, and its operands. Shape and count go by the foot's kind, which two short tables hold.
 use Prim.Native.Nat.{ℕ, suc}
 use native.Mathlib.Omega.{arith}
 use mathlib.Core.Path.{_≡_, refl, sym, ap, subst, _∙_}
@@ -17,11 +17,11 @@ use Rattle.text.specs.Display.{displaySelector, displayTimes, displaySuffix, di
 use Rattle.text.specs.Layout.{Layout, whole, negation, suffixed, enclosed, infixed, displayRange, layoutOf, head, operator, suffix}
 use Rattle.text.specs.LaidOut.{Reads, LaidOut}
 use Rattle.text.proofs.LaidOutLaws.{laidOut-number, laidOut-string, laidOut-selector, laidOut-subquery, laidOut-paren, laidOut-literal, laidOut-unary, laidOut-binary, laidOut-aggregate, laidOut-call}
-use Rattle.view.specs.View.{Starts, kindOf, KindAt, isAttached, Sets, Valued, FootAt, formOf, formed}
+use Rattle.view.specs.View.{Starts, kindOf, KindAt, isAttached, Sets, Valued, FootAt, shapeOf, shaped}
 use Rattle.view.specs.declared.Foot.{Foot}
 use Rattle.view.specs.declared.Foot.the-variants as foot
-use Rattle.view.specs.declared.form.Form.{Form}
-use Rattle.view.specs.declared.form.Form.the-variants as form
+use Rattle.view.specs.declared.shape.Shape.{Shape}
+use Rattle.view.specs.declared.shape.Shape.the-variants as shape
 use Rattle.view.proofs.ViewLaws.{number-value}
 use Rattle.view.proofs.ChainedLaws.{sets-low, sets-here, sets-tree}
 
@@ -61,35 +61,35 @@ module _ {page starts : List ℕ} {i j : ℕ} {n : Option ℕ} {u : Times} (s : 
   pub laidOut-valued : (v : Valued page starts j) → LaidOut page i (whole (displayLiteral (v .value))) j 0
   laidOut-valued v = laidOut-literal (s .tables) j (sets-low above) n u (sets-tree s above) (v .value) (number-value (sets-here s above) (v .is))
 
--- ## Form and count by the kind
+-- ## Shape and count by the kind
 
 -- by kinds from 0 on; those of the attached do not matter
-abbrev forms : List Form
-forms =
-    form.Whole ∷ form.Whole ∷ form.Whole ∷ form.Whole ∷ form.Suffixed ∷ form.Whole ∷ form.Whole ∷ form.Minus ∷ form.Enclosed ∷ form.Infixed ∷ form.Enclosed
-    ∷ form.Enclosed ∷ []
+abbrev shapes : List Shape
+shapes =
+    shape.Whole ∷ shape.Whole ∷ shape.Whole ∷ shape.Whole ∷ shape.Suffixed ∷ shape.Whole ∷ shape.Whole ∷ shape.Minus ∷ shape.Enclosed ∷ shape.Infixed ∷ shape.Enclosed
+    ∷ shape.Enclosed ∷ []
 
-abbrev formBy : ℕ → Form
-formBy kind = getD forms kind form.Whole
+abbrev formBy : ℕ → Shape
+formBy kind = getD shapes kind shape.Whole
 
 -- the operands of kinds 0 to 9; aggregates and calls say theirs
 abbrev pub counts : List ℕ
 counts = 0 ∷ 0 ∷ 0 ∷ 1 ∷ 1 ∷ 1 ∷ 1 ∷ 1 ∷ 1 ∷ 2 ∷ []
 
--- the form of a layout
-abbrev shape : Layout → Form
-shape (whole t) = form.Whole
-shape negation = form.Minus
-shape (suffixed t) = form.Suffixed
-shape (enclosed t) = form.Enclosed
-shape (infixed t) = form.Infixed
+-- the shape of a layout
+abbrev shape : Layout → Shape
+shape (whole t) = shape.Whole
+shape negation = shape.Minus
+shape (suffixed t) = shape.Suffixed
+shape (enclosed t) = shape.Enclosed
+shape (infixed t) = shape.Infixed
 
-pub shape-formed : (l : Layout) → l ≡ formed (shape l) (head l) (operator l) (suffix l)
-shape-formed (whole t) = refl
-shape-formed negation = refl
-shape-formed (suffixed t) = refl
-shape-formed (enclosed t) = refl
-shape-formed (infixed t) = refl
+pub shape-shaped : (l : Layout) → l ≡ shaped (shape l) (head l) (operator l) (suffix l)
+shape-shaped (whole t) = refl
+shape-shaped negation = refl
+shape-shaped (suffixed t) = refl
+shape-shaped (enclosed t) = refl
+shape-shaped (infixed t) = refl
 
 by-kind : (item : Record) (n : Option ℕ) (u : Times) → (shape (layoutBy item n u) ≡ formBy (kindOf item)) × (operands item ≡ getD counts (kindOf item) (operands item))
 by-kind (leaf (number l)) n u = (refl, refl)
@@ -122,7 +122,7 @@ module _ {page starts : List ℕ} {i j : ℕ} {n : Option ℕ} {u : Times} (s : 
     pub laidOut-fixed : (count : ℕ) → ((c : ℕ) → getD counts kind c ≡ count) → LaidOut page i (layoutOf (treeAt page i)) j count
     laidOut-fixed count few = laidOut-kind (by-kind (k .item) n u .1 ∙ ap (λ (m : ℕ). getD counts m (operands (k .item))) (k .same) ∙ few _)
 
-  pub foot-shape : (f : Foot) → FootAt page starts j f → shape (layoutOf (treeAt page i)) ≡ formOf f
+  pub foot-shape : (f : Foot) → FootAt page starts j f → shape (layoutOf (treeAt page i)) ≡ shapeOf f
   foot-shape foot.Number v = ap shape (laidOut-valued s above v .layout)
   foot-shape foot.String k = kind-shape k refl (λ e. absurd (omega (arith, e)))
   foot-shape foot.Selector k = kind-shape k refl (λ e. absurd (omega (arith, e)))

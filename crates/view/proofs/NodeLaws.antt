@@ -18,15 +18,15 @@ use Rattle.ast.specs.Tables.{treeAt}
 use Rattle.text.specs.Layout.{whole, layoutOf, head, operator, suffix}
 use Rattle.text.specs.LaidOut.{Reads, LaidOut}
 use Rattle.text.proofs.ValueLaws.{settled-value}
-use Rattle.view.specs.View.{Starts, kindOf, KindAt, TakesAt, isAttached, Sets, Chained, FootOf, NumberAt, bare, Valued, Numberless, FootAt, NodeAt, layoutAt, Viewed, isMinus, formOf, formed}
+use Rattle.view.specs.View.{Starts, kindOf, KindAt, TakesAt, isAttached, Sets, Chained, FootOf, NumberAt, bare, Valued, Numberless, FootAt, NodeAt, layoutAt, Viewed, isMinus, shapeOf, shaped}
 use Rattle.view.specs.declared.Foot.{Foot}
 use Rattle.view.specs.declared.Foot.the-variants as foot
 use Rattle.view.specs.declared.Node.{Node}
-use Rattle.view.specs.declared.form.Form.{Form}
-use Rattle.view.specs.declared.form.Form.the-variants as form
+use Rattle.view.specs.declared.shape.Shape.{Shape}
+use Rattle.view.specs.declared.shape.Shape.the-variants as shape
 use Rattle.view.proofs.KindLaws.{reads-same, kind-same, fields, readable}
 use Rattle.view.proofs.ChainedLaws.{sets-tree, chained-here}
-use Rattle.view.proofs.FootLaws.{layoutBy, laidOut-item, laidOut-valued, shape-formed, foot-shape, counts, laidOut-kind, laidOut-fixed}
+use Rattle.view.proofs.FootLaws.{layoutBy, laidOut-item, laidOut-valued, shape-shaped, foot-shape, counts, laidOut-kind, laidOut-fixed}
 
 -- ## Views
 
@@ -85,12 +85,12 @@ module _ {page starts : List ℕ} {i j : ℕ} (s : Starts page starts (suc i)) (
 -- ## What is known of a node
 
 module _ {page starts : List ℕ} {node : Node} (n : NodeAt page starts node) where
-  -- its layout is that of its form, with its own texts
-  pub layout-formed : {f : Form} → f ≡ formOf (node .foot)
-      → layoutAt page node ≡ formed f (head (layoutAt page node)) (operator (layoutAt page node)) (suffix (layoutAt page node))
-  layout-formed e =
+  -- its layout is that of its shape, with its own texts
+  pub layout-shaped : {f : Shape} → f ≡ shapeOf (node .foot)
+      → layoutAt page node ≡ shaped f (head (layoutAt page node)) (operator (layoutAt page node)) (suffix (layoutAt page node))
+  layout-shaped e =
       let same = foot-shape (n .known) (n .chain .sets) (node .foot) (n .foot) ∙ sym e in
-      rw same at (shape-formed (layoutAt page node))
+      rw same at (shape-shaped (layoutAt page node))
 
   -- its layout is that of the record at its foot, unless this is a sign, under what the records above set
   pub layout-read : {r : Option ℕ} {u : Times} → Sets page starts (node .top) (node .base) r u → {item : Record} → Reads page starts (node .base) item
@@ -110,9 +110,9 @@ module _ {page starts : List ℕ} {node : Node} (n : NodeAt page starts node) wh
 -- the operand of a minus is no bare number
 pub minus-numberless : {page starts : List ℕ} {i : ℕ} {node : Node} → Viewed page starts i node → Numberless page (node .base - 1) (isMinus (node .foot))
 minus-numberless {page} {starts} {i} {node} w m =
-    w .laidOut .unsigned (layout-formed (w .stands) (minus (node .foot) m))
+    w .laidOut .unsigned (layout-shaped (w .stands) (minus (node .foot) m))
   where
-    minus : (f : Foot) → isMinus f ≡ true → form.Minus ≡ formOf f
+    minus : (f : Foot) → isMinus f ≡ true → shape.Minus ≡ shapeOf f
     minus foot.Number h = absurd (false≢true h)
     minus foot.String h = absurd (false≢true h)
     minus foot.Selector h = absurd (false≢true h)

@@ -20,8 +20,8 @@ use Rattle.view.specs.declared.Foot.the-variants as foot
 use Rattle.view.specs.declared.Node.{Node}
 use Rattle.view.specs.declared.literal.Signed.{Signed}
 use Rattle.view.specs.declared.literal.Signed.the-variants as sign
-use Rattle.view.specs.declared.form.Form.{Form}
-use Rattle.view.specs.declared.form.Form.the-variants as form
+use Rattle.view.specs.declared.shape.Shape.{Shape}
+use Rattle.view.specs.declared.shape.Shape.the-variants as shape
 
 -- the starts of the first n records, with some table of first records beside them
 pub record Starts (page starts : List ℕ) (n : ℕ) : Type 0 where
@@ -158,21 +158,21 @@ isMinus foot.Aggregate = false
 isMinus foot.Call = false
 
 -- the way in which a node's text is put together, without its own texts
-abbrev pub formOf : Foot → Form
-formOf foot.Number = form.Whole
-formOf foot.String = form.Whole
-formOf foot.Selector = form.Whole
-formOf foot.Subquery = form.Suffixed
-formOf foot.Unary = form.Minus
-formOf foot.Paren = form.Enclosed
-formOf foot.Binary = form.Infixed
-formOf foot.Aggregate = form.Enclosed
-formOf foot.Call = form.Enclosed
+abbrev pub shapeOf : Foot → Shape
+shapeOf foot.Number = shape.Whole
+shapeOf foot.String = shape.Whole
+shapeOf foot.Selector = shape.Whole
+shapeOf foot.Subquery = shape.Suffixed
+shapeOf foot.Unary = shape.Minus
+shapeOf foot.Paren = shape.Enclosed
+shapeOf foot.Binary = shape.Infixed
+shapeOf foot.Aggregate = shape.Enclosed
+shapeOf foot.Call = shape.Enclosed
 
--- the layout of a form, from the node's own texts
-abbrev pub formed : Form → List ℕ → List ℕ → List ℕ → Layout
-formed form.Whole h o s = whole h
-formed form.Minus h o s = negation
-formed form.Suffixed h o s = suffixed s
-formed form.Enclosed h o s = enclosed h
-formed form.Infixed h o s = infixed o
+-- the layout of a shape, from the node's own texts
+abbrev pub shaped : Shape → List ℕ → List ℕ → List ℕ → Layout
+shaped shape.Whole h o s = whole h
+shaped shape.Minus h o s = negation
+shaped shape.Suffixed h o s = suffixed s
+shaped shape.Enclosed h o s = enclosed h
+shaped shape.Infixed h o s = infixed o

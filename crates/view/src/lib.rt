@@ -1,14 +1,14 @@
 // The node that a record ends: where its records stand. A selector or a subquery with its range, @ and offset is one node of up to four
 // records, a negated number one of several. What a node writes of its own is read where it stands, when it is written.
-pub mod form;
 pub mod literal;
+pub mod shape;
 
-pub use form::Form;
-pub use form::form_of;
-pub use form::is_minus;
 pub use literal::Signed;
 pub use literal::signed_literal;
 use reader::Record;
+pub use shape::Shape;
+pub use shape::is_minus;
+pub use shape::shape_of;
 ghost use mathlib.Core.Path.{_≡_};
 ghost use Prim.Native.Nat.{suc, _+_, _<_};
 ghost use lib.ListN.{length, getD};

@@ -11,17 +11,17 @@ use Rattle.ast.specs.Expr.{Expr}
 use Rattle.ast.specs.Operand.{Operand, operandOf}
 use Rattle.ast.specs.Tables.{stackAt}
 use Rattle.ast.proofs.StackLaws.{map-drop}
-use Rattle.rules.specs.Stack.{formOf, valueOf, heldOperands, Sized}
-use Rattle.rules.proofs.StackLaws.{operandFrom-formOf, heldOperands-set, heldOperands-size, stack-size}
+use Rattle.rules.specs.Stack.{tagOf, valueOf, heldOperands, Sized}
+use Rattle.rules.proofs.StackLaws.{operandFrom-tagOf, heldOperands-set, heldOperands-size, stack-size}
 use Rattle.walk.proofs.BasesLaws.{Bases, bases-drop, bases-more}
 
 -- ## The arrays
 
 -- from `top` on they hold the heldOperands of the stack, and the first record of each entry
-pub record Arrays (page forms : List ℕ) (values : List Float) (bases : List ℕ) (top count : ℕ) (stack : List Expr) : Type 0 where
-  pub sized : Sized forms values
+pub record Arrays (page tags : List ℕ) (values : List Float) (bases : List ℕ) (top count : ℕ) (stack : List Expr) : Type 0 where
+  pub sized : Sized tags values
   pub bases-size : length bases ≡ 256
-  pub summaries : drop top (heldOperands forms values) ≡ map operandOf stack
+  pub summaries : drop top (heldOperands tags values) ≡ map operandOf stack
   pub firsts : Bases page count (drop top bases) stack
   pub top-range : top ≤ 256
   pub depth-range : 256 ≤ top + count
@@ -31,9 +31,9 @@ drop-set [] i a h = absurd (let z : ⊥ = omega arith in z)
 drop-set (x ∷ l) zero a h = refl
 drop-set (x ∷ l) (suc i) a h = drop-set l i a (omega arith)
 
-module _ {page forms : List ℕ} {values : List Float} {bases : List ℕ} {top count : ℕ} {stack : List Expr} (arrays : Arrays page forms values bases top count stack) where
+module _ {page tags : List ℕ} {values : List Float} {bases : List ℕ} {top count : ℕ} {stack : List Expr} (arrays : Arrays page tags values bases top count stack) where
   pub stack-length : length stack ≡ 256 - top
-  stack-length = sym (length-map stack operandOf) ∙ ap length (sym (arrays .summaries)) ∙ stack-size forms values (arrays .sized) top
+  stack-length = sym (length-map stack operandOf) ∙ ap length (sym (arrays .summaries)) ∙ stack-size tags values (arrays .sized) top
 
   -- a operand put on the stack, in place of the topmost n entries
   module _ (n first : ℕ) (x : Operand) (tree : Expr) (enough : top + n ≤ 256) (room : 1 ≤ top + n) (is : operandOf tree ≡ x)
@@ -47,11 +47,11 @@ module _ {page forms : List ℕ} {values : List Float} {bases : List ℕ} {top c
     lies : {A : Type 0} (l : List A) → drop (suc place) l ≡ drop n (drop top l)
     lies l = ap (λ (k : ℕ). drop k l) above ∙ sym (drop-drop n top l)
 
-    pushed : drop place (heldOperands (set forms place (formOf x)) (set values place (valueOf x))) ≡ map operandOf (tree ∷ drop n stack)
+    pushed : drop place (heldOperands (set tags place (tagOf x)) (set values place (valueOf x))) ≡ map operandOf (tree ∷ drop n stack)
     pushed =
-        ap (drop place) (heldOperands-set forms values place (formOf x) (valueOf x) ∙ ap (set (heldOperands forms values) place) (operandFrom-formOf x))
-        ∙ drop-set (heldOperands forms values) place x (rw (heldOperands-size forms values (arrays .sized)) (omega (arith, enough, room)))
-        ∙ ap₂ (λ (y : Operand) (ys : List Operand). y ∷ ys) (sym is) (lies (heldOperands forms values) ∙ ap (drop n) (arrays .summaries) ∙ sym (map-drop operandOf n stack))
+        ap (drop place) (heldOperands-set tags values place (tagOf x) (valueOf x) ∙ ap (set (heldOperands tags values) place) (operandFrom-tagOf x))
+        ∙ drop-set (heldOperands tags values) place x (rw (heldOperands-size tags values (arrays .sized)) (omega (arith, enough, room)))
+        ∙ ap₂ (λ (y : Operand) (ys : List Operand). y ∷ ys) (sym is) (lies (heldOperands tags values) ∙ ap (drop n) (arrays .summaries) ∙ sym (map-drop operandOf n stack))
 
     based : Bases page (suc count) (drop place (set bases place first)) (tree ∷ drop n stack)
     based =
@@ -59,9 +59,9 @@ module _ {page forms : List ℕ} {values : List Float} {bases : List ℕ} {top c
         (sym (drop-set bases place first (rw (arrays .bases-size) (omega (arith, enough, room))) ∙ ap {B = List ℕ} (λ bs. first ∷ bs) (lies bases)))
         (low, below, bases-drop page (suc count) n (drop top bases) stack (bases-more page count (drop top bases) stack (arrays .firsts)))
 
-    pub arrays-next : Arrays page (set forms place (formOf x)) (set values place (valueOf x)) (set bases place first) place (suc count) (tree ∷ drop n stack)
+    pub arrays-next : Arrays page (set tags place (tagOf x)) (set values place (valueOf x)) (set bases place first) place (suc count) (tree ∷ drop n stack)
     arrays-next = record {
-      sized = record { forms-size = length-set forms _ _ ∙ arrays .sized .forms-size; values-size = length-set values _ _ ∙ arrays .sized .values-size };
+      sized = record { tags-size = length-set tags _ _ ∙ arrays .sized .tags-size; values-size = length-set values _ _ ∙ arrays .sized .values-size };
       bases-size = length-set bases _ _ ∙ arrays .bases-size;
       summaries = pushed;
       firsts = based;

@@ -19,7 +19,7 @@ use Rattle.ast.specs.Operand.{Operand, stringOperand, operandKind, operandOf}
 use Rattle.ast.specs.Judge.{judgement}
 use Rattle.ast.specs.Tables.{stackAt, newest, treeAt, Tables}
 use Rattle.ast.proofs.OperandLaws.{operandOf-kind}
-use Rattle.rules.specs.Stack.{formOf, valueOf, heldOperands, Sized}
+use Rattle.rules.specs.Stack.{tagOf, valueOf, heldOperands, Sized}
 use Rattle.rules.proofs.StackLaws.{stack-size, stack-empty, stack-top}
 use Rattle.page.specs.Answers.{Within}
 use Rattle.walk.specs.Answers.{Accepts, Refuses}
@@ -30,11 +30,11 @@ use Rattle.walk.proofs.ProgressLaws.{Progress, too-long, progress-start
 use Rattle.walk.proofs.TableLaws.{tables-start, tables-next, entry-of}
 use Rattle.walk.proofs.ArraysLaws.{Arrays, stack-length, arrays-next}
 
-pub record WalkedSoFar (page starts₀ firsts₀ starts firsts forms : List ℕ) (values : List Float) (bases : List ℕ) (top at count : ℕ) : Type 0 where
+pub record WalkedSoFar (page starts₀ firsts₀ starts firsts tags : List ℕ) (values : List Float) (bases : List ℕ) (top at count : ℕ) : Type 0 where
   -- the trees of which the arrays hold the heldOperands
   pub stack : List Expr
   pub progress : Progress page at count stack
-  pub arrays : Arrays page forms values bases top count stack
+  pub arrays : Arrays page tags values bases top count stack
   pub tables : Tables page starts firsts count
   -- the entries after are those that were lent
   pub starts-kept : drop count starts ≡ drop count starts₀
@@ -45,15 +45,15 @@ kept-next table before n entry e =
     drop-set-lt (suc n) table n entry (omega arith)
     ∙ ap (λ (k : ℕ). drop k table) (sym (add-one n)) ∙ sym (drop-drop 1 n table) ∙ ap (drop 1) e ∙ drop-drop 1 n before ∙ ap (λ (k : ℕ). drop k before) (add-one n)
 
-pub walked-start : {page starts firsts forms : List ℕ} {values : List Float} {bases : List ℕ} → length page ≤ 8192 → Sized forms values → length bases ≡ 256
-    → length starts ≡ 256 → length firsts ≡ 256 → WalkedSoFar page starts firsts starts firsts forms values bases 256 0 0
-walked-start {page} {starts} {firsts} {forms} {values} {bases} short sized b s f = record {
+pub walked-start : {page starts firsts tags : List ℕ} {values : List Float} {bases : List ℕ} → length page ≤ 8192 → Sized tags values → length bases ≡ 256
+    → length starts ≡ 256 → length firsts ≡ 256 → WalkedSoFar page starts firsts starts firsts tags values bases 256 0 0
+walked-start {page} {starts} {firsts} {tags} {values} {bases} short sized b s f = record {
   stack = [];
   progress = progress-start page short;
   arrays = record {
     sized = sized;
     bases-size = b;
-    summaries = stack-empty forms values sized 256 (omega arith);
+    summaries = stack-empty tags values sized 256 (omega arith);
     firsts = tt;
     top-range = omega arith;
     depth-range = omega arith;
@@ -68,14 +68,14 @@ pub too-long-refused : {page starts firsts : List ℕ} → 8192 < length page �
 too-long-refused {page} {starts} {firsts} h s f = record { tables = tables-start page starts firsts s f; refuses = too-long page h }
 
 -- after a record that takes n operands and puts the operand x
-pub record Next (page starts₀ firsts₀ starts firsts forms : List ℕ) (values : List Float) (bases : List ℕ) (top at count n next : ℕ) (x : Operand) : Type 0 where
+pub record Next (page starts₀ firsts₀ starts firsts tags : List ℕ) (values : List Float) (bases : List ℕ) (top at count n next : ℕ) (x : Operand) : Type 0 where
   pub high : top + n ≤ 256
   pub low : 1 ≤ top + n
   pub walked-again : (end : ℕ) → Within page next end →
       let first = firstOf n count (drop top bases) in let place = top + n - 1 in
-      WalkedSoFar page starts₀ firsts₀ (set starts count at) (set firsts count first) (set forms place (formOf x)) (set values place (valueOf x)) (set bases place first) place end (count + 1)
+      WalkedSoFar page starts₀ firsts₀ (set starts count at) (set firsts count first) (set tags place (tagOf x)) (set values place (valueOf x)) (set bases place first) place end (count + 1)
 
-module _ {page starts₀ firsts₀ starts firsts forms : List ℕ} {values : List Float} {bases : List ℕ} {top at count : ℕ} (held : WalkedSoFar page starts₀ firsts₀ starts firsts forms values bases top at count) where
+module _ {page starts₀ firsts₀ starts firsts tags : List ℕ} {values : List Float} {bases : List ℕ} {top at count : ℕ} (held : WalkedSoFar page starts₀ firsts₀ starts firsts tags values bases top at count) where
   abbrev trees : List Expr
   trees = held .stack
 
@@ -98,12 +98,12 @@ module _ {page starts₀ firsts₀ starts firsts forms : List ℕ} {values : Lis
   pub record Left : Type 0 where
     pub tree : Expr
     pub is : trees ≡ tree ∷ []
-    pub operand : getD (heldOperands forms values) 255 stringOperand ≡ operandOf tree
+    pub operand : getD (heldOperands tags values) 255 stringOperand ≡ operandOf tree
 
   left-one : top ≡ 255 → Left
-  left-one e = go trees refl (omega (arith, e, stack-length (held .arrays))) (sym (stack-top forms values (held .arrays .sized) 255 (omega arith)) ∙ rw e at (held .arrays .summaries))
+  left-one e = go trees refl (omega (arith, e, stack-length (held .arrays))) (sym (stack-top tags values (held .arrays .sized) 255 (omega arith)) ∙ rw e at (held .arrays .summaries))
     where
-      go : (s : List Expr) → trees ≡ s → length s ≡ 1 → getD (heldOperands forms values) 255 stringOperand ∷ drop (255 + 1) (heldOperands forms values) ≡ map operandOf s → Left
+      go : (s : List Expr) → trees ≡ s → length s ≡ 1 → getD (heldOperands tags values) 255 stringOperand ∷ drop (255 + 1) (heldOperands tags values) ≡ map operandOf s → Left
       go [] same h p = absurd (let z : ⊥ = omega arith in z)
       go (t ∷ []) same h p = record { tree = t; is = same; operand = cc }
       go (t ∷ u ∷ s) same h p = absurd (let z : ⊥ = omega arith in z)
@@ -112,7 +112,7 @@ module _ {page starts₀ firsts₀ starts firsts forms : List ℕ} {values : Lis
     left-tree : checkPage page ≡ accepted (left-one one .tree) count
     left-tree = progress-end (held .progress) over ∙ ap (atEnd records.end count) (left-one one .is)
 
-    pub ends-accepted : {k : Kind} → k ≡ operandKind (getD (heldOperands forms values) 255 stringOperand) → Accepts page starts firsts k count
+    pub ends-accepted : {k : Kind} → k ≡ operandKind (getD (heldOperands tags values) 255 stringOperand) → Accepts page starts firsts k count
     unfolding treeAt
     ends-accepted {k} is =
         let last : suc (count - 1) ≡ count = omega (arith, one, held .arrays .depth-range) in
@@ -135,23 +135,23 @@ module _ {page starts₀ firsts₀ starts firsts forms : List ℕ} {values : Lis
       unreadable f e number = rw number (refuses-next (progress-bad (held .progress) more few f e))
 
       module _ {r : Record} (next : ℕ) (read : got r (drop next page) ≡ readRecord (drop at page)) where
-        pub unfit : {n : ℕ} → refused n ≡ judgement r (drop top (heldOperands forms values)) → Refuses page starts firsts n count
+        pub unfit : {n : ℕ} → refused n ≡ judgement r (drop top (heldOperands tags values)) → Refuses page starts firsts n count
         unfit e =
             refuses-next (progress-refused (held .progress) more few next read
             (unapplied r trees (held .progress .sound) (e ∙ ap (judgement r) (held .arrays .summaries))))
 
-        module _ {x : Operand} (put : ok x ≡ judgement r (drop top (heldOperands forms values))) (n : ℕ) (takes : n ≡ operands r) where
+        module _ {x : Operand} (put : ok x ≡ judgement r (drop top (heldOperands tags values))) (n : ℕ) (takes : n ≡ operands r) where
           done : Applied r trees x
           done = applied r trees (held .progress .sound) (put ∙ ap (judgement r) (held .arrays .summaries))
 
           abbrev after : List Expr
           after = done .after
 
-          there : operands r ≤ length (drop top (heldOperands forms values))
-          there = operands-there r (drop top (heldOperands forms values)) x put
+          there : operands r ≤ length (drop top (heldOperands tags values))
+          there = operands-there r (drop top (heldOperands tags values)) x put
 
           enough : top + n ≤ 256
-          enough = omega (arith, held .arrays .top-range, takes, rw (stack-size forms values (held .arrays .sized) top) at there)
+          enough = omega (arith, held .arrays .top-range, takes, rw (stack-size tags values (held .arrays .sized) top) at there)
 
           room : 1 ≤ top + n
           room = omega (arith, held .arrays .depth-range, held .progress .count-range, few)
@@ -174,7 +174,7 @@ module _ {page starts₀ firsts₀ starts firsts forms : List ℕ} {values : Lis
 
             walked-next :
                 let first = firstOf n count (drop top bases) in let place = top + n - 1 in
-                WalkedSoFar page starts₀ firsts₀ (set starts count at) (set firsts count first) (set forms place (formOf x)) (set values place (valueOf x)) (set bases place first) place end (suc count)
+                WalkedSoFar page starts₀ firsts₀ (set starts count at) (set firsts count first) (set tags place (tagOf x)) (set values place (valueOf x)) (set bases place first) place end (suc count)
             walked-next = record {
               stack = new .tree ∷ drop n trees;
               progress = subst (λ (s : List Expr). Progress page end (suc count) s) (new .is ∙ ap {B = List Expr} (λ k. new .tree ∷ drop k trees) (sym takes)) onward;
@@ -186,5 +186,5 @@ module _ {page starts₀ firsts₀ starts firsts forms : List ℕ} {values : Lis
               firsts-kept = kept-next firsts firsts₀ count (firstOf n count (drop top bases)) (held .firsts-kept);
             }
 
-          pub stepped : Next page starts₀ firsts₀ starts firsts forms values bases top at count n next x
+          pub stepped : Next page starts₀ firsts₀ starts firsts tags values bases top at count n next x
           stepped = record { high = enough; low = room; walked-again = λ end w. rw add-one (walked-next end w) }

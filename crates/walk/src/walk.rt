@@ -10,9 +10,9 @@ use reader::read_record;
 use records::Kind;
 use rules::Refusal;
 use rules::Verdict;
-use rules::operand::form_of;
 use rules::operand::kind_of;
 use rules::operand::operand_at;
+use rules::operand::tag_of;
 use rules::operand::value_of;
 ghost use Prim.Native.Nat.{_+_, _≤_, _<_};
 ghost use mathlib.Core.Path.{_≡_};
@@ -35,19 +35,19 @@ fn judge_next(
     page: &[u8],
     item: Record,
     needed: usize,
-    forms: &[u8],
+    tags: &[u8],
     values: &[f64],
     top: usize,
 ) -> Verdict
-    requires { ⌜ Sized (now forms) (now values) ⌝ }
+    requires { ⌜ Sized (now tags) (now values) ⌝ }
     requires { ⌜ RecordRead (now page) item needed ⌝ }
     requires { ⌜ top ≤ 256 ⌝ }
-    ensures { λ r. ⌜ verdictMeant r ≡ judgement (recordOn (now (page .entry)) item) (drop top (heldOperands (now (forms .entry)) (now (values .entry)))) ⌝ }
+    ensures { λ r. ⌜ verdictMeant r ≡ judgement (recordOn (now (page .entry)) item) (drop top (heldOperands (now (tags .entry)) (now (values .entry)))) ⌝ }
 {
     if 256 - top < needed {
         return Verdict::Refused(Refusal::OperandsMissing);
     }
-    judge_record(page, item, forms, values, top)
+    judge_record(page, item, tags, values, top)
 }
 
 // The first record of the expression that record `count` ends: that of its deepest operand, or itself.
@@ -69,7 +69,7 @@ pub fn walk(page: &[u8], starts: &mut [u16], firsts: &mut [u8]) -> Walked
     if 8192 < page.len() {
         return Walked::Refused(Refusal::PastLimit, 0);
     }
-    let mut forms = [0u8; 256];
+    let mut tags = [0u8; 256];
     let mut values = [0.0f64; 256];
     let mut bases = [0u8; 256];
     let mut top: usize = 256;
@@ -83,14 +83,14 @@ pub fn walk(page: &[u8], starts: &mut [u16], firsts: &mut [u8]) -> Walked
             RecordField::Bad(fault) => return Walked::Refused(field_refusal(fault), count),
             RecordField::Got(item, next) => {
                 let needed = operand_count(item);
-                match judge_next(page, item, needed, &forms, &values, top) {
+                match judge_next(page, item, needed, &tags, &values, top) {
                     Verdict::Refused(refusal) => return Walked::Refused(refusal, count),
                     Verdict::Put(operand) => {
                         let first = first_record(&bases, top, needed, count);
                         starts[count] = at as u16;
                         firsts[count] = first;
                         top = top + needed - 1;
-                        forms[top] = form_of(operand);
+                        tags[top] = tag_of(operand);
                         values[top] = value_of(operand);
                         bases[top] = first;
                         at = page::within(page, next);
@@ -103,5 +103,5 @@ pub fn walk(page: &[u8], starts: &mut [u16], firsts: &mut [u8]) -> Walked
     if top != 255 {
         return Walked::Refused(Refusal::OperandsMissing, count);
     }
-    Walked::Accepted(kind_of(operand_at(&forms, &values, 255)), count)
+    Walked::Accepted(kind_of(operand_at(&tags, &values, 255)), count)
 }

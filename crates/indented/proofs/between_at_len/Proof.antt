@@ -1,6 +1,6 @@
--- `indented::between_at_len` meets its contract: by the form. Assumes nothing.
+-- `indented::between_at_len` meets its contract: by the shape. Assumes nothing.
 use Rattle.indented.proofs.IndentLaws.{infixed-len}
-use Rattle.view.proofs.NodeLaws.{layout-formed}
+use Rattle.view.proofs.NodeLaws.{layout-shaped}
 use Rattle.view.specs.View.{layoutAt}
 use Rattle.text.proofs.CappedLaws.{len-as}
 use Rattle.text.specs.Layout.{Layout, operator, betweenAt}
@@ -11,8 +11,8 @@ use borrow.Author.Needs.{needs}
 use Rattle.indented.proofs.between_at_len.Statement.{statement}
 use Rattle.indented.proofs.between_at_len.Tie as tie
 
-form-of-requires : tie.Need-form-of-requires
-form-of-requires c κs = search needs
+shape-of-requires : tie.Need-shape-of-requires
+shape-of-requires c κs = search needs
 
 enum-told : tie.Need-enum-told
 enum-told c = search needs
@@ -48,25 +48,25 @@ capped-add-requires-2 : tie.Need-capped-add-requires-2
 capped-add-requires-2 c κs = search needs
 
 returns : tie.Need-returns
-returns c = let e = layout-formed (c .before .before .before .before .before .pre .0) (sym (c .enum-told .given .1) ∙ c .before .before .form-of .ensures) in omega (arith, ap (λ (l : Layout). length (betweenAt (c .before .before .before .before .before .args .level) l)) e)
+returns c = let e = layout-shaped (c .before .before .before .before .before .pre .0) (sym (c .enum-told .given .1) ∙ c .before .before .shape-of .ensures) in omega (arith, ap (λ (l : Layout). length (betweenAt (c .before .before .before .before .before .args .level) l)) e)
 
 returns-2 : tie.Need-returns-2
-returns-2 c = let e = layout-formed (c .before .before .before .before .before .pre .0) (sym (c .enum-told2 .given .1) ∙ c .before .before .form-of .ensures) in omega (arith, ap (λ (l : Layout). length (betweenAt (c .before .before .before .before .before .args .level) l)) e)
+returns-2 c = let e = layout-shaped (c .before .before .before .before .before .pre .0) (sym (c .enum-told2 .given .1) ∙ c .before .before .shape-of .ensures) in omega (arith, ap (λ (l : Layout). length (betweenAt (c .before .before .before .before .before .args .level) l)) e)
 
 returns-3 : tie.Need-returns-3
-returns-3 c = let e = layout-formed (c .before .before .before .before .before .pre .0) (sym (c .enum-told3 .given .1) ∙ c .before .before .form-of .ensures) in omega (arith, ap (λ (l : Layout). length (betweenAt (c .before .before .before .before .before .args .level) l)) e)
+returns-3 c = let e = layout-shaped (c .before .before .before .before .before .pre .0) (sym (c .enum-told3 .given .1) ∙ c .before .before .shape-of .ensures) in omega (arith, ap (λ (l : Layout). length (betweenAt (c .before .before .before .before .before .args .level) l)) e)
 
 returns-4 : tie.Need-returns-4
-returns-4 c = let e = layout-formed (c .before .before .before .before .before .before .pre .0) (sym (c .before .enum-told4 .given .1) ∙ c .before .before .before .form-of .ensures) in omega (arith, c .capped-add .ensures, ap (λ (l : Layout). length (betweenAt (c .before .before .before .before .before .before .args .level) l)) e)
+returns-4 c = let e = layout-shaped (c .before .before .before .before .before .before .pre .0) (sym (c .before .enum-told4 .given .1) ∙ c .before .before .before .shape-of .ensures) in omega (arith, c .capped-add .ensures, ap (λ (l : Layout). length (betweenAt (c .before .before .before .before .before .before .args .level) l)) e)
 
 returns-5 : tie.Need-returns-5
-returns-5 c = let e = layout-formed (c .before .before .before .before .before .before .before .before .pre .0) (sym (c .before .before .before .enum-told5 .given .1) ∙ c .before .before .before .before .before .form-of .ensures) in len-as _ _ _ (ap (betweenAt (c .before .before .before .before .before .before .before .before .args .level)) e) (infixed-len (c .before .before .before .before .before .before .before .before .args .level) (operator (layoutAt (c .before .before .before .before .before .before .before .before .args .page .now) (c .before .before .before .before .before .before .before .before .args .node))) _ _ _ _ (c .before .before .indent-len .ensures) (c .before .operator-len .ensures) (c .capped-add2 .ensures))
+returns-5 c = let e = layout-shaped (c .before .before .before .before .before .before .before .before .pre .0) (sym (c .before .before .before .enum-told5 .given .1) ∙ c .before .before .before .before .before .shape-of .ensures) in len-as _ _ _ (ap (betweenAt (c .before .before .before .before .before .before .before .before .args .level)) e) (infixed-len (c .before .before .before .before .before .before .before .before .args .level) (operator (layoutAt (c .before .before .before .before .before .before .before .before .args .page .now) (c .before .before .before .before .before .before .before .before .args .node))) _ _ _ _ (c .before .before .indent-len .ensures) (c .before .operator-len .ensures) (c .capped-add2 .ensures))
 
 pub between-at-len-spec : {M : Type 1} → statement M
 between-at-len-spec =
     tie.close
     (tie.spec
-    form-of-requires
+    shape-of-requires
     enum-told
     enum-told-2
     enum-told-3

@@ -1,5 +1,5 @@
--- `indented::front_at_len` meets its contract: by the form. Assumes nothing.
-use Rattle.view.proofs.NodeLaws.{layout-formed}
+-- `indented::front_at_len` meets its contract: by the shape. Assumes nothing.
+use Rattle.view.proofs.NodeLaws.{layout-shaped}
 use Rattle.view.specs.View.{layoutAt}
 use Rattle.text.proofs.CappedLaws.{len-as, len-plus}
 use Rattle.text.specs.Layout.{Layout, head, indentIf, frontAt}
@@ -12,8 +12,8 @@ use borrow.Author.Needs.{needs}
 use Rattle.indented.proofs.front_at_len.Statement.{statement}
 use Rattle.indented.proofs.front_at_len.Tie as tie
 
-form-of-requires : tie.Need-form-of-requires
-form-of-requires c κs = search needs
+shape-of-requires : tie.Need-shape-of-requires
+shape-of-requires c κs = search needs
 
 enum-told : tie.Need-enum-told
 enum-told c = search needs
@@ -43,25 +43,25 @@ enum-told-5 : tie.Need-enum-told-5
 enum-told-5 c = search needs
 
 returns : tie.Need-returns
-returns c = let e = layout-formed (c .before .before .before .before .before .before .pre .0) (sym (c .before .enum-told .given .1) ∙ c .before .before .before .form-of .ensures) in len-as _ _ _ (ap (frontAt (c .before .before .before .before .before .before .args .indents) (c .before .before .before .before .before .before .args .level)) e) (c .led-len .ensures)
+returns c = let e = layout-shaped (c .before .before .before .before .before .before .pre .0) (sym (c .before .enum-told .given .1) ∙ c .before .before .before .shape-of .ensures) in len-as _ _ _ (ap (frontAt (c .before .before .before .before .before .before .args .indents) (c .before .before .before .before .before .before .args .level)) e) (c .led-len .ensures)
 
 returns-2 : tie.Need-returns-2
-returns-2 c = let e = layout-formed (c .before .before .before .before .before .before .pre .0) (sym (c .before .enum-told2 .given .1) ∙ c .before .before .before .form-of .ensures) in len-as _ _ _ (ap (frontAt (c .before .before .before .before .before .before .args .indents) (c .before .before .before .before .before .before .args .level)) e ∙ sym (ap (λ (l : Layout). indentIf (c .before .before .before .before .before .before .args .indents) (c .before .before .before .before .before .before .args .level) ++ head l) e)) (c .led-len2 .ensures)
+returns-2 c = let e = layout-shaped (c .before .before .before .before .before .before .pre .0) (sym (c .before .enum-told2 .given .1) ∙ c .before .before .before .shape-of .ensures) in len-as _ _ _ (ap (frontAt (c .before .before .before .before .before .before .args .indents) (c .before .before .before .before .before .before .args .level)) e ∙ sym (ap (λ (l : Layout). indentIf (c .before .before .before .before .before .before .args .indents) (c .before .before .before .before .before .before .args .level) ++ head l) e)) (c .led-len2 .ensures)
 
 returns-3 : tie.Need-returns-3
-returns-3 c = let e = layout-formed (c .before .before .before .before .before .pre .0) (sym (c .enum-told3 .given .1) ∙ c .before .before .form-of .ensures) in omega (arith, ap (λ (l : Layout). length (frontAt (c .before .before .before .before .before .args .indents) (c .before .before .before .before .before .args .level) l)) e)
+returns-3 c = let e = layout-shaped (c .before .before .before .before .before .pre .0) (sym (c .enum-told3 .given .1) ∙ c .before .before .shape-of .ensures) in omega (arith, ap (λ (l : Layout). length (frontAt (c .before .before .before .before .before .args .indents) (c .before .before .before .before .before .args .level) l)) e)
 
 returns-4 : tie.Need-returns-4
-returns-4 c = let e = layout-formed (c .before .before .before .before .before .before .before .pre .0) (sym (c .before .before .enum-told4 .given .1) ∙ c .before .before .before .before .form-of .ensures) in len-plus _ (indentIf (c .before .before .before .before .before .before .before .args .indents) (c .before .before .before .before .before .before .before .args .level) ++ head (layoutAt (c .before .before .before .before .before .before .before .args .page .now) (c .before .before .before .before .before .before .before .args .node))) (bytes "(\n") _ _ _ (ap (frontAt (c .before .before .before .before .before .before .before .args .indents) (c .before .before .before .before .before .before .before .args .level)) e) (c .before .led-len3 .ensures) (c .capped-add .ensures)
+returns-4 c = let e = layout-shaped (c .before .before .before .before .before .before .before .pre .0) (sym (c .before .before .enum-told4 .given .1) ∙ c .before .before .before .before .shape-of .ensures) in len-plus _ (indentIf (c .before .before .before .before .before .before .before .args .indents) (c .before .before .before .before .before .before .before .args .level) ++ head (layoutAt (c .before .before .before .before .before .before .before .args .page .now) (c .before .before .before .before .before .before .before .args .node))) (bytes "(\n") _ _ _ (ap (frontAt (c .before .before .before .before .before .before .before .args .indents) (c .before .before .before .before .before .before .before .args .level)) e) (c .before .led-len3 .ensures) (c .capped-add .ensures)
 
 returns-5 : tie.Need-returns-5
-returns-5 c = let e = layout-formed (c .before .before .before .before .before .pre .0) (sym (c .enum-told5 .given .1) ∙ c .before .before .form-of .ensures) in omega (arith, ap (λ (l : Layout). length (frontAt (c .before .before .before .before .before .args .indents) (c .before .before .before .before .before .args .level) l)) e)
+returns-5 c = let e = layout-shaped (c .before .before .before .before .before .pre .0) (sym (c .enum-told5 .given .1) ∙ c .before .before .shape-of .ensures) in omega (arith, ap (λ (l : Layout). length (frontAt (c .before .before .before .before .before .args .indents) (c .before .before .before .before .before .args .level) l)) e)
 
 pub front-at-len-spec : {M : Type 1} → statement M
 front-at-len-spec =
     tie.close
     (tie.spec
-    form-of-requires
+    shape-of-requires
     enum-told
     led-len-requires
     enum-told-2

@@ -1,6 +1,6 @@
 -- `indented::put_between_at` meets its contract. Assumes nothing.
 use Rattle.indented.proofs.IndentLaws.{run-infixed}
-use Rattle.view.proofs.NodeLaws.{layout-formed}
+use Rattle.view.proofs.NodeLaws.{layout-shaped}
 use Rattle.view.specs.View.{layoutAt}
 use Rattle.text.proofs.WriteLaws.{wrote-nothing, wrote-as, room-as}
 use Rattle.text.specs.Layout.{operator, betweenAt}
@@ -10,8 +10,8 @@ use borrow.Author.Needs.{needs}
 use Rattle.indented.proofs.put_between_at.Statement.{statement}
 use Rattle.indented.proofs.put_between_at.Tie as tie
 
-form-of-requires : tie.Need-form-of-requires
-form-of-requires c κs = search needs
+shape-of-requires : tie.Need-shape-of-requires
+shape-of-requires c κs = search needs
 
 enum-told : tie.Need-enum-told
 enum-told c = search needs
@@ -29,49 +29,49 @@ slice-aggregate-put-bytes : tie.Need-slice-aggregate-put-bytes
 slice-aggregate-put-bytes c = search needs
 
 put-bytes-requires : tie.Need-put-bytes-requires
-put-bytes-requires c κs = let e = layout-formed (c .before .before .before .before .before .before .before .before .pre .0) (sym (c .before .before .enum-told4 .given .1) ∙ c .before .before .before .before .form-of .ensures) in room-as _ _ (c .before .before .before .before .before .before .before .before .args .at) _ (ap (betweenAt (c .before .before .before .before .before .before .before .before .args .level)) e) (c .before .before .before .before .before .before .before .before .pre .1)
+put-bytes-requires c κs = let e = layout-shaped (c .before .before .before .before .before .before .before .before .pre .0) (sym (c .before .before .enum-told4 .given .1) ∙ c .before .before .before .before .shape-of .ensures) in room-as _ _ (c .before .before .before .before .before .before .before .before .args .at) _ (ap (betweenAt (c .before .before .before .before .before .before .before .before .args .level)) e) (c .before .before .before .before .before .before .before .before .pre .1)
 
 enum-told-5 : tie.Need-enum-told-5
 enum-told-5 c = search needs
 
 put-byte-requires : tie.Need-put-byte-requires
-put-byte-requires c κs = let e = layout-formed (c .before .before .before .before .before .before .before .pre .0) (sym (c .before .enum-told5 .given .1) ∙ c .before .before .before .form-of .ensures) in fits (run-infixed (c .before .before .before .before .before .before .before .args .level) (operator (layoutAt (c .before .before .before .before .before .before .before .args .page .now) (c .before .before .before .before .before .before .before .args .node))) (c .before .before .before .before .before .before .before .args .out .now) (c .before .before .before .before .before .before .before .args .at) (ap (betweenAt (c .before .before .before .before .before .before .before .args .level)) e) (c .before .before .before .before .before .before .before .pre .1))
+put-byte-requires c κs = let e = layout-shaped (c .before .before .before .before .before .before .before .pre .0) (sym (c .before .enum-told5 .given .1) ∙ c .before .before .before .shape-of .ensures) in fits (run-infixed (c .before .before .before .before .before .before .before .args .level) (operator (layoutAt (c .before .before .before .before .before .before .before .args .page .now) (c .before .before .before .before .before .before .before .args .node))) (c .before .before .before .before .before .before .before .args .out .now) (c .before .before .before .before .before .before .before .args .at) (ap (betweenAt (c .before .before .before .before .before .before .before .args .level)) e) (c .before .before .before .before .before .before .before .pre .1))
 
 put-spaces-requires : tie.Need-put-spaces-requires
-put-spaces-requires c κs = let e = layout-formed (c .before .before .before .before .before .before .before .before .before .before .before .pre .0) (sym (c .before .before .before .before .before .enum-told5 .given .1) ∙ c .before .before .before .before .before .before .before .form-of .ensures) in fits (next (run-infixed (c .before .before .before .before .before .before .before .before .before .before .before .args .level) (operator (layoutAt (c .before .before .before .before .before .before .before .before .before .before .before .args .page .now) (c .before .before .before .before .before .before .before .before .before .before .before .args .node))) (c .before .before .before .before .before .before .before .before .before .before .before .args .out .now) (c .before .before .before .before .before .before .before .before .before .before .before .args .at) (ap (betweenAt (c .before .before .before .before .before .before .before .before .before .before .before .args .level)) e) (c .before .before .before .before .before .before .before .before .before .before .before .pre .1)) (c .before .before .before .put-byte .ensures))
+put-spaces-requires c κs = let e = layout-shaped (c .before .before .before .before .before .before .before .before .before .before .before .pre .0) (sym (c .before .before .before .before .before .enum-told5 .given .1) ∙ c .before .before .before .before .before .before .before .shape-of .ensures) in fits (next (run-infixed (c .before .before .before .before .before .before .before .before .before .before .before .args .level) (operator (layoutAt (c .before .before .before .before .before .before .before .before .before .before .before .args .page .now) (c .before .before .before .before .before .before .before .before .before .before .before .args .node))) (c .before .before .before .before .before .before .before .before .before .before .before .args .out .now) (c .before .before .before .before .before .before .before .before .before .before .before .args .at) (ap (betweenAt (c .before .before .before .before .before .before .before .before .before .before .before .args .level)) e) (c .before .before .before .before .before .before .before .before .before .before .before .pre .1)) (c .before .before .before .put-byte .ensures))
 
 put-operator-requires : tie.Need-put-operator-requires
-put-operator-requires c κs = let e = layout-formed (c .before .before .before .before .before .before .before .before .before .before .before .before .before .before .before .pre .0) (sym (c .before .before .before .before .before .before .before .before .before .enum-told5 .given .1) ∙ c .before .before .before .before .before .before .before .before .before .before .before .form-of .ensures) in (c .before .before .before .before .before .before .before .before .before .before .before .before .before .before .before .pre .0, fits (next (next (run-infixed (c .before .before .before .before .before .before .before .before .before .before .before .before .before .before .before .args .level) (operator (layoutAt (c .before .before .before .before .before .before .before .before .before .before .before .before .before .before .before .args .page .now) (c .before .before .before .before .before .before .before .before .before .before .before .before .before .before .before .args .node))) (c .before .before .before .before .before .before .before .before .before .before .before .before .before .before .before .args .out .now) (c .before .before .before .before .before .before .before .before .before .before .before .before .before .before .before .args .at) (ap (betweenAt (c .before .before .before .before .before .before .before .before .before .before .before .before .before .before .before .args .level)) e) (c .before .before .before .before .before .before .before .before .before .before .before .before .before .before .before .pre .1)) (c .before .before .before .before .before .before .before .put-byte .ensures)) (c .before .before .before .put-spaces .ensures)))
+put-operator-requires c κs = let e = layout-shaped (c .before .before .before .before .before .before .before .before .before .before .before .before .before .before .before .pre .0) (sym (c .before .before .before .before .before .before .before .before .before .enum-told5 .given .1) ∙ c .before .before .before .before .before .before .before .before .before .before .before .shape-of .ensures) in (c .before .before .before .before .before .before .before .before .before .before .before .before .before .before .before .pre .0, fits (next (next (run-infixed (c .before .before .before .before .before .before .before .before .before .before .before .before .before .before .before .args .level) (operator (layoutAt (c .before .before .before .before .before .before .before .before .before .before .before .before .before .before .before .args .page .now) (c .before .before .before .before .before .before .before .before .before .before .before .before .before .before .before .args .node))) (c .before .before .before .before .before .before .before .before .before .before .before .before .before .before .before .args .out .now) (c .before .before .before .before .before .before .before .before .before .before .before .before .before .before .before .args .at) (ap (betweenAt (c .before .before .before .before .before .before .before .before .before .before .before .before .before .before .before .args .level)) e) (c .before .before .before .before .before .before .before .before .before .before .before .before .before .before .before .pre .1)) (c .before .before .before .before .before .before .before .put-byte .ensures)) (c .before .before .before .put-spaces .ensures)))
 
 put-byte-requires-2 : tie.Need-put-byte-requires-2
-put-byte-requires-2 c κs = let e = layout-formed (c .before .before .before .before .before .before .before .before .before .before .before .before .before .before .before .before .before .before .before .pre .0) (sym (c .before .before .before .before .before .before .before .before .before .before .before .before .before .enum-told5 .given .1) ∙ c .before .before .before .before .before .before .before .before .before .before .before .before .before .before .before .form-of .ensures) in fits (next (next (next (run-infixed (c .before .before .before .before .before .before .before .before .before .before .before .before .before .before .before .before .before .before .before .args .level) (operator (layoutAt (c .before .before .before .before .before .before .before .before .before .before .before .before .before .before .before .before .before .before .before .args .page .now) (c .before .before .before .before .before .before .before .before .before .before .before .before .before .before .before .before .before .before .before .args .node))) (c .before .before .before .before .before .before .before .before .before .before .before .before .before .before .before .before .before .before .before .args .out .now) (c .before .before .before .before .before .before .before .before .before .before .before .before .before .before .before .before .before .before .before .args .at) (ap (betweenAt (c .before .before .before .before .before .before .before .before .before .before .before .before .before .before .before .before .before .before .before .args .level)) e) (c .before .before .before .before .before .before .before .before .before .before .before .before .before .before .before .before .before .before .before .pre .1)) (c .before .before .before .before .before .before .before .before .before .before .before .put-byte .ensures)) (c .before .before .before .before .before .before .before .put-spaces .ensures)) (c .before .before .before .put-operator .ensures))
+put-byte-requires-2 c κs = let e = layout-shaped (c .before .before .before .before .before .before .before .before .before .before .before .before .before .before .before .before .before .before .before .pre .0) (sym (c .before .before .before .before .before .before .before .before .before .before .before .before .before .enum-told5 .given .1) ∙ c .before .before .before .before .before .before .before .before .before .before .before .before .before .before .before .shape-of .ensures) in fits (next (next (next (run-infixed (c .before .before .before .before .before .before .before .before .before .before .before .before .before .before .before .before .before .before .before .args .level) (operator (layoutAt (c .before .before .before .before .before .before .before .before .before .before .before .before .before .before .before .before .before .before .before .args .page .now) (c .before .before .before .before .before .before .before .before .before .before .before .before .before .before .before .before .before .before .before .args .node))) (c .before .before .before .before .before .before .before .before .before .before .before .before .before .before .before .before .before .before .before .args .out .now) (c .before .before .before .before .before .before .before .before .before .before .before .before .before .before .before .before .before .before .before .args .at) (ap (betweenAt (c .before .before .before .before .before .before .before .before .before .before .before .before .before .before .before .before .before .before .before .args .level)) e) (c .before .before .before .before .before .before .before .before .before .before .before .before .before .before .before .before .before .before .before .pre .1)) (c .before .before .before .before .before .before .before .before .before .before .before .put-byte .ensures)) (c .before .before .before .before .before .before .before .put-spaces .ensures)) (c .before .before .before .put-operator .ensures))
 
 returns : tie.Need-returns
-returns c = let e = layout-formed (c .before .before .before .before .before .before .pre .0) (sym (c .enum-told .given .1) ∙ c .before .before .form-of .ensures) in wrote-nothing _ _ (ap (betweenAt (c .before .before .before .before .before .before .args .level)) e)
+returns c = let e = layout-shaped (c .before .before .before .before .before .before .pre .0) (sym (c .enum-told .given .1) ∙ c .before .before .shape-of .ensures) in wrote-nothing _ _ (ap (betweenAt (c .before .before .before .before .before .before .args .level)) e)
 
 returns-2 : tie.Need-returns-2
-returns-2 c = let e = layout-formed (c .before .before .before .before .before .before .pre .0) (sym (c .enum-told2 .given .1) ∙ c .before .before .form-of .ensures) in wrote-nothing _ _ (ap (betweenAt (c .before .before .before .before .before .before .args .level)) e)
+returns-2 c = let e = layout-shaped (c .before .before .before .before .before .before .pre .0) (sym (c .enum-told2 .given .1) ∙ c .before .before .shape-of .ensures) in wrote-nothing _ _ (ap (betweenAt (c .before .before .before .before .before .before .args .level)) e)
 
 returns-3 : tie.Need-returns-3
-returns-3 c = let e = layout-formed (c .before .before .before .before .before .before .pre .0) (sym (c .enum-told3 .given .1) ∙ c .before .before .form-of .ensures) in wrote-nothing _ _ (ap (betweenAt (c .before .before .before .before .before .before .args .level)) e)
+returns-3 c = let e = layout-shaped (c .before .before .before .before .before .before .pre .0) (sym (c .enum-told3 .given .1) ∙ c .before .before .shape-of .ensures) in wrote-nothing _ _ (ap (betweenAt (c .before .before .before .before .before .before .args .level)) e)
 
 same-length : tie.Need-same-length
 same-length c = c .before .before .put-bytes .kept .1 .0
 
 returns-4 : tie.Need-returns-4
-returns-4 c = let e = layout-formed (c .before .before .before .before .before .before .before .before .before .before .before .pre .0) (sym (c .before .before .before .before .before .enum-told4 .given .1) ∙ c .before .before .before .before .before .before .before .form-of .ensures) in wrote-as (ap (betweenAt (c .before .before .before .before .before .before .before .before .before .before .before .args .level)) e) (c .before .before .put-bytes .ensures)
+returns-4 c = let e = layout-shaped (c .before .before .before .before .before .before .before .before .before .before .before .pre .0) (sym (c .before .before .before .before .before .enum-told4 .given .1) ∙ c .before .before .before .before .before .before .before .shape-of .ensures) in wrote-as (ap (betweenAt (c .before .before .before .before .before .before .before .before .before .before .before .args .level)) e) (c .before .before .put-bytes .ensures)
 
 same-length-2 : tie.Need-same-length-2
 same-length-2 c = c .before .before .put-byte2 .kept .1 .0 ∙ c .before .before .before .before .before .before .put-operator .kept .1 .1 .1 .0 ∙ c .before .before .before .before .before .before .before .before .before .before .put-spaces .kept .1 .0 ∙ c .before .before .before .before .before .before .before .before .before .before .before .before .before .before .put-byte .kept .1 .0
 
 returns-5 : tie.Need-returns-5
-returns-5 c = let e = layout-formed (c .before .before .before .before .before .before .before .before .before .before .before .before .before .before .before .before .before .before .before .before .before .before .pre .0) (sym (c .before .before .before .before .before .before .before .before .before .before .before .before .before .before .before .before .enum-told5 .given .1) ∙ c .before .before .before .before .before .before .before .before .before .before .before .before .before .before .before .before .before .before .form-of .ensures) in end (next (next (next (next (run-infixed (c .before .before .before .before .before .before .before .before .before .before .before .before .before .before .before .before .before .before .before .before .before .before .args .level) (operator (layoutAt (c .before .before .before .before .before .before .before .before .before .before .before .before .before .before .before .before .before .before .before .before .before .before .args .page .now) (c .before .before .before .before .before .before .before .before .before .before .before .before .before .before .before .before .before .before .before .before .before .before .args .node))) (c .before .before .before .before .before .before .before .before .before .before .before .before .before .before .before .before .before .before .before .before .before .before .args .out .now) (c .before .before .before .before .before .before .before .before .before .before .before .before .before .before .before .before .before .before .before .before .before .before .args .at) (ap (betweenAt (c .before .before .before .before .before .before .before .before .before .before .before .before .before .before .before .before .before .before .before .before .before .before .args .level)) e) (c .before .before .before .before .before .before .before .before .before .before .before .before .before .before .before .before .before .before .before .before .before .before .pre .1)) (c .before .before .before .before .before .before .before .before .before .before .before .before .before .before .put-byte .ensures)) (c .before .before .before .before .before .before .before .before .before .before .put-spaces .ensures)) (c .before .before .before .before .before .before .put-operator .ensures)) (c .before .before .put-byte2 .ensures))
+returns-5 c = let e = layout-shaped (c .before .before .before .before .before .before .before .before .before .before .before .before .before .before .before .before .before .before .before .before .before .before .pre .0) (sym (c .before .before .before .before .before .before .before .before .before .before .before .before .before .before .before .before .enum-told5 .given .1) ∙ c .before .before .before .before .before .before .before .before .before .before .before .before .before .before .before .before .before .before .shape-of .ensures) in end (next (next (next (next (run-infixed (c .before .before .before .before .before .before .before .before .before .before .before .before .before .before .before .before .before .before .before .before .before .before .args .level) (operator (layoutAt (c .before .before .before .before .before .before .before .before .before .before .before .before .before .before .before .before .before .before .before .before .before .before .args .page .now) (c .before .before .before .before .before .before .before .before .before .before .before .before .before .before .before .before .before .before .before .before .before .before .args .node))) (c .before .before .before .before .before .before .before .before .before .before .before .before .before .before .before .before .before .before .before .before .before .before .args .out .now) (c .before .before .before .before .before .before .before .before .before .before .before .before .before .before .before .before .before .before .before .before .before .before .args .at) (ap (betweenAt (c .before .before .before .before .before .before .before .before .before .before .before .before .before .before .before .before .before .before .before .before .before .before .args .level)) e) (c .before .before .before .before .before .before .before .before .before .before .before .before .before .before .before .before .before .before .before .before .before .before .pre .1)) (c .before .before .before .before .before .before .before .before .before .before .before .before .before .before .put-byte .ensures)) (c .before .before .before .before .before .before .before .before .before .before .put-spaces .ensures)) (c .before .before .before .before .before .before .put-operator .ensures)) (c .before .before .put-byte2 .ensures))
 
 pub put-between-at-spec : {M : Type 1} → statement M
 put-between-at-spec =
     tie.close
     (tie.spec
-    form-of-requires
+    shape-of-requires
     enum-told
     enum-told-2
     enum-told-3

@@ -1,6 +1,6 @@
 -- `indented::put_rear_at` meets its contract. Assumes nothing.
 use Rattle.indented.proofs.IndentLaws.{run-closed}
-use Rattle.view.proofs.NodeLaws.{layout-formed}
+use Rattle.view.proofs.NodeLaws.{layout-shaped}
 use Rattle.text.proofs.WriteLaws.{wrote-nothing, wrote-as, room-as}
 use Rattle.text.specs.Layout.{rearAt}
 use Rattle.base.specs.Splice.{fits, next, end}
@@ -9,8 +9,8 @@ use borrow.Author.Needs.{needs}
 use Rattle.indented.proofs.put_rear_at.Statement.{statement}
 use Rattle.indented.proofs.put_rear_at.Tie as tie
 
-form-of-requires : tie.Need-form-of-requires
-form-of-requires c κs = search needs
+shape-of-requires : tie.Need-shape-of-requires
+shape-of-requires c κs = search needs
 
 enum-told : tie.Need-enum-told
 enum-told c = search needs
@@ -22,49 +22,49 @@ enum-told-3 : tie.Need-enum-told-3
 enum-told-3 c = search needs
 
 put-suffix-requires : tie.Need-put-suffix-requires
-put-suffix-requires c κs = let e = layout-formed (c .before .before .before .before .before .before .before .pre .0) (sym (c .before .enum-told3 .given .1) ∙ c .before .before .before .form-of .ensures) in (c .before .before .before .before .before .before .before .pre .0, room-as _ _ (c .before .before .before .before .before .before .before .args .at) _ (ap (rearAt (c .before .before .before .before .before .before .before .args .level)) e) (c .before .before .before .before .before .before .before .pre .1))
+put-suffix-requires c κs = let e = layout-shaped (c .before .before .before .before .before .before .before .pre .0) (sym (c .before .enum-told3 .given .1) ∙ c .before .before .before .shape-of .ensures) in (c .before .before .before .before .before .before .before .pre .0, room-as _ _ (c .before .before .before .before .before .before .before .args .at) _ (ap (rearAt (c .before .before .before .before .before .before .before .args .level)) e) (c .before .before .before .before .before .before .before .pre .1))
 
 enum-told-4 : tie.Need-enum-told-4
 enum-told-4 c = search needs
 
 put-byte-requires : tie.Need-put-byte-requires
-put-byte-requires c κs = let e = layout-formed (c .before .before .before .before .before .before .before .pre .0) (sym (c .before .enum-told4 .given .1) ∙ c .before .before .before .form-of .ensures) in fits (run-closed (c .before .before .before .before .before .before .before .args .level) (c .before .before .before .before .before .before .before .args .out .now) (c .before .before .before .before .before .before .before .args .at) (ap (rearAt (c .before .before .before .before .before .before .before .args .level)) e) (c .before .before .before .before .before .before .before .pre .1))
+put-byte-requires c κs = let e = layout-shaped (c .before .before .before .before .before .before .before .pre .0) (sym (c .before .enum-told4 .given .1) ∙ c .before .before .before .shape-of .ensures) in fits (run-closed (c .before .before .before .before .before .before .before .args .level) (c .before .before .before .before .before .before .before .args .out .now) (c .before .before .before .before .before .before .before .args .at) (ap (rearAt (c .before .before .before .before .before .before .before .args .level)) e) (c .before .before .before .before .before .before .before .pre .1))
 
 put-spaces-requires : tie.Need-put-spaces-requires
-put-spaces-requires c κs = let e = layout-formed (c .before .before .before .before .before .before .before .before .before .before .before .pre .0) (sym (c .before .before .before .before .before .enum-told4 .given .1) ∙ c .before .before .before .before .before .before .before .form-of .ensures) in fits (next (run-closed (c .before .before .before .before .before .before .before .before .before .before .before .args .level) (c .before .before .before .before .before .before .before .before .before .before .before .args .out .now) (c .before .before .before .before .before .before .before .before .before .before .before .args .at) (ap (rearAt (c .before .before .before .before .before .before .before .before .before .before .before .args .level)) e) (c .before .before .before .before .before .before .before .before .before .before .before .pre .1)) (c .before .before .before .put-byte .ensures))
+put-spaces-requires c κs = let e = layout-shaped (c .before .before .before .before .before .before .before .before .before .before .before .pre .0) (sym (c .before .before .before .before .before .enum-told4 .given .1) ∙ c .before .before .before .before .before .before .before .shape-of .ensures) in fits (next (run-closed (c .before .before .before .before .before .before .before .before .before .before .before .args .level) (c .before .before .before .before .before .before .before .before .before .before .before .args .out .now) (c .before .before .before .before .before .before .before .before .before .before .before .args .at) (ap (rearAt (c .before .before .before .before .before .before .before .before .before .before .before .args .level)) e) (c .before .before .before .before .before .before .before .before .before .before .before .pre .1)) (c .before .before .before .put-byte .ensures))
 
 put-byte-requires-2 : tie.Need-put-byte-requires-2
-put-byte-requires-2 c κs = let e = layout-formed (c .before .before .before .before .before .before .before .before .before .before .before .before .before .before .before .pre .0) (sym (c .before .before .before .before .before .before .before .before .before .enum-told4 .given .1) ∙ c .before .before .before .before .before .before .before .before .before .before .before .form-of .ensures) in fits (next (next (run-closed (c .before .before .before .before .before .before .before .before .before .before .before .before .before .before .before .args .level) (c .before .before .before .before .before .before .before .before .before .before .before .before .before .before .before .args .out .now) (c .before .before .before .before .before .before .before .before .before .before .before .before .before .before .before .args .at) (ap (rearAt (c .before .before .before .before .before .before .before .before .before .before .before .before .before .before .before .args .level)) e) (c .before .before .before .before .before .before .before .before .before .before .before .before .before .before .before .pre .1)) (c .before .before .before .before .before .before .before .put-byte .ensures)) (c .before .before .before .put-spaces .ensures))
+put-byte-requires-2 c κs = let e = layout-shaped (c .before .before .before .before .before .before .before .before .before .before .before .before .before .before .before .pre .0) (sym (c .before .before .before .before .before .before .before .before .before .enum-told4 .given .1) ∙ c .before .before .before .before .before .before .before .before .before .before .before .shape-of .ensures) in fits (next (next (run-closed (c .before .before .before .before .before .before .before .before .before .before .before .before .before .before .before .args .level) (c .before .before .before .before .before .before .before .before .before .before .before .before .before .before .before .args .out .now) (c .before .before .before .before .before .before .before .before .before .before .before .before .before .before .before .args .at) (ap (rearAt (c .before .before .before .before .before .before .before .before .before .before .before .before .before .before .before .args .level)) e) (c .before .before .before .before .before .before .before .before .before .before .before .before .before .before .before .pre .1)) (c .before .before .before .before .before .before .before .put-byte .ensures)) (c .before .before .before .put-spaces .ensures))
 
 enum-told-5 : tie.Need-enum-told-5
 enum-told-5 c = search needs
 
 returns : tie.Need-returns
-returns c = let e = layout-formed (c .before .before .before .before .before .before .pre .0) (sym (c .enum-told .given .1) ∙ c .before .before .form-of .ensures) in wrote-nothing _ _ (ap (rearAt (c .before .before .before .before .before .before .args .level)) e)
+returns c = let e = layout-shaped (c .before .before .before .before .before .before .pre .0) (sym (c .enum-told .given .1) ∙ c .before .before .shape-of .ensures) in wrote-nothing _ _ (ap (rearAt (c .before .before .before .before .before .before .args .level)) e)
 
 returns-2 : tie.Need-returns-2
-returns-2 c = let e = layout-formed (c .before .before .before .before .before .before .pre .0) (sym (c .enum-told2 .given .1) ∙ c .before .before .form-of .ensures) in wrote-nothing _ _ (ap (rearAt (c .before .before .before .before .before .before .args .level)) e)
+returns-2 c = let e = layout-shaped (c .before .before .before .before .before .before .pre .0) (sym (c .enum-told2 .given .1) ∙ c .before .before .shape-of .ensures) in wrote-nothing _ _ (ap (rearAt (c .before .before .before .before .before .before .args .level)) e)
 
 same-length : tie.Need-same-length
 same-length c = c .before .before .put-suffix .kept .1 .1 .1 .0
 
 returns-3 : tie.Need-returns-3
-returns-3 c = let e = layout-formed (c .before .before .before .before .before .before .before .before .before .before .pre .0) (sym (c .before .before .before .before .enum-told3 .given .1) ∙ c .before .before .before .before .before .before .form-of .ensures) in wrote-as (ap (rearAt (c .before .before .before .before .before .before .before .before .before .before .args .level)) e) (c .before .before .put-suffix .ensures)
+returns-3 c = let e = layout-shaped (c .before .before .before .before .before .before .before .before .before .before .pre .0) (sym (c .before .before .before .before .enum-told3 .given .1) ∙ c .before .before .before .before .before .before .shape-of .ensures) in wrote-as (ap (rearAt (c .before .before .before .before .before .before .before .before .before .before .args .level)) e) (c .before .before .put-suffix .ensures)
 
 same-length-2 : tie.Need-same-length-2
 same-length-2 c = c .before .before .put-byte2 .kept .1 .0 ∙ c .before .before .before .before .before .before .put-spaces .kept .1 .0 ∙ c .before .before .before .before .before .before .before .before .before .before .put-byte .kept .1 .0
 
 returns-4 : tie.Need-returns-4
-returns-4 c = let e = layout-formed (c .before .before .before .before .before .before .before .before .before .before .before .before .before .before .before .before .before .before .pre .0) (sym (c .before .before .before .before .before .before .before .before .before .before .before .before .enum-told4 .given .1) ∙ c .before .before .before .before .before .before .before .before .before .before .before .before .before .before .form-of .ensures) in end (next (next (next (run-closed (c .before .before .before .before .before .before .before .before .before .before .before .before .before .before .before .before .before .before .args .level) (c .before .before .before .before .before .before .before .before .before .before .before .before .before .before .before .before .before .before .args .out .now) (c .before .before .before .before .before .before .before .before .before .before .before .before .before .before .before .before .before .before .args .at) (ap (rearAt (c .before .before .before .before .before .before .before .before .before .before .before .before .before .before .before .before .before .before .args .level)) e) (c .before .before .before .before .before .before .before .before .before .before .before .before .before .before .before .before .before .before .pre .1)) (c .before .before .before .before .before .before .before .before .before .before .put-byte .ensures)) (c .before .before .before .before .before .before .put-spaces .ensures)) (c .before .before .put-byte2 .ensures))
+returns-4 c = let e = layout-shaped (c .before .before .before .before .before .before .before .before .before .before .before .before .before .before .before .before .before .before .pre .0) (sym (c .before .before .before .before .before .before .before .before .before .before .before .before .enum-told4 .given .1) ∙ c .before .before .before .before .before .before .before .before .before .before .before .before .before .before .shape-of .ensures) in end (next (next (next (run-closed (c .before .before .before .before .before .before .before .before .before .before .before .before .before .before .before .before .before .before .args .level) (c .before .before .before .before .before .before .before .before .before .before .before .before .before .before .before .before .before .before .args .out .now) (c .before .before .before .before .before .before .before .before .before .before .before .before .before .before .before .before .before .before .args .at) (ap (rearAt (c .before .before .before .before .before .before .before .before .before .before .before .before .before .before .before .before .before .before .args .level)) e) (c .before .before .before .before .before .before .before .before .before .before .before .before .before .before .before .before .before .before .pre .1)) (c .before .before .before .before .before .before .before .before .before .before .put-byte .ensures)) (c .before .before .before .before .before .before .put-spaces .ensures)) (c .before .before .put-byte2 .ensures))
 
 returns-5 : tie.Need-returns-5
-returns-5 c = let e = layout-formed (c .before .before .before .before .before .before .pre .0) (sym (c .enum-told5 .given .1) ∙ c .before .before .form-of .ensures) in wrote-nothing _ _ (ap (rearAt (c .before .before .before .before .before .before .args .level)) e)
+returns-5 c = let e = layout-shaped (c .before .before .before .before .before .before .pre .0) (sym (c .enum-told5 .given .1) ∙ c .before .before .shape-of .ensures) in wrote-nothing _ _ (ap (rearAt (c .before .before .before .before .before .before .args .level)) e)
 
 pub put-rear-at-spec : {M : Type 1} → statement M
 put-rear-at-spec =
     tie.close
     (tie.spec
-    form-of-requires
+    shape-of-requires
     enum-told
     enum-told-2
     enum-told-3

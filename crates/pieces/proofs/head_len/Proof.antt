@@ -6,7 +6,7 @@ use native.Mathlib.Omega.{arith}
 use Rattle.leaves.specs.Escape.{quote}
 use Rattle.text.specs.Layout.{enclosed}
 use Rattle.view.proofs.NodeLaws.{layout-read, number-layout}
-use Rattle.pieces.proofs.FormLaws.{subquery-head, binary-head, minus-head, paren-head}
+use Rattle.pieces.proofs.ShapeLaws.{subquery-head, binary-head, minus-head, paren-head}
 use borrow.Author.Needs.{needs}
 use Rattle.pieces.proofs.head_len.Statement.{statement}
 use Rattle.pieces.proofs.head_len.Tie as tie

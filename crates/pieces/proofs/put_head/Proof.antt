@@ -4,7 +4,7 @@ use Rattle.leaves.specs.Escape.{quote}
 use Rattle.text.proofs.WriteLaws.{wrote-nothing, wrote-as}
 use Rattle.text.specs.Layout.{enclosed}
 use Rattle.view.proofs.NodeLaws.{layout-read, number-layout}
-use Rattle.pieces.proofs.FormLaws.{subquery-head, binary-head, minus-head, paren-head}
+use Rattle.pieces.proofs.ShapeLaws.{subquery-head, binary-head, minus-head, paren-head}
 use borrow.Author.Needs.{needs}
 use Rattle.pieces.proofs.put_head.Statement.{statement}
 use Rattle.pieces.proofs.put_head.Tie as tie

@@ -2,7 +2,7 @@
 use mathlib.Core.Path.{refl}
 use Rattle.text.proofs.WriteLaws.{wrote-nothing}
 use Rattle.view.proofs.NodeLaws.{layout-read}
-use Rattle.pieces.proofs.FormLaws.{no-suffix}
+use Rattle.pieces.proofs.ShapeLaws.{no-suffix}
 use borrow.Author.Needs.{needs}
 use Rattle.pieces.proofs.put_suffix.Statement.{statement}
 use Rattle.pieces.proofs.put_suffix.Tie as tie

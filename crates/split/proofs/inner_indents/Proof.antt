@@ -1,13 +1,13 @@
--- `split::inner_indents` meets its contract: by the node's form. Assumes nothing.
+-- `split::inner_indents` meets its contract: by the node's shape. Assumes nothing.
 use mathlib.Core.Path.{sym, ap, _∙_}
 use Rattle.text.specs.Layout.{innerIndents}
-use Rattle.view.proofs.NodeLaws.{layout-formed}
+use Rattle.view.proofs.NodeLaws.{layout-shaped}
 use borrow.Author.Needs.{needs}
 use Rattle.split.proofs.inner_indents.Statement.{statement}
 use Rattle.split.proofs.inner_indents.Tie as tie
 
-form-of-requires : tie.Need-form-of-requires
-form-of-requires c κs = search needs
+shape-of-requires : tie.Need-shape-of-requires
+shape-of-requires c κs = search needs
 
 enum-told : tie.Need-enum-told
 enum-told c = search needs
@@ -25,25 +25,25 @@ enum-told-5 : tie.Need-enum-told-5
 enum-told-5 c = search needs
 
 returns : tie.Need-returns
-returns c = sym (ap (innerIndents (c .before .before .before .before .before .args .indents)) (layout-formed (c .before .before .before .before .before .pre) (sym (c .enum-told .given .1) ∙ c .before .before .form-of .ensures)))
+returns c = sym (ap (innerIndents (c .before .before .before .before .before .args .indents)) (layout-shaped (c .before .before .before .before .before .pre) (sym (c .enum-told .given .1) ∙ c .before .before .shape-of .ensures)))
 
 returns-2 : tie.Need-returns-2
-returns-2 c = sym (ap (innerIndents (c .before .before .before .before .before .args .indents)) (layout-formed (c .before .before .before .before .before .pre) (sym (c .enum-told2 .given .1) ∙ c .before .before .form-of .ensures)))
+returns-2 c = sym (ap (innerIndents (c .before .before .before .before .before .args .indents)) (layout-shaped (c .before .before .before .before .before .pre) (sym (c .enum-told2 .given .1) ∙ c .before .before .shape-of .ensures)))
 
 returns-3 : tie.Need-returns-3
-returns-3 c = sym (ap (innerIndents (c .before .before .before .before .before .args .indents)) (layout-formed (c .before .before .before .before .before .pre) (sym (c .enum-told3 .given .1) ∙ c .before .before .form-of .ensures)))
+returns-3 c = sym (ap (innerIndents (c .before .before .before .before .before .args .indents)) (layout-shaped (c .before .before .before .before .before .pre) (sym (c .enum-told3 .given .1) ∙ c .before .before .shape-of .ensures)))
 
 returns-4 : tie.Need-returns-4
-returns-4 c = sym (ap (innerIndents (c .before .before .before .before .before .args .indents)) (layout-formed (c .before .before .before .before .before .pre) (sym (c .enum-told4 .given .1) ∙ c .before .before .form-of .ensures)))
+returns-4 c = sym (ap (innerIndents (c .before .before .before .before .before .args .indents)) (layout-shaped (c .before .before .before .before .before .pre) (sym (c .enum-told4 .given .1) ∙ c .before .before .shape-of .ensures)))
 
 returns-5 : tie.Need-returns-5
-returns-5 c = sym (ap (innerIndents (c .before .before .before .before .before .args .indents)) (layout-formed (c .before .before .before .before .before .pre) (sym (c .enum-told5 .given .1) ∙ c .before .before .form-of .ensures)))
+returns-5 c = sym (ap (innerIndents (c .before .before .before .before .before .args .indents)) (layout-shaped (c .before .before .before .before .before .pre) (sym (c .enum-told5 .given .1) ∙ c .before .before .shape-of .ensures)))
 
 pub inner-indents-spec : {M : Type 1} → statement M
 inner-indents-spec =
     tie.close
     (tie.spec
-    form-of-requires
+    shape-of-requires
     enum-told
     enum-told-2
     enum-told-3

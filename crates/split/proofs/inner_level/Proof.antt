@@ -1,15 +1,15 @@
--- `split::inner_level` meets its contract: by the node's form. Assumes nothing.
+-- `split::inner_level` meets its contract: by the node's shape. Assumes nothing.
 use mathlib.Core.Path.{sym, ap, _∙_}
 use native.Mathlib.Numerals.{add-one}
 use native.Mathlib.Omega.{arith}
 use Rattle.text.specs.Layout.{innerLevel}
-use Rattle.view.proofs.NodeLaws.{layout-formed}
+use Rattle.view.proofs.NodeLaws.{layout-shaped}
 use borrow.Author.Needs.{needs}
 use Rattle.split.proofs.inner_level.Statement.{statement}
 use Rattle.split.proofs.inner_level.Tie as tie
 
-form-of-requires : tie.Need-form-of-requires
-form-of-requires c κs = search needs
+shape-of-requires : tie.Need-shape-of-requires
+shape-of-requires c κs = search needs
 
 enum-told : tie.Need-enum-told
 enum-told c = search needs
@@ -33,25 +33,25 @@ add-result-2 : tie.Need-add-result-2
 add-result-2 c = search needs
 
 returns : tie.Need-returns
-returns c = (sym (ap (innerLevel (c .before .before .before .before .before .args .level)) (layout-formed (c .before .before .before .before .before .pre .0) (sym (c .enum-told .given .1) ∙ c .before .before .form-of .ensures))), omega arith)
+returns c = (sym (ap (innerLevel (c .before .before .before .before .before .args .level)) (layout-shaped (c .before .before .before .before .before .pre .0) (sym (c .enum-told .given .1) ∙ c .before .before .shape-of .ensures))), omega arith)
 
 returns-2 : tie.Need-returns-2
-returns-2 c = (sym (ap (innerLevel (c .before .before .before .before .before .args .level)) (layout-formed (c .before .before .before .before .before .pre .0) (sym (c .enum-told2 .given .1) ∙ c .before .before .form-of .ensures))), omega arith)
+returns-2 c = (sym (ap (innerLevel (c .before .before .before .before .before .args .level)) (layout-shaped (c .before .before .before .before .before .pre .0) (sym (c .enum-told2 .given .1) ∙ c .before .before .shape-of .ensures))), omega arith)
 
 returns-3 : tie.Need-returns-3
-returns-3 c = (sym (ap (innerLevel (c .before .before .before .before .before .args .level)) (layout-formed (c .before .before .before .before .before .pre .0) (sym (c .enum-told3 .given .1) ∙ c .before .before .form-of .ensures))), omega arith)
+returns-3 c = (sym (ap (innerLevel (c .before .before .before .before .before .args .level)) (layout-shaped (c .before .before .before .before .before .pre .0) (sym (c .enum-told3 .given .1) ∙ c .before .before .shape-of .ensures))), omega arith)
 
 returns-4 : tie.Need-returns-4
-returns-4 c = (add-one _ ∙ sym (ap (innerLevel (c .before .before .before .before .before .args .level)) (layout-formed (c .before .before .before .before .before .pre .0) (sym (c .enum-told4 .given .1) ∙ c .before .before .form-of .ensures))), omega arith)
+returns-4 c = (add-one _ ∙ sym (ap (innerLevel (c .before .before .before .before .before .args .level)) (layout-shaped (c .before .before .before .before .before .pre .0) (sym (c .enum-told4 .given .1) ∙ c .before .before .shape-of .ensures))), omega arith)
 
 returns-5 : tie.Need-returns-5
-returns-5 c = (add-one _ ∙ sym (ap (innerLevel (c .before .before .before .before .before .args .level)) (layout-formed (c .before .before .before .before .before .pre .0) (sym (c .enum-told5 .given .1) ∙ c .before .before .form-of .ensures))), omega arith)
+returns-5 c = (add-one _ ∙ sym (ap (innerLevel (c .before .before .before .before .before .args .level)) (layout-shaped (c .before .before .before .before .before .pre .0) (sym (c .enum-told5 .given .1) ∙ c .before .before .shape-of .ensures))), omega arith)
 
 pub inner-level-spec : {M : Type 1} → statement M
 inner-level-spec =
     tie.close
     (tie.spec
-    form-of-requires
+    shape-of-requires
     enum-told
     enum-told-2
     enum-told-3

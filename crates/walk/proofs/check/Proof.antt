@@ -1,4 +1,4 @@
--- `checking::check` meets its contract: the outcome is what the walk says. Assumes nothing.
+-- `walk::check` meets its contract: the outcome is what the walk says. Assumes nothing.
 use Rattle.walk.proofs.CheckLaws.{accepts-contract, refused-contract}
 use borrow.Author.Needs.{needs}
 use Rattle.walk.proofs.check.Statement.{statement}

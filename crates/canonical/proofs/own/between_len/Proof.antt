@@ -1,6 +1,6 @@
 -- `canonical::own::between_len` meets its contract: a comma, or the operator, with spaces. Assumes nothing.
 use Rattle.canonical.proofs.TextLaws.{spaced}
-use Rattle.view.proofs.NodeLaws.{layout-formed}
+use Rattle.view.proofs.NodeLaws.{layout-shaped}
 use Rattle.view.specs.View.{layoutAt}
 use Rattle.text.specs.Layout.{Layout, operator, between}
 use lib.ListN.{length}
@@ -10,8 +10,8 @@ use borrow.Author.Needs.{needs}
 use Rattle.canonical.proofs.own.between_len.Statement.{statement}
 use Rattle.canonical.proofs.own.between_len.Tie as tie
 
-form-of-requires : tie.Need-form-of-requires
-form-of-requires c κs = search needs
+shape-of-requires : tie.Need-shape-of-requires
+shape-of-requires c κs = search needs
 
 enum-told : tie.Need-enum-told
 enum-told c = search needs
@@ -38,25 +38,25 @@ capped-add-requires-2 : tie.Need-capped-add-requires-2
 capped-add-requires-2 c κs = search needs
 
 returns : tie.Need-returns
-returns c = let e = layout-formed (c .before .before .before .before .before .pre) (sym (c .enum-told .given .1) ∙ c .before .before .form-of .ensures) in omega (arith, ap (λ (l : Layout). length (between l)) e)
+returns c = let e = layout-shaped (c .before .before .before .before .before .pre) (sym (c .enum-told .given .1) ∙ c .before .before .shape-of .ensures) in omega (arith, ap (λ (l : Layout). length (between l)) e)
 
 returns-2 : tie.Need-returns-2
-returns-2 c = let e = layout-formed (c .before .before .before .before .before .pre) (sym (c .enum-told2 .given .1) ∙ c .before .before .form-of .ensures) in omega (arith, ap (λ (l : Layout). length (between l)) e)
+returns-2 c = let e = layout-shaped (c .before .before .before .before .before .pre) (sym (c .enum-told2 .given .1) ∙ c .before .before .shape-of .ensures) in omega (arith, ap (λ (l : Layout). length (between l)) e)
 
 returns-3 : tie.Need-returns-3
-returns-3 c = let e = layout-formed (c .before .before .before .before .before .pre) (sym (c .enum-told3 .given .1) ∙ c .before .before .form-of .ensures) in omega (arith, ap (λ (l : Layout). length (between l)) e)
+returns-3 c = let e = layout-shaped (c .before .before .before .before .before .pre) (sym (c .enum-told3 .given .1) ∙ c .before .before .shape-of .ensures) in omega (arith, ap (λ (l : Layout). length (between l)) e)
 
 returns-4 : tie.Need-returns-4
-returns-4 c = let e = layout-formed (c .before .before .before .before .before .before .pre) (sym (c .before .enum-told4 .given .1) ∙ c .before .before .before .form-of .ensures) in omega (arith, c .capped-add .ensures, ap (λ (l : Layout). length (between l)) e)
+returns-4 c = let e = layout-shaped (c .before .before .before .before .before .before .pre) (sym (c .before .enum-told4 .given .1) ∙ c .before .before .before .shape-of .ensures) in omega (arith, c .capped-add .ensures, ap (λ (l : Layout). length (between l)) e)
 
 returns-5 : tie.Need-returns-5
-returns-5 c = let e = layout-formed (c .before .before .before .before .before .before .before .pre) (sym (c .before .before .enum-told5 .given .1) ∙ c .before .before .before .before .form-of .ensures) in omega (arith, c .before .operator-len .ensures, c .capped-add2 .ensures, ap (λ (l : Layout). length (between l)) e, spaced (operator (layoutAt (c .before .before .before .before .before .before .before .args .page .now) (c .before .before .before .before .before .before .before .args .node))))
+returns-5 c = let e = layout-shaped (c .before .before .before .before .before .before .before .pre) (sym (c .before .before .enum-told5 .given .1) ∙ c .before .before .before .before .shape-of .ensures) in omega (arith, c .before .operator-len .ensures, c .capped-add2 .ensures, ap (λ (l : Layout). length (between l)) e, spaced (operator (layoutAt (c .before .before .before .before .before .before .before .args .page .now) (c .before .before .before .before .before .before .before .args .node))))
 
 pub between-len-spec : {M : Type 1} → statement M
 between-len-spec =
     tie.close
     (tie.spec
-    form-of-requires
+    shape-of-requires
     enum-told
     enum-told-2
     enum-told-3

@@ -1,5 +1,5 @@
--- `canonical::own::front_len` meets its contract: by the form, the head and a bracket. Assumes nothing.
-use Rattle.view.proofs.NodeLaws.{layout-formed}
+-- `canonical::own::front_len` meets its contract: by the shape, the head and a bracket. Assumes nothing.
+use Rattle.view.proofs.NodeLaws.{layout-shaped}
 use Rattle.view.specs.View.{layoutAt}
 use Rattle.text.proofs.CappedLaws.{len-as, len-plus}
 use Rattle.text.specs.Layout.{Layout, head, front}
@@ -11,8 +11,8 @@ use borrow.Author.Needs.{needs}
 use Rattle.canonical.proofs.own.front_len.Statement.{statement}
 use Rattle.canonical.proofs.own.front_len.Tie as tie
 
-form-of-requires : tie.Need-form-of-requires
-form-of-requires c κs = search needs
+shape-of-requires : tie.Need-shape-of-requires
+shape-of-requires c κs = search needs
 
 enum-told : tie.Need-enum-told
 enum-told c = search needs
@@ -42,25 +42,25 @@ enum-told-5 : tie.Need-enum-told-5
 enum-told-5 c = search needs
 
 returns : tie.Need-returns
-returns c = let e = layout-formed (c .before .before .before .before .before .before .pre) (sym (c .before .enum-told .given .1) ∙ c .before .before .before .form-of .ensures) in len-as _ _ _ (ap front e) (c .head-len .ensures)
+returns c = let e = layout-shaped (c .before .before .before .before .before .before .pre) (sym (c .before .enum-told .given .1) ∙ c .before .before .before .shape-of .ensures) in len-as _ _ _ (ap front e) (c .head-len .ensures)
 
 returns-2 : tie.Need-returns-2
-returns-2 c = let e = layout-formed (c .before .before .before .before .before .before .pre) (sym (c .before .enum-told2 .given .1) ∙ c .before .before .before .form-of .ensures) in len-as _ _ _ (ap front e ∙ sym (ap head e)) (c .head-len2 .ensures)
+returns-2 c = let e = layout-shaped (c .before .before .before .before .before .before .pre) (sym (c .before .enum-told2 .given .1) ∙ c .before .before .before .shape-of .ensures) in len-as _ _ _ (ap front e ∙ sym (ap head e)) (c .head-len2 .ensures)
 
 returns-3 : tie.Need-returns-3
-returns-3 c = let e = layout-formed (c .before .before .before .before .before .pre) (sym (c .enum-told3 .given .1) ∙ c .before .before .form-of .ensures) in omega (arith, ap (λ (l : Layout). length (front l)) e)
+returns-3 c = let e = layout-shaped (c .before .before .before .before .before .pre) (sym (c .enum-told3 .given .1) ∙ c .before .before .shape-of .ensures) in omega (arith, ap (λ (l : Layout). length (front l)) e)
 
 returns-4 : tie.Need-returns-4
-returns-4 c = let e = layout-formed (c .before .before .before .before .before .before .before .pre) (sym (c .before .before .enum-told4 .given .1) ∙ c .before .before .before .before .form-of .ensures) in len-plus _ (head (layoutAt (c .before .before .before .before .before .before .before .args .page .now) (c .before .before .before .before .before .before .before .args .node))) (bytes "(") _ _ _ (ap front e) (c .before .head-len3 .ensures) (c .capped-add .ensures)
+returns-4 c = let e = layout-shaped (c .before .before .before .before .before .before .before .pre) (sym (c .before .before .enum-told4 .given .1) ∙ c .before .before .before .before .shape-of .ensures) in len-plus _ (head (layoutAt (c .before .before .before .before .before .before .before .args .page .now) (c .before .before .before .before .before .before .before .args .node))) (bytes "(") _ _ _ (ap front e) (c .before .head-len3 .ensures) (c .capped-add .ensures)
 
 returns-5 : tie.Need-returns-5
-returns-5 c = let e = layout-formed (c .before .before .before .before .before .pre) (sym (c .enum-told5 .given .1) ∙ c .before .before .form-of .ensures) in omega (arith, ap (λ (l : Layout). length (front l)) e)
+returns-5 c = let e = layout-shaped (c .before .before .before .before .before .pre) (sym (c .enum-told5 .given .1) ∙ c .before .before .shape-of .ensures) in omega (arith, ap (λ (l : Layout). length (front l)) e)
 
 pub front-len-spec : {M : Type 1} → statement M
 front-len-spec =
     tie.close
     (tie.spec
-    form-of-requires
+    shape-of-requires
     enum-told
     head-len-requires
     enum-told-2

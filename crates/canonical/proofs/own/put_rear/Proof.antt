@@ -1,5 +1,5 @@
 -- `canonical::own::put_rear` meets its contract. Assumes nothing.
-use Rattle.view.proofs.NodeLaws.{layout-formed}
+use Rattle.view.proofs.NodeLaws.{layout-shaped}
 use Rattle.text.proofs.WriteLaws.{wrote-nothing, wrote-as, room-as}
 use Rattle.text.specs.Layout.{rear}
 use mathlib.Core.Path.{sym, ap, _∙_}
@@ -7,8 +7,8 @@ use borrow.Author.Needs.{needs}
 use Rattle.canonical.proofs.own.put_rear.Statement.{statement}
 use Rattle.canonical.proofs.own.put_rear.Tie as tie
 
-form-of-requires : tie.Need-form-of-requires
-form-of-requires c κs = search needs
+shape-of-requires : tie.Need-shape-of-requires
+shape-of-requires c κs = search needs
 
 enum-told : tie.Need-enum-told
 enum-told c = search needs
@@ -20,43 +20,43 @@ enum-told-3 : tie.Need-enum-told-3
 enum-told-3 c = search needs
 
 put-suffix-requires : tie.Need-put-suffix-requires
-put-suffix-requires c κs = let e = layout-formed (c .before .before .before .before .before .before .before .pre .0) (sym (c .before .enum-told3 .given .1) ∙ c .before .before .before .form-of .ensures) in (c .before .before .before .before .before .before .before .pre .0, room-as _ _ (c .before .before .before .before .before .before .before .args .at) _ (ap rear e) (c .before .before .before .before .before .before .before .pre .1))
+put-suffix-requires c κs = let e = layout-shaped (c .before .before .before .before .before .before .before .pre .0) (sym (c .before .enum-told3 .given .1) ∙ c .before .before .before .shape-of .ensures) in (c .before .before .before .before .before .before .before .pre .0, room-as _ _ (c .before .before .before .before .before .before .before .args .at) _ (ap rear e) (c .before .before .before .before .before .before .before .pre .1))
 
 enum-told-4 : tie.Need-enum-told-4
 enum-told-4 c = search needs
 
 put-byte-requires : tie.Need-put-byte-requires
-put-byte-requires c κs = let e = layout-formed (c .before .before .before .before .before .before .before .pre .0) (sym (c .before .enum-told4 .given .1) ∙ c .before .before .before .form-of .ensures) in room-as _ _ (c .before .before .before .before .before .before .before .args .at) _ (ap rear e) (c .before .before .before .before .before .before .before .pre .1)
+put-byte-requires c κs = let e = layout-shaped (c .before .before .before .before .before .before .before .pre .0) (sym (c .before .enum-told4 .given .1) ∙ c .before .before .before .shape-of .ensures) in room-as _ _ (c .before .before .before .before .before .before .before .args .at) _ (ap rear e) (c .before .before .before .before .before .before .before .pre .1)
 
 enum-told-5 : tie.Need-enum-told-5
 enum-told-5 c = search needs
 
 returns : tie.Need-returns
-returns c = let e = layout-formed (c .before .before .before .before .before .before .pre .0) (sym (c .enum-told .given .1) ∙ c .before .before .form-of .ensures) in wrote-nothing _ _ (ap rear e)
+returns c = let e = layout-shaped (c .before .before .before .before .before .before .pre .0) (sym (c .enum-told .given .1) ∙ c .before .before .shape-of .ensures) in wrote-nothing _ _ (ap rear e)
 
 returns-2 : tie.Need-returns-2
-returns-2 c = let e = layout-formed (c .before .before .before .before .before .before .pre .0) (sym (c .enum-told2 .given .1) ∙ c .before .before .form-of .ensures) in wrote-nothing _ _ (ap rear e)
+returns-2 c = let e = layout-shaped (c .before .before .before .before .before .before .pre .0) (sym (c .enum-told2 .given .1) ∙ c .before .before .shape-of .ensures) in wrote-nothing _ _ (ap rear e)
 
 same-length : tie.Need-same-length
 same-length c = c .before .before .put-suffix .kept .1 .1 .1 .0
 
 returns-3 : tie.Need-returns-3
-returns-3 c = let e = layout-formed (c .before .before .before .before .before .before .before .before .before .before .pre .0) (sym (c .before .before .before .before .enum-told3 .given .1) ∙ c .before .before .before .before .before .before .form-of .ensures) in wrote-as (ap rear e) (c .before .before .put-suffix .ensures)
+returns-3 c = let e = layout-shaped (c .before .before .before .before .before .before .before .before .before .before .pre .0) (sym (c .before .before .before .before .enum-told3 .given .1) ∙ c .before .before .before .before .before .before .shape-of .ensures) in wrote-as (ap rear e) (c .before .before .put-suffix .ensures)
 
 same-length-2 : tie.Need-same-length-2
 same-length-2 c = c .before .before .put-byte .kept .1 .0
 
 returns-4 : tie.Need-returns-4
-returns-4 c = let e = layout-formed (c .before .before .before .before .before .before .before .before .before .before .pre .0) (sym (c .before .before .before .before .enum-told4 .given .1) ∙ c .before .before .before .before .before .before .form-of .ensures) in wrote-as (ap rear e) (c .before .before .put-byte .ensures)
+returns-4 c = let e = layout-shaped (c .before .before .before .before .before .before .before .before .before .before .pre .0) (sym (c .before .before .before .before .enum-told4 .given .1) ∙ c .before .before .before .before .before .before .shape-of .ensures) in wrote-as (ap rear e) (c .before .before .put-byte .ensures)
 
 returns-5 : tie.Need-returns-5
-returns-5 c = let e = layout-formed (c .before .before .before .before .before .before .pre .0) (sym (c .enum-told5 .given .1) ∙ c .before .before .form-of .ensures) in wrote-nothing _ _ (ap rear e)
+returns-5 c = let e = layout-shaped (c .before .before .before .before .before .before .pre .0) (sym (c .enum-told5 .given .1) ∙ c .before .before .shape-of .ensures) in wrote-nothing _ _ (ap rear e)
 
 pub put-rear-spec : {M : Type 1} → statement M
 put-rear-spec =
     tie.close
     (tie.spec
-    form-of-requires
+    shape-of-requires
     enum-told
     enum-told-2
     enum-told-3

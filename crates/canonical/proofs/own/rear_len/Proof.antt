@@ -1,5 +1,5 @@
 -- `canonical::own::rear_len` meets its contract: the suffix, or a bracket. Assumes nothing.
-use Rattle.view.proofs.NodeLaws.{layout-formed}
+use Rattle.view.proofs.NodeLaws.{layout-shaped}
 use Rattle.text.proofs.CappedLaws.{len-as}
 use Rattle.text.specs.Layout.{Layout, rear}
 use lib.ListN.{length}
@@ -9,8 +9,8 @@ use borrow.Author.Needs.{needs}
 use Rattle.canonical.proofs.own.rear_len.Statement.{statement}
 use Rattle.canonical.proofs.own.rear_len.Tie as tie
 
-form-of-requires : tie.Need-form-of-requires
-form-of-requires c κs = search needs
+shape-of-requires : tie.Need-shape-of-requires
+shape-of-requires c κs = search needs
 
 enum-told : tie.Need-enum-told
 enum-told c = search needs
@@ -34,25 +34,25 @@ enum-told-5 : tie.Need-enum-told-5
 enum-told-5 c = search needs
 
 returns : tie.Need-returns
-returns c = let e = layout-formed (c .before .before .before .before .before .pre) (sym (c .enum-told .given .1) ∙ c .before .before .form-of .ensures) in omega (arith, ap (λ (l : Layout). length (rear l)) e)
+returns c = let e = layout-shaped (c .before .before .before .before .before .pre) (sym (c .enum-told .given .1) ∙ c .before .before .shape-of .ensures) in omega (arith, ap (λ (l : Layout). length (rear l)) e)
 
 returns-2 : tie.Need-returns-2
-returns-2 c = let e = layout-formed (c .before .before .before .before .before .pre) (sym (c .enum-told2 .given .1) ∙ c .before .before .form-of .ensures) in omega (arith, ap (λ (l : Layout). length (rear l)) e)
+returns-2 c = let e = layout-shaped (c .before .before .before .before .before .pre) (sym (c .enum-told2 .given .1) ∙ c .before .before .shape-of .ensures) in omega (arith, ap (λ (l : Layout). length (rear l)) e)
 
 returns-3 : tie.Need-returns-3
-returns-3 c = let e = layout-formed (c .before .before .before .before .before .before .pre) (sym (c .before .enum-told3 .given .1) ∙ c .before .before .before .form-of .ensures) in len-as _ _ _ (ap rear e) (c .suffix-len .ensures)
+returns-3 c = let e = layout-shaped (c .before .before .before .before .before .before .pre) (sym (c .before .enum-told3 .given .1) ∙ c .before .before .before .shape-of .ensures) in len-as _ _ _ (ap rear e) (c .suffix-len .ensures)
 
 returns-4 : tie.Need-returns-4
-returns-4 c = let e = layout-formed (c .before .before .before .before .before .before .pre) (sym (c .before .enum-told4 .given .1) ∙ c .before .before .before .form-of .ensures) in omega (arith, c .capped-add .ensures, ap (λ (l : Layout). length (rear l)) e)
+returns-4 c = let e = layout-shaped (c .before .before .before .before .before .before .pre) (sym (c .before .enum-told4 .given .1) ∙ c .before .before .before .shape-of .ensures) in omega (arith, c .capped-add .ensures, ap (λ (l : Layout). length (rear l)) e)
 
 returns-5 : tie.Need-returns-5
-returns-5 c = let e = layout-formed (c .before .before .before .before .before .pre) (sym (c .enum-told5 .given .1) ∙ c .before .before .form-of .ensures) in omega (arith, ap (λ (l : Layout). length (rear l)) e)
+returns-5 c = let e = layout-shaped (c .before .before .before .before .before .pre) (sym (c .enum-told5 .given .1) ∙ c .before .before .shape-of .ensures) in omega (arith, ap (λ (l : Layout). length (rear l)) e)
 
 pub rear-len-spec : {M : Type 1} → statement M
 rear-len-spec =
     tie.close
     (tie.spec
-    form-of-requires
+    shape-of-requires
     enum-told
     enum-told-2
     enum-told-3

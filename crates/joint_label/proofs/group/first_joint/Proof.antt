@@ -1,4 +1,4 @@
--- `joint::group::first_joint` meets its contract. The loop's invariant: what is left of the group labels decides. Assumes nothing.
+-- `joint_label::group::first_joint` meets its contract. The loop's invariant: what is left of the group labels decides. Assumes nothing.
 use mathlib.Core.Path.{_≡_, refl, sym, ap, _∙_}
 use denote.Ref.{now}
 use borrow.Author.Needs.{needs}

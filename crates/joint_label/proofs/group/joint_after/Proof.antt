@@ -1,4 +1,4 @@
--- `joint::group::joint_after` meets its contract, field by field. Assumes nothing.
+-- `joint_label::group::joint_after` meets its contract, field by field. Assumes nothing.
 use lib.ListN.{drop}
 use denote.Ref.{now}
 use borrow.Author.Needs.{needs}

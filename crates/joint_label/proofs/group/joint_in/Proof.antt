@@ -1,4 +1,4 @@
--- `joint::group::joint_in` meets its contract: the list is read before its labels are looked at. Assumes nothing.
+-- `joint_label::group::joint_in` meets its contract: the list is read before its labels are looked at. Assumes nothing.
 use lib.ListN.{drop}
 use denote.Ref.{now}
 use borrow.Author.Needs.{needs}

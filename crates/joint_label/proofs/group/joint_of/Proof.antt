@@ -1,4 +1,4 @@
--- `joint::group::joint_of` meets its contract, form by form. Assumes nothing.
+-- `joint_label::group::joint_of` meets its contract, form by form. Assumes nothing.
 use native.Mathlib.Omega.{arith}
 use lib.ListN.{drop}
 use denote.Ref.{now}

@@ -1,4 +1,4 @@
--- `joint::place::joint_at` meets its contract, field by field. Assumes nothing.
+-- `joint_label::place::joint_at` meets its contract, field by field. Assumes nothing.
 use borrow.Author.Needs.{needs}
 use Rattle.joint_label.proofs.PlacedLaws.{nowhere, part-as}
 use Rattle.joint_label.proofs.place.joint_at.Statement.{statement}

@@ -1,4 +1,4 @@
--- `joint::place::joint_label` meets its contract. Assumes nothing.
+-- `joint_label::place::joint_label` meets its contract. Assumes nothing.
 use denote.Ref.{now}
 use borrow.Author.Needs.{needs}
 use Rattle.ast.proofs.LabelLaws.{labelPart-otherwise}

@@ -1,4 +1,4 @@
--- `joint::place::record_start` meets its contract. The loop's invariant: `left` records are still to be read from `at` on. Assumes nothing.
+-- `joint_label::place::record_start` meets its contract. The loop's invariant: `left` records are still to be read from `at` on. Assumes nothing.
 use mathlib.Core.Path.{_≡_, refl, sym, _∙_}
 use lib.ListN.{drop}
 use denote.Ref.{now}

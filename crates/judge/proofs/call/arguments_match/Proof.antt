@@ -1,4 +1,4 @@
--- `verdict::call::arguments_match` meets its contract. The loop's invariant: the arguments left, matched against the kinds left, decide.
+-- `judge::call::arguments_match` meets its contract. The loop's invariant: the arguments left, matched against the kinds left, decide.
 use mathlib.Core.Path.{_≡_, refl, sym, ap, _∙_}
 use mathlib.Core.List.{map}
 use lib.ListN.{drop}
@@ -18,10 +18,10 @@ use Rattle.judge.proofs.call.arguments_match.Statement.{statement}
 use Rattle.judge.proofs.call.arguments_match.Tie as tie
 
 abbrev Inv-loop : tie.InvT-loop
-Inv-loop page kinds declared forms values top count left₀ at₀ more₀ left at more = (left ≤ count) × (argsMatch (kindsOn page kinds declared) (map operandKind (operandsOf count (drop top (heldOperands forms values)))) ≡ argsMatch (kindsOn page at more) (map operandKind (operandsOf left (drop top (heldOperands forms values)))))
+Inv-loop page kinds declared tags values top count left₀ at₀ more₀ left at more = (left ≤ count) × (argsMatch (kindsOn page kinds declared) (map operandKind (operandsOf count (drop top (heldOperands tags values)))) ≡ argsMatch (kindsOn page at more) (map operandKind (operandsOf left (drop top (heldOperands tags values)))))
 
 abbrev μ-loop : tie.MeasureT-loop
-μ-loop page kinds declared forms values top count left₀ at₀ more₀ left at more = left
+μ-loop page kinds declared tags values top count left₀ at₀ more₀ left at more = left
 
 loop-holds : tie.Need-loop-holds Inv-loop μ-loop
 loop-holds c = (omega arith, refl)

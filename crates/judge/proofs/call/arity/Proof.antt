@@ -1,4 +1,4 @@
--- `verdict::call::arity` meets its contract, case by case. Assumes nothing.
+-- `judge::call::arity` meets its contract, case by case. Assumes nothing.
 use borrow.Author.Tests.{lt-ltb, le-ltb, eq-eqb, ne-eqb}
 use borrow.Author.Needs.{needs}
 use Rattle.judge.proofs.call.arity.Statement.{statement}

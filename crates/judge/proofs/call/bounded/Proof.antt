@@ -1,4 +1,4 @@
--- `verdict::call::bounded` meets its contract. Assumes nothing.
+-- `judge::call::bounded` meets its contract. Assumes nothing.
 use Rattle.judge.proofs.CallLaws.{bounded-few, bounded-many, bounded-fine}
 use Rattle.judge.proofs.call.bounded.Statement.{statement}
 use Rattle.judge.proofs.call.bounded.Tie as tie

@@ -1,4 +1,4 @@
--- `verdict::call::judge_call` meets its contract: each return is a case of `judgeCall` by the tests before it. Assumes nothing.
+-- `judge::call::judge_call` meets its contract: each return is a case of `judgeCall` by the tests before it. Assumes nothing.
 use mathlib.Core.Path.{sym, ap, _∙_}
 use lib.ListN.{drop}
 use denote.Ref.{now}
@@ -25,8 +25,8 @@ enum-told c = search needs
 
 returns : tie.Need-returns
 returns c = let f = functionOn (now (c .before .before .before .before .before .before .before .before .args .page)) (c .before .before .before .before .before .before .before .before .args .function) in
-    let args = operandsOf (c .before .before .before .before .before .before .before .before .args .count) (drop (c .before .before .before .before .before .before .before .before .args .top) (heldOperands (now (c .before .before .before .before .before .before .before .before .args .forms)) (now (c .before .before .before .before .before .before .before .before .args .values)))) in
-    let size = sym (operands-size (now (c .before .before .before .before .before .before .before .before .args .forms)) (now (c .before .before .before .before .before .before .before .before .args .values)) (c .before .before .before .before .before .before .before .before .pre .0) (c .before .before .before .before .before .before .before .before .args .top) (c .before .before .before .before .before .before .before .before .args .count) (c .before .before .before .before .before .before .before .before .pre .1 .1)) in
+    let args = operandsOf (c .before .before .before .before .before .before .before .before .args .count) (drop (c .before .before .before .before .before .before .before .before .args .top) (heldOperands (now (c .before .before .before .before .before .before .before .before .args .tags)) (now (c .before .before .before .before .before .before .before .before .args .values)))) in
+    let size = sym (operands-size (now (c .before .before .before .before .before .before .before .before .args .tags)) (now (c .before .before .before .before .before .before .before .before .args .values)) (c .before .before .before .before .before .before .before .before .pre .0) (c .before .before .before .before .before .before .before .before .args .top) (c .before .before .before .before .before .before .before .before .args .count) (c .before .before .before .before .before .before .before .before .pre .1 .1)) in
     let fine = rw (c .before .enum-told .given .1) at (c .before .before .before .arity .ensures) in
     call-empty f args (sym (c .before .before .before .before .before .before .before .before .pre .1 .0 .kinds)) size fine (c .if1 .taken)
 
@@ -44,8 +44,8 @@ is-exempt-requires c κs = c .before .before .before .before .before .before .be
 
 returns-2 : tie.Need-returns-2
 returns-2 c = let f = functionOn (now (c .before .before .before .before .before .before .before .before .before .before .before .args .page)) (c .before .before .before .before .before .before .before .before .before .before .before .args .function) in
-    let args = operandsOf (c .before .before .before .before .before .before .before .before .before .before .before .args .count) (drop (c .before .before .before .before .before .before .before .before .before .before .before .args .top) (heldOperands (now (c .before .before .before .before .before .before .before .before .before .before .before .args .forms)) (now (c .before .before .before .before .before .before .before .before .before .before .before .args .values)))) in
-    let size = sym (operands-size (now (c .before .before .before .before .before .before .before .before .before .before .before .args .forms)) (now (c .before .before .before .before .before .before .before .before .before .before .before .args .values)) (c .before .before .before .before .before .before .before .before .before .before .before .pre .0) (c .before .before .before .before .before .before .before .before .before .before .before .args .top) (c .before .before .before .before .before .before .before .before .before .before .before .args .count) (c .before .before .before .before .before .before .before .before .before .before .before .pre .1 .1)) in
+    let args = operandsOf (c .before .before .before .before .before .before .before .before .before .before .before .args .count) (drop (c .before .before .before .before .before .before .before .before .before .before .before .args .top) (heldOperands (now (c .before .before .before .before .before .before .before .before .before .before .before .args .tags)) (now (c .before .before .before .before .before .before .before .before .before .before .before .args .values)))) in
+    let size = sym (operands-size (now (c .before .before .before .before .before .before .before .before .before .before .before .args .tags)) (now (c .before .before .before .before .before .before .before .before .before .before .before .args .values)) (c .before .before .before .before .before .before .before .before .before .before .before .pre .0) (c .before .before .before .before .before .before .before .before .before .before .before .args .top) (c .before .before .before .before .before .before .before .before .before .before .before .args .count) (c .before .before .before .before .before .before .before .before .before .before .before .pre .1 .1)) in
     let fine = rw (c .before .before .before .before .enum-told .given .1) at (c .before .before .before .before .before .before .arity .ensures) in
     let first = exempt-first (c .before .before .before .before .before .before .before .before .before .before .before .pre .0) (spanOn (now (c .before .before .before .before .before .before .before .before .before .before .before .args .page)) (c .before .before .before .before .before .before .before .before .before .before .before .args .function .name)) (c .before .before .before .before .before .before .before .before .before .before .before .args .top) (c .before .before .before .before .before .before .before .before .before .before .before .args .count) (c .before .before .before .if1 .left) (c .before .before .before .before .before .before .before .before .before .before .before .pre .1 .1) in
     let exempt = c .before .is-exempt .ensures ∙ ap (isExemptOperand (spanOn (now (c .before .before .before .before .before .before .before .before .before .before .before .args .page)) (c .before .before .before .before .before .before .before .before .before .before .before .args .function .name))) (c .before .before .operand-at .ensures) ∙ first in
@@ -53,8 +53,8 @@ returns-2 c = let f = functionOn (now (c .before .before .before .before .before
 
 returns-3 : tie.Need-returns-3
 returns-3 c = let f = functionOn (now (c .before .before .before .before .before .before .before .before .before .before .before .before .args .page)) (c .before .before .before .before .before .before .before .before .before .before .before .before .args .function) in
-    let args = operandsOf (c .before .before .before .before .before .before .before .before .before .before .before .before .args .count) (drop (c .before .before .before .before .before .before .before .before .before .before .before .before .args .top) (heldOperands (now (c .before .before .before .before .before .before .before .before .before .before .before .before .args .forms)) (now (c .before .before .before .before .before .before .before .before .before .before .before .before .args .values)))) in
-    let size = sym (operands-size (now (c .before .before .before .before .before .before .before .before .before .before .before .before .args .forms)) (now (c .before .before .before .before .before .before .before .before .before .before .before .before .args .values)) (c .before .before .before .before .before .before .before .before .before .before .before .before .pre .0) (c .before .before .before .before .before .before .before .before .before .before .before .before .args .top) (c .before .before .before .before .before .before .before .before .before .before .before .before .args .count) (c .before .before .before .before .before .before .before .before .before .before .before .before .pre .1 .1)) in
+    let args = operandsOf (c .before .before .before .before .before .before .before .before .before .before .before .before .args .count) (drop (c .before .before .before .before .before .before .before .before .before .before .before .before .args .top) (heldOperands (now (c .before .before .before .before .before .before .before .before .before .before .before .before .args .tags)) (now (c .before .before .before .before .before .before .before .before .before .before .before .before .args .values)))) in
+    let size = sym (operands-size (now (c .before .before .before .before .before .before .before .before .before .before .before .before .args .tags)) (now (c .before .before .before .before .before .before .before .before .before .before .before .before .args .values)) (c .before .before .before .before .before .before .before .before .before .before .before .before .pre .0) (c .before .before .before .before .before .before .before .before .before .before .before .before .args .top) (c .before .before .before .before .before .before .before .before .before .before .before .before .args .count) (c .before .before .before .before .before .before .before .before .before .before .before .before .pre .1 .1)) in
     let fine = rw (c .before .before .before .before .before .enum-told .given .1) at (c .before .before .before .before .before .before .before .arity .ensures) in
     let first = exempt-first (c .before .before .before .before .before .before .before .before .before .before .before .before .pre .0) (spanOn (now (c .before .before .before .before .before .before .before .before .before .before .before .before .args .page)) (c .before .before .before .before .before .before .before .before .before .before .before .before .args .function .name)) (c .before .before .before .before .before .before .before .before .before .before .before .before .args .top) (c .before .before .before .before .before .before .before .before .before .before .before .before .args .count) (c .before .before .before .before .if1 .left) (c .before .before .before .before .before .before .before .before .before .before .before .before .pre .1 .1) in
     let exempt = c .before .before .is-exempt .ensures ∙ ap (isExemptOperand (spanOn (now (c .before .before .before .before .before .before .before .before .before .before .before .before .args .page)) (c .before .before .before .before .before .before .before .before .before .before .before .before .args .function .name))) (c .before .before .before .operand-at .ensures) ∙ first in
@@ -65,8 +65,8 @@ arguments-match-requires c κs = (c .before .before .before .before .before .bef
 
 returns-4 : tie.Need-returns-4
 returns-4 c = let f = functionOn (now (c .before .before .before .before .before .before .before .before .before .before .before .before .before .before .args .page)) (c .before .before .before .before .before .before .before .before .before .before .before .before .before .before .args .function) in
-    let args = operandsOf (c .before .before .before .before .before .before .before .before .before .before .before .before .before .before .args .count) (drop (c .before .before .before .before .before .before .before .before .before .before .before .before .before .before .args .top) (heldOperands (now (c .before .before .before .before .before .before .before .before .before .before .before .before .before .before .args .forms)) (now (c .before .before .before .before .before .before .before .before .before .before .before .before .before .before .args .values)))) in
-    let size = sym (operands-size (now (c .before .before .before .before .before .before .before .before .before .before .before .before .before .before .args .forms)) (now (c .before .before .before .before .before .before .before .before .before .before .before .before .before .before .args .values)) (c .before .before .before .before .before .before .before .before .before .before .before .before .before .before .pre .0) (c .before .before .before .before .before .before .before .before .before .before .before .before .before .before .args .top) (c .before .before .before .before .before .before .before .before .before .before .before .before .before .before .args .count) (c .before .before .before .before .before .before .before .before .before .before .before .before .before .before .pre .1 .1)) in
+    let args = operandsOf (c .before .before .before .before .before .before .before .before .before .before .before .before .before .before .args .count) (drop (c .before .before .before .before .before .before .before .before .before .before .before .before .before .before .args .top) (heldOperands (now (c .before .before .before .before .before .before .before .before .before .before .before .before .before .before .args .tags)) (now (c .before .before .before .before .before .before .before .before .before .before .before .before .before .before .args .values)))) in
+    let size = sym (operands-size (now (c .before .before .before .before .before .before .before .before .before .before .before .before .before .before .args .tags)) (now (c .before .before .before .before .before .before .before .before .before .before .before .before .before .before .args .values)) (c .before .before .before .before .before .before .before .before .before .before .before .before .before .before .pre .0) (c .before .before .before .before .before .before .before .before .before .before .before .before .before .before .args .top) (c .before .before .before .before .before .before .before .before .before .before .before .before .before .before .args .count) (c .before .before .before .before .before .before .before .before .before .before .before .before .before .before .pre .1 .1)) in
     let fine = rw (c .before .before .before .before .before .before .before .enum-told .given .1) at (c .before .before .before .before .before .before .before .before .before .arity .ensures) in
     let first = exempt-first (c .before .before .before .before .before .before .before .before .before .before .before .before .before .before .pre .0) (spanOn (now (c .before .before .before .before .before .before .before .before .before .before .before .before .before .before .args .page)) (c .before .before .before .before .before .before .before .before .before .before .before .before .before .before .args .function .name)) (c .before .before .before .before .before .before .before .before .before .before .before .before .before .before .args .top) (c .before .before .before .before .before .before .before .before .before .before .before .before .before .before .args .count) (c .before .before .before .before .before .before .if1 .left) (c .before .before .before .before .before .before .before .before .before .before .before .before .before .before .pre .1 .1) in
     let exempt = c .before .before .before .before .is-exempt .ensures ∙ ap (isExemptOperand (spanOn (now (c .before .before .before .before .before .before .before .before .before .before .before .before .before .before .args .page)) (c .before .before .before .before .before .before .before .before .before .before .before .before .before .before .args .function .name))) (c .before .before .before .before .before .operand-at .ensures) ∙ first in
@@ -74,14 +74,14 @@ returns-4 c = let f = functionOn (now (c .before .before .before .before .before
 
 returns-5 : tie.Need-returns-5
 returns-5 c = let f = functionOn (now (c .before .before .before .before .before .before .before .before .args .page)) (c .before .before .before .before .before .before .before .before .args .function) in
-    let args = operandsOf (c .before .before .before .before .before .before .before .before .args .count) (drop (c .before .before .before .before .before .before .before .before .args .top) (heldOperands (now (c .before .before .before .before .before .before .before .before .args .forms)) (now (c .before .before .before .before .before .before .before .before .args .values)))) in
-    let size = sym (operands-size (now (c .before .before .before .before .before .before .before .before .args .forms)) (now (c .before .before .before .before .before .before .before .before .args .values)) (c .before .before .before .before .before .before .before .before .pre .0) (c .before .before .before .before .before .before .before .before .args .top) (c .before .before .before .before .before .before .before .before .args .count) (c .before .before .before .before .before .before .before .before .pre .1 .1)) in
+    let args = operandsOf (c .before .before .before .before .before .before .before .before .args .count) (drop (c .before .before .before .before .before .before .before .before .args .top) (heldOperands (now (c .before .before .before .before .before .before .before .before .args .tags)) (now (c .before .before .before .before .before .before .before .before .args .values)))) in
+    let size = sym (operands-size (now (c .before .before .before .before .before .before .before .before .args .tags)) (now (c .before .before .before .before .before .before .before .before .args .values)) (c .before .before .before .before .before .before .before .before .pre .0) (c .before .before .before .before .before .before .before .before .args .top) (c .before .before .before .before .before .before .before .before .args .count) (c .before .before .before .before .before .before .before .before .pre .1 .1)) in
     call-arity f args (sym (c .before .before .before .before .before .before .before .before .pre .1 .0 .kinds)) size (rw (c .before .refusal .given .1) at (c .before .before .before .arity .ensures))
 
 returns-6 : tie.Need-returns-6
 returns-6 c = let f = functionOn (now (c .before .before .before .before .before .before .before .before .before .before .before .before .before .before .args .page)) (c .before .before .before .before .before .before .before .before .before .before .before .before .before .before .args .function) in
-    let args = operandsOf (c .before .before .before .before .before .before .before .before .before .before .before .before .before .before .args .count) (drop (c .before .before .before .before .before .before .before .before .before .before .before .before .before .before .args .top) (heldOperands (now (c .before .before .before .before .before .before .before .before .before .before .before .before .before .before .args .forms)) (now (c .before .before .before .before .before .before .before .before .before .before .before .before .before .before .args .values)))) in
-    let size = sym (operands-size (now (c .before .before .before .before .before .before .before .before .before .before .before .before .before .before .args .forms)) (now (c .before .before .before .before .before .before .before .before .before .before .before .before .before .before .args .values)) (c .before .before .before .before .before .before .before .before .before .before .before .before .before .before .pre .0) (c .before .before .before .before .before .before .before .before .before .before .before .before .before .before .args .top) (c .before .before .before .before .before .before .before .before .before .before .before .before .before .before .args .count) (c .before .before .before .before .before .before .before .before .before .before .before .before .before .before .pre .1 .1)) in
+    let args = operandsOf (c .before .before .before .before .before .before .before .before .before .before .before .before .before .before .args .count) (drop (c .before .before .before .before .before .before .before .before .before .before .before .before .before .before .args .top) (heldOperands (now (c .before .before .before .before .before .before .before .before .before .before .before .before .before .before .args .tags)) (now (c .before .before .before .before .before .before .before .before .before .before .before .before .before .before .args .values)))) in
+    let size = sym (operands-size (now (c .before .before .before .before .before .before .before .before .before .before .before .before .before .before .args .tags)) (now (c .before .before .before .before .before .before .before .before .before .before .before .before .before .before .args .values)) (c .before .before .before .before .before .before .before .before .before .before .before .before .before .before .pre .0) (c .before .before .before .before .before .before .before .before .before .before .before .before .before .before .args .top) (c .before .before .before .before .before .before .before .before .before .before .before .before .before .before .args .count) (c .before .before .before .before .before .before .before .before .before .before .before .before .before .before .pre .1 .1)) in
     let fine = rw (c .before .before .before .before .before .before .before .enum-told .given .1) at (c .before .before .before .before .before .before .before .before .before .arity .ensures) in
     let first = exempt-first (c .before .before .before .before .before .before .before .before .before .before .before .before .before .before .pre .0) (spanOn (now (c .before .before .before .before .before .before .before .before .before .before .before .before .before .before .args .page)) (c .before .before .before .before .before .before .before .before .before .before .before .before .before .before .args .function .name)) (c .before .before .before .before .before .before .before .before .before .before .before .before .before .before .args .top) (c .before .before .before .before .before .before .before .before .before .before .before .before .before .before .args .count) (c .before .before .before .before .before .before .if1 .left) (c .before .before .before .before .before .before .before .before .before .before .before .before .before .before .pre .1 .1) in
     let exempt = c .before .before .before .before .is-exempt .ensures ∙ ap (isExemptOperand (spanOn (now (c .before .before .before .before .before .before .before .before .before .before .before .before .before .before .args .page)) (c .before .before .before .before .before .before .before .before .before .before .before .before .before .before .args .function .name))) (c .before .before .before .before .before .operand-at .ensures) ∙ first in

@@ -1,4 +1,4 @@
--- `verdict::declared::same_kind` meets its contract. Assumes nothing.
+-- `judge::declared::same_kind` meets its contract. Assumes nothing.
 use borrow.Author.Needs.{needs}
 use Rattle.judge.proofs.declared.same_kind.Statement.{statement}
 use Rattle.judge.proofs.declared.same_kind.Tie as tie

@@ -1,4 +1,4 @@
--- `verdict::exempt::is_exempt` meets its contract, case by case. Assumes nothing.
+-- `judge::exempt::is_exempt` meets its contract, case by case. Assumes nothing.
 use mathlib.Core.Path.{ap, _∙_}
 use Rattle.ast.specs.Judge.{isExemptFloat}
 use Rattle.page.specs.Text.{Text}

@@ -1,4 +1,4 @@
--- `verdict::exempt::is_exempt_value` meets its contract. Assumes nothing.
+-- `judge::exempt::is_exempt_value` meets its contract. Assumes nothing.
 use borrow.Author.Needs.{needs}
 use Rattle.judge.proofs.exempt.is_exempt_value.Statement.{statement}
 use Rattle.judge.proofs.exempt.is_exempt_value.Tie as tie

@@ -1,4 +1,4 @@
--- `verdict::exempt::is_logarithm` meets its contract. Assumes nothing.
+-- `judge::exempt::is_logarithm` meets its contract. Assumes nothing.
 use borrow.Author.Needs.{needs}
 use Rattle.judge.proofs.exempt.is_logarithm.Statement.{statement}
 use Rattle.judge.proofs.exempt.is_logarithm.Tie as tie

@@ -1,4 +1,4 @@
--- `verdict::modifier::facts` meets its contract, mark by mark. Assumes nothing.
+-- `judge::modifier::facts` meets its contract, mark by mark. Assumes nothing.
 use mathlib.Core.Path.{refl}
 use denote.Ref.{now}
 use borrow.Author.Needs.{needs}

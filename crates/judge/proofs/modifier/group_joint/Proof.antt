@@ -1,4 +1,4 @@
--- `verdict::modifier::group_joint` meets its contract, case by case. Assumes nothing.
+-- `judge::modifier::group_joint` meets its contract, case by case. Assumes nothing.
 use borrow.Author.Needs.{needs}
 use Rattle.judge.proofs.modifier.group_joint.Statement.{statement}
 use Rattle.judge.proofs.modifier.group_joint.Tie as tie

@@ -1,4 +1,4 @@
--- `verdict::modifier::has_matching` meets its contract, case by case. Assumes nothing.
+-- `judge::modifier::has_matching` meets its contract, case by case. Assumes nothing.
 use borrow.Author.Needs.{needs}
 use Rattle.judge.proofs.modifier.has_matching.Statement.{statement}
 use Rattle.judge.proofs.modifier.has_matching.Tie as tie

@@ -1,4 +1,4 @@
--- `verdict::modifier::is_grouping` meets its contract, case by case. Assumes nothing.
+-- `judge::modifier::is_grouping` meets its contract, case by case. Assumes nothing.
 use borrow.Author.Needs.{needs}
 use Rattle.judge.proofs.modifier.is_grouping.Statement.{statement}
 use Rattle.judge.proofs.modifier.is_grouping.Tie as tie

@@ -1,4 +1,4 @@
--- `verdict::modifier::judge_binary` meets its contract by the facts of the modifier. Assumes nothing.
+-- `judge::modifier::judge_binary` meets its contract by the facts of the modifier. Assumes nothing.
 use mathlib.Core.Path.{_∙_}
 use Rattle.records.specs.Answers.{kindOf}
 use Rattle.judge.proofs.ModifierLaws.{judgeSides-facts}

@@ -1,4 +1,4 @@
--- `verdict::record::judge_record` meets its contract, record by record: the judge's own contract, at the entries where the stack has its
+-- `judge::record::judge_record` meets its contract, record by record: the judge's own contract, at the entries where the stack has its
 -- operands. Assumes nothing.
 use mathlib.Core.Path.{ap, ap₂, _∙_}
 use lib.ListN.{drop}
@@ -122,13 +122,13 @@ judge-call-requires : tie.Need-judge-call-requires
 judge-call-requires c κs = (c .before .before .before .before .before .before .pre .0, (rw (c .before .item5 .given .1) at (c .before .before .before .before .before .before .pre .1 .lies), rw (c .before .item5 .given .1) at (c .before .before .before .before .before .before .pre .1 .fits)))
 
 returns : tie.Need-returns
-returns c = rw (c .before .before .item .given .1) (judgement-number (literalOf (c .before .before .item .given .0 .0)) (drop (c .before .before .before .before .before .before .before .args .top) (heldOperands (now (c .before .before .before .before .before .before .before .args .forms)) (now (c .before .before .before .before .before .before .before .args .values)))) (c .literal-value .ensures))
+returns c = rw (c .before .before .item .given .1) (judgement-number (literalOf (c .before .before .item .given .0 .0)) (drop (c .before .before .before .before .before .before .before .args .top) (heldOperands (now (c .before .before .before .before .before .before .before .args .tags)) (now (c .before .before .before .before .before .before .before .args .values)))) (c .literal-value .ensures))
 
 returns-2 : tie.Need-returns-2
-returns-2 c = rw (c .enum-told .given .1) (judgement-leaf (string (spanOn (now (c .before .before .before .before .before .args .page)) (c .enum-told .given .0 .0))) (drop (c .before .before .before .before .before .args .top) (heldOperands (now (c .before .before .before .before .before .args .forms)) (now (c .before .before .before .before .before .args .values)))))
+returns-2 c = rw (c .enum-told .given .1) (judgement-leaf (string (spanOn (now (c .before .before .before .before .before .args .page)) (c .enum-told .given .0 .0))) (drop (c .before .before .before .before .before .args .top) (heldOperands (now (c .before .before .before .before .before .args .tags)) (now (c .before .before .before .before .before .args .values)))))
 
 returns-3 : tie.Need-returns-3
-returns-3 c = rw (c .before .before .item2 .given .1) (c .judge-selector .ensures ∙ judgement-leaf (selector (selectorOn (now (c .before .before .before .before .before .before .before .args .page)) (c .before .before .item2 .given .0 .0))) (drop (c .before .before .before .before .before .before .before .args .top) (heldOperands (now (c .before .before .before .before .before .before .before .args .forms)) (now (c .before .before .before .before .before .before .before .args .values)))))
+returns-3 c = rw (c .before .before .item2 .given .1) (c .judge-selector .ensures ∙ judgement-leaf (selector (selectorOn (now (c .before .before .before .before .before .before .before .args .page)) (c .before .before .item2 .given .0 .0))) (drop (c .before .before .before .before .before .before .before .args .top) (heldOperands (now (c .before .before .before .before .before .before .before .args .tags)) (now (c .before .before .before .before .before .before .before .args .values)))))
 
 returns-4 : tie.Need-returns-4
 returns-4 c = let h : c .before .before .before .before .before .before .before .args .top + 1 ≤ 256 = rw (c .before .before .enum-told2 .given .1) at (c .before .before .before .before .before .before .before .pre .1 .fits) in

@@ -1,4 +1,4 @@
--- `verdict::record::operand_count` meets its contract, record by record. Assumes nothing.
+-- `judge::record::operand_count` meets its contract, record by record. Assumes nothing.
 use borrow.Author.Needs.{needs}
 use Rattle.judge.proofs.record.operand_count.Statement.{statement}
 use Rattle.judge.proofs.record.operand_count.Tie as tie

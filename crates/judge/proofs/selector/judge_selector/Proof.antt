@@ -1,4 +1,4 @@
--- `verdict::selector::judge_selector` meets its contract: a name is empty where its ends meet. Assumes nothing.
+-- `judge::selector::judge_selector` meets its contract: a name is empty where its ends meet. Assumes nothing.
 use denote.Ref.{now}
 use Rattle.records.proofs.SpanLaws.{span-empty, span-full}
 use Rattle.judge.proofs.selector.judge_selector.Statement.{statement}

@@ -1,4 +1,4 @@
--- `util::decimal::put_three_digits` meets its contract: the pieces of its text, one after the other. Assumes nothing.
+-- `leaves::decimal::put_three_digits` meets its contract: the pieces of its text, one after the other. Assumes nothing.
 use borrow.Author.Needs.{needs}
 use denote.Ref.{now}
 use Prim.Native.Nat.{_+_, _/_, _%_}

@@ -1,4 +1,4 @@
--- `util::duration::count_len` meets its contract. Assumes nothing.
+-- `leaves::duration::count_len` meets its contract. Assumes nothing.
 use borrow.Author.Needs.{needs}
 use native.Mathlib.Omega.{arith}
 use Rattle.leaves.proofs.DurationLaws.{count-len-none, count-len-ms, count-len-one}

@@ -1,4 +1,4 @@
--- `util::duration::count_of` meets its contract. Assumes nothing.
+-- `leaves::duration::count_of` meets its contract. Assumes nothing.
 use borrow.Author.Needs.{needs}
 use Rattle.leaves.specs.Duration.{countOf}
 use Rattle.leaves.proofs.duration.count_of.Statement.{statement}

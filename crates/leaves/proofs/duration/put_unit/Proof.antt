@@ -1,4 +1,4 @@
--- `util::duration::put_unit` meets its contract. Assumes nothing.
+-- `leaves::duration::put_unit` meets its contract. Assumes nothing.
 use borrow.Author.Needs.{needs}
 use mathlib.Core.Path.{refl}
 use Rattle.base.specs.Splice.{begin, first, room, step, finish}

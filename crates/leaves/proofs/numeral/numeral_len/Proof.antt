@@ -1,4 +1,4 @@
--- `util::numeral::numeral_len` meets its contract, form by form. Assumes nothing.
+-- `leaves::numeral::numeral_len` meets its contract, form by form. Assumes nothing.
 use borrow.Author.Needs.{needs}
 use native.Mathlib.Omega.{arith}
 use Rattle.leaves.proofs.NumeralLaws.{measured-whole, measured-negative, measured-nan, measured-inf, measured-neg-inf}

@@ -1,4 +1,4 @@
--- `util::numeral::put_fill` meets its contract. Assumes nothing.
+-- `leaves::numeral::put_fill` meets its contract. Assumes nothing.
 use borrow.Author.Needs.{needs}
 use Rattle.leaves.specs.Numeral.{displayFill}
 use Rattle.leaves.proofs.numeral.put_fill.Statement.{statement}

@@ -1,4 +1,4 @@
--- `util::numeral::put_infinity` meets its contract. Assumes nothing.
+-- `leaves::numeral::put_infinity` meets its contract. Assumes nothing.
 use borrow.Author.Needs.{needs}
 use Rattle.leaves.proofs.numeral.put_infinity.Statement.{statement}
 use Rattle.leaves.proofs.numeral.put_infinity.Tie as tie

@@ -1,4 +1,4 @@
--- `util::numeral::put_literal` meets its contract. Assumes nothing.
+-- `leaves::numeral::put_literal` meets its contract. Assumes nothing.
 use borrow.Author.Needs.{needs}
 use Rattle.leaves.specs.Numeral.{displayLiteral}
 use Rattle.leaves.proofs.numeral.put_literal.Statement.{statement}

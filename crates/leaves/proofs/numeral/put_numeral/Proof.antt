@@ -1,4 +1,4 @@
--- `util::numeral::put_numeral` meets its contract, form by form. Assumes nothing.
+-- `leaves::numeral::put_numeral` meets its contract, form by form. Assumes nothing.
 use borrow.Author.Needs.{needs}
 use mathlib.Core.Path.{refl}
 use Rattle.base.specs.Splice.{begin, first, room, step, finish, cut-last}

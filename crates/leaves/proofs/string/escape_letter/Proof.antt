@@ -1,4 +1,4 @@
--- `util::string::escape_letter` meets its contract. Assumes nothing.
+-- `leaves::string::escape_letter` meets its contract. Assumes nothing.
 use borrow.Author.Tests.{ne-eqb}
 use Rattle.leaves.specs.Escape.{escapeByte, escapeWith}
 use Rattle.leaves.proofs.string.escape_letter.Statement.{statement}

@@ -1,4 +1,4 @@
--- `util::string::put_escaped` meets its contract. The loop's invariant: what is left of the text, escaped, is left to be written. Assumes nothing.
+-- `leaves::string::put_escaped` meets its contract. The loop's invariant: what is left of the text, escaped, is left to be written. Assumes nothing.
 use borrow.Author.Needs.{needs}
 use Prim.Native.Nat.{_-_}
 use lib.ListN.{length, drop}

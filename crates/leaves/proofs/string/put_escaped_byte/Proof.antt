@@ -1,4 +1,4 @@
--- `util::string::put_escaped_byte` meets its contract. Assumes nothing.
+-- `leaves::string::put_escaped_byte` meets its contract. Assumes nothing.
 use borrow.Author.Needs.{needs}
 use native.Mathlib.Omega.{arith}
 use mathlib.Core.Path.{refl, ap}

@@ -1,4 +1,4 @@
--- `util::string::put_quoted` meets its contract: the pieces of its text, one after the other. Assumes nothing.
+-- `leaves::string::put_quoted` meets its contract: the pieces of its text, one after the other. Assumes nothing.
 use borrow.Author.Needs.{needs}
 use denote.Ref.{now}
 use mathlib.Core.Path.{refl}

@@ -1,4 +1,4 @@
--- `util::string::quoted_len` meets its contract: two quotes and the escaped text. Assumes nothing.
+-- `leaves::string::quoted_len` meets its contract: two quotes and the escaped text. Assumes nothing.
 use borrow.Author.Needs.{needs}
 use denote.Ref.{now}
 use native.Mathlib.Omega.{arith}

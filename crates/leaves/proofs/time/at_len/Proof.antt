@@ -1,4 +1,4 @@
--- `util::time::at_len` meets its contract, form by form. Assumes nothing.
+-- `leaves::time::at_len` meets its contract, form by form. Assumes nothing.
 use borrow.Author.Needs.{needs}
 use native.Mathlib.Omega.{arith}
 use Rattle.leaves.proofs.TimeLaws.{displayAt-start, displayAt-end, at-len-after, at-len-before}

@@ -1,4 +1,4 @@
--- `util::time::offset_len` meets its contract, form by form. Assumes nothing.
+-- `leaves::time::offset_len` meets its contract, form by form. Assumes nothing.
 use borrow.Author.Needs.{needs}
 use native.Mathlib.Omega.{arith}
 use Rattle.leaves.proofs.TimeLaws.{displayOffset-pos, displayOffset-neg}

@@ -1,4 +1,4 @@
--- `util::time::put_at` meets its contract, form by form. Assumes nothing.
+-- `leaves::time::put_at` meets its contract, form by form. Assumes nothing.
 use borrow.Author.Needs.{needs}
 use Rattle.leaves.proofs.TimeLaws.{displayAt-start, displayAt-end, displayAt-after, displayAt-before}
 use Rattle.leaves.proofs.time.put_at.Statement.{statement}

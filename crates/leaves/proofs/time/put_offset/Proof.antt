@@ -1,4 +1,4 @@
--- `util::time::put_offset` meets its contract, form by form. Assumes nothing.
+-- `leaves::time::put_offset` meets its contract, form by form. Assumes nothing.
 use borrow.Author.Needs.{needs}
 use mathlib.Core.Path.{refl}
 use Rattle.base.specs.Splice.{begin, first, room, step, finish, cut-last}

@@ -1,4 +1,4 @@
--- `util::time::put_time` meets its contract: the pieces of its text, one after the other. Assumes nothing.
+-- `leaves::time::put_time` meets its contract: the pieces of its text, one after the other. Assumes nothing.
 use borrow.Author.Needs.{needs}
 use denote.Ref.{now}
 use Prim.Native.Nat.{_/_, _%_}

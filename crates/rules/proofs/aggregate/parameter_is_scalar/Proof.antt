@@ -1,4 +1,4 @@
--- `judge::aggregate::parameter_is_scalar` meets its contract: case by case. Assumes nothing.
+-- `rules::aggregate::parameter_is_scalar` meets its contract: case by case. Assumes nothing.
 use borrow.Author.Needs.{needs}
 use Rattle.rules.proofs.aggregate.parameter_is_scalar.Statement.{statement}
 use Rattle.rules.proofs.aggregate.parameter_is_scalar.Tie as tie

@@ -1,4 +1,4 @@
--- `judge::aggregate::parameter_is_string` meets its contract: case by case. Assumes nothing.
+-- `rules::aggregate::parameter_is_string` meets its contract: case by case. Assumes nothing.
 use borrow.Author.Needs.{needs}
 use Rattle.rules.proofs.aggregate.parameter_is_string.Statement.{statement}
 use Rattle.rules.proofs.aggregate.parameter_is_string.Tie as tie

@@ -1,4 +1,4 @@
--- `judge::binary::binary_kind` meets its contract: by the test of both sides. Assumes nothing.
+-- `rules::binary::binary_kind` meets its contract: by the test of both sides. Assumes nothing.
 use borrow.Author.Needs.{needs}
 use Rattle.rules.proofs.binary.binary_kind.Statement.{statement}
 use Rattle.rules.proofs.binary.binary_kind.Tie as tie

@@ -1,4 +1,4 @@
--- `judge::code::has_parameter` meets its contract: the three classes together. Assumes nothing.
+-- `rules::code::has_parameter` meets its contract: the three classes together. Assumes nothing.
 use borrow.Author.Needs.{needs}
 use Rattle.rules.proofs.code.has_parameter.Statement.{statement}
 use Rattle.rules.proofs.code.has_parameter.Tie as tie

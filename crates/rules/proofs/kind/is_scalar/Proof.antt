@@ -1,4 +1,4 @@
--- `judge::kind::is_scalar` meets its contract: case by case. Assumes nothing.
+-- `rules::kind::is_scalar` meets its contract: case by case. Assumes nothing.
 use borrow.Author.Needs.{needs}
 use Rattle.rules.proofs.kind.is_scalar.Statement.{statement}
 use Rattle.rules.proofs.kind.is_scalar.Tie as tie

@@ -1,4 +1,4 @@
--- `judge::kind::is_string` meets its contract: case by case. Assumes nothing.
+-- `rules::kind::is_string` meets its contract: case by case. Assumes nothing.
 use borrow.Author.Needs.{needs}
 use Rattle.rules.proofs.kind.is_string.Statement.{statement}
 use Rattle.rules.proofs.kind.is_string.Tie as tie

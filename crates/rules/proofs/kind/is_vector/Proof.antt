@@ -1,4 +1,4 @@
--- `judge::kind::is_vector` meets its contract: case by case. Assumes nothing.
+-- `rules::kind::is_vector` meets its contract: case by case. Assumes nothing.
 use borrow.Author.Needs.{needs}
 use Rattle.rules.proofs.kind.is_vector.Statement.{statement}
 use Rattle.rules.proofs.kind.is_vector.Tie as tie

@@ -1,4 +1,4 @@
--- `judge::operand::operand_at` meets its contract: the two arrays are one list of heldOperands (`StackLaws`). Assumes nothing.
+-- `rules::operand::operand_at` meets its contract: the two arrays are one list of heldOperands (`StackLaws`). Assumes nothing.
 use mathlib.Core.Path.{sym, _∙_}
 use denote.Ref.{now}
 use native.Mathlib.Omega.{arith}
@@ -20,7 +20,7 @@ operand-of-requires : tie.Need-operand-of-requires
 operand-of-requires c κs = search needs
 
 returns : tie.Need-returns
-returns c = let s = c .before .before .before .before .before .pre .0 in c .operand-of .ensures ∙ sym (heldOperands-getD (now (c .before .before .before .before .before .args .forms)) (now (c .before .before .before .before .before .args .values)) (c .before .before .before .before .before .args .i) _ _ _ (omega arith) (omega arith))
+returns c = let s = c .before .before .before .before .before .pre .0 in c .operand-of .ensures ∙ sym (heldOperands-getD (now (c .before .before .before .before .before .args .tags)) (now (c .before .before .before .before .before .args .values)) (c .before .before .before .before .before .args .i) _ _ _ (omega arith) (omega arith))
 
 pub operand-at-spec : {M : Type 1} → statement M
 operand-at-spec =

@@ -1,4 +1,4 @@
--- `judge::operand::value_of` meets its contract: case by case. Assumes nothing.
+-- `rules::operand::value_of` meets its contract: case by case. Assumes nothing.
 use lib.Ieee.{ofBits}
 use borrow.Author.Needs.{needs}
 use Rattle.rules.proofs.operand.value_of.Statement.{statement}

@@ -1,4 +1,4 @@
--- `judge::refusal::refusal_number` meets its contract: refusal by refusal. Assumes nothing.
+-- `rules::refusal::refusal_number` meets its contract: refusal by refusal. Assumes nothing.
 use borrow.Author.Needs.{needs}
 use Rattle.rules.proofs.refusal.refusal_number.Statement.{statement}
 use Rattle.rules.proofs.refusal.refusal_number.Tie as tie

@@ -1,4 +1,4 @@
--- `judge::wrapper::judge_at` meets its contract: case by case. Assumes nothing.
+-- `rules::wrapper::judge_at` meets its contract: case by case. Assumes nothing.
 use borrow.Author.Needs.{needs}
 use Rattle.rules.proofs.wrapper.judge_at.Statement.{statement}
 use Rattle.rules.proofs.wrapper.judge_at.Tie as tie

@@ -1,4 +1,4 @@
--- `judge::wrapper::judge_offset` meets its contract: case by case. Assumes nothing.
+-- `rules::wrapper::judge_offset` meets its contract: case by case. Assumes nothing.
 use borrow.Author.Needs.{needs}
 use Rattle.rules.proofs.wrapper.judge_offset.Statement.{statement}
 use Rattle.rules.proofs.wrapper.judge_offset.Tie as tie

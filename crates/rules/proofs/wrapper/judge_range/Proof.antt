@@ -1,4 +1,4 @@
--- `judge::wrapper::judge_range` meets its contract: case by case. Assumes nothing.
+-- `rules::wrapper::judge_range` meets its contract: case by case. Assumes nothing.
 use borrow.Author.Needs.{needs}
 use Rattle.rules.proofs.wrapper.judge_range.Statement.{statement}
 use Rattle.rules.proofs.wrapper.judge_range.Tie as tie

@@ -1,4 +1,4 @@
--- `judge::wrapper::judge_subquery` meets its contract: case by case. Assumes nothing.
+-- `rules::wrapper::judge_subquery` meets its contract: case by case. Assumes nothing.
 use borrow.Author.Needs.{needs}
 use Rattle.rules.proofs.wrapper.judge_subquery.Statement.{statement}
 use Rattle.rules.proofs.wrapper.judge_subquery.Tie as tie

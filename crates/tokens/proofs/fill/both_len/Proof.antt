@@ -1,4 +1,4 @@
--- `words::fill::both_len` meets its contract: one fill, or each. Assumes nothing.
+-- `tokens::fill::both_len` meets its contract: one fill, or each. Assumes nothing.
 use borrow.Author.Needs.{needs}
 use native.Mathlib.Omega.{arith}
 use mathlib.Core.Path.{ap}

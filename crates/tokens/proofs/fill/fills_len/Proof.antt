@@ -1,4 +1,4 @@
--- `words::fill::fills_len` meets its contract: the marks of the values say which fills are there. Assumes nothing.
+-- `tokens::fill::fills_len` meets its contract: the marks of the values say which fills are there. Assumes nothing.
 use borrow.Author.Needs.{needs}
 use native.Mathlib.Omega.{arith}
 use mathlib.Core.Path.{ap}

@@ -1,4 +1,4 @@
--- `words::fill::put_both` meets its contract: one fill, or each. Assumes nothing.
+-- `tokens::fill::put_both` meets its contract: one fill, or each. Assumes nothing.
 use borrow.Author.Needs.{needs}
 use mathlib.Core.Path.{refl}
 use Rattle.base.specs.Splice.{begin, first, room, step, finish, cut-last}

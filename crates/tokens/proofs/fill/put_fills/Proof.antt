@@ -1,4 +1,4 @@
--- `words::fill::put_fills` meets its contract: the marks of the values say which fills are there. Assumes nothing.
+-- `tokens::fill::put_fills` meets its contract: the marks of the values say which fills are there. Assumes nothing.
 use borrow.Author.Needs.{needs}
 use Rattle.base.specs.Splice.{begin, finish}
 use Rattle.records.specs.Answers.{fillOf}

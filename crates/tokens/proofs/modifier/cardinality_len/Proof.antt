@@ -1,4 +1,4 @@
--- `words::modifier::cardinality_len` meets its contract, form by form. Assumes nothing.
+-- `tokens::modifier::cardinality_len` meets its contract, form by form. Assumes nothing.
 use borrow.Author.Needs.{needs}
 use native.Mathlib.Omega.{arith}
 use Rattle.tokens.proofs.LabelledLaws.{length-labelledBytes, cardinality-one, cardinality-many, cardinality-left, cardinality-right}

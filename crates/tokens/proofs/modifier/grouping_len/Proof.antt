@@ -1,4 +1,4 @@
--- `words::modifier::grouping_len` meets its contract, form by form. Assumes nothing.
+-- `tokens::modifier::grouping_len` meets its contract, form by form. Assumes nothing.
 use borrow.Author.Needs.{needs}
 use native.Mathlib.Omega.{arith}
 use mathlib.Core.Path.{refl}

@@ -1,4 +1,4 @@
--- `words::modifier::matching_len` meets its contract, form by form. Assumes nothing.
+-- `tokens::modifier::matching_len` meets its contract, form by form. Assumes nothing.
 use borrow.Author.Needs.{needs}
 use native.Mathlib.Omega.{arith}
 use Rattle.tokens.proofs.LabelledLaws.{length-labelledBytes, matching-none, matching-on, matching-vanishes, matching-ignoring}

@@ -1,4 +1,4 @@
--- `words::modifier::put_grouping` meets its contract, form by form. Assumes nothing.
+-- `tokens::modifier::put_grouping` meets its contract, form by form. Assumes nothing.
 use borrow.Author.Needs.{needs}
 use mathlib.Core.Path.{refl}
 use Rattle.base.specs.Splice.{begin, first, room, step, finish, cut-last}

@@ -1,4 +1,4 @@
--- `words::token::place_of` meets its contract. Assumes nothing.
+-- `tokens::token::place_of` meets its contract. Assumes nothing.
 use borrow.Author.Needs.{needs}
 use native.Mathlib.Omega.{arith}
 use Rattle.tokens.proofs.TokenLaws.{place-zero, place-past, place-code}

@@ -1,4 +1,4 @@
--- `words::token::token_len` meets its contract. Assumes nothing.
+-- `tokens::token::token_len` meets its contract. Assumes nothing.
 use borrow.Author.Needs.{needs}
 use native.Mathlib.Omega.{arith}
 use mathlib.Core.Path.{ap}

@@ -1,4 +1,4 @@
--- `checking::walk::first_record` meets its contract. Assumes nothing.
+-- `walk::walk::first_record` meets its contract. Assumes nothing.
 use denote.Ref.{now}
 use Rattle.walk.proofs.BasesLaws.{firstOf-some}
 use borrow.Author.Needs.{needs}

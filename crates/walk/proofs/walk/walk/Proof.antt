@@ -1,4 +1,4 @@
--- `checking::walk::walk` meets its contract. The invariant, and what each way through the loop's body makes of it, stand in `WalkedSoFar`; each
+-- `walk::walk::walk` meets its contract. The invariant, and what each way through the loop's body makes of it, stand in `WalkedSoFar`; each
 -- answer here hands the values over. The measure is the records that a page may still have.
 use Prim.Native.Nat.{_-_}
 use mathlib.Core.Path.{refl, ap, _∙_}
@@ -17,15 +17,15 @@ use Rattle.walk.proofs.walk.walk.Statement.{statement}
 use Rattle.walk.proofs.walk.walk.Tie as tie
 
 abbrev Inv-loop : tie.InvT-loop
-Inv-loop page starts₀ firsts₀ forms₀ values₀ bases₀ top₀ at₀ count₀ starts firsts forms values bases top at count = WalkedSoFar page starts₀ firsts₀ starts firsts forms values bases top at count
+Inv-loop page starts₀ firsts₀ tags₀ values₀ bases₀ top₀ at₀ count₀ starts firsts tags values bases top at count = WalkedSoFar page starts₀ firsts₀ starts firsts tags values bases top at count
 
 abbrev μ-loop : tie.MeasureT-loop
-μ-loop page starts₀ firsts₀ forms₀ values₀ bases₀ top₀ at₀ count₀ starts firsts forms values bases top at count = 256 - count
+μ-loop page starts₀ firsts₀ tags₀ values₀ bases₀ top₀ at₀ count₀ starts firsts tags values bases top at count = 256 - count
 
 -- what the record that was judged leaves
 step : (c : tie.After-bases Inv-loop μ-loop) →
     let k = c .before .before .before .before .before .before .before .before .before .before .before .before .before .before in
-    Next (now (k .before .before .before .before .before .args .page)) (now (k .before .before .before .before .before .args .starts)) (now (k .before .before .before .before .before .args .firsts)) (k .loop .starts) (k .loop .firsts) (k .loop .forms) (k .loop .values) (k .loop .bases) (k .loop .top) (k .loop .at) (k .loop .count)
+    Next (now (k .before .before .before .before .before .args .page)) (now (k .before .before .before .before .before .args .starts)) (now (k .before .before .before .before .before .args .firsts)) (k .loop .starts) (k .loop .firsts) (k .loop .tags) (k .loop .values) (k .loop .bases) (k .loop .top) (k .loop .at) (k .loop .count)
     (c .before .before .before .before .before .before .before .operand-count .result) (c .before .before .before .before .before .before .before .before .before .item .given .0 .1 .0) (operandMeant (c .before .before .operand .given .0 .0))
 step c =
     let k = c .before .before .before .before .before .before .before .before .before .before .before .before .before .before in
@@ -37,7 +37,7 @@ returns : tie.Need-returns Inv-loop μ-loop
 returns c = record { says = too-long-refused (c .if1 .taken) (c .before .before .before .before .pre .0) (c .before .before .before .before .pre .1); starts-kept = refl; firsts-kept = refl }
 
 loop-holds : tie.Need-loop-holds Inv-loop μ-loop
-loop-holds c = walked-start (c .if1 .left) (record { forms-size = refl; values-size = refl }) refl (c .before .before .before .before .pre .0) (c .before .before .before .before .pre .1)
+loop-holds c = walked-start (c .if1 .left) (record { tags-size = refl; values-size = refl }) refl (c .before .before .before .before .pre .0) (c .before .before .before .before .pre .1)
 
 same-length : tie.Need-same-length Inv-loop μ-loop
 same-length c = omega (arith, c .before .before .loop .inv .tables .starts-size, c .before .before .before .before .before .before .before .pre .0)
@@ -142,11 +142,11 @@ add-top c = omega (arith, step (c .before) .high)
 sub-top : tie.Need-sub-top Inv-loop μ-loop
 sub-top c = omega (arith, step (c .before) .low)
 
-form-of-requires : tie.Need-form-of-requires Inv-loop μ-loop
-form-of-requires c κs = search needs
+tag-of-requires : tie.Need-tag-of-requires Inv-loop μ-loop
+tag-of-requires c κs = search needs
 
-array-write-forms : tie.Need-array-write-forms Inv-loop μ-loop
-array-write-forms c = omega (arith, step (c .before .before) .high, step (c .before .before) .low)
+array-write-tags : tie.Need-array-write-tags Inv-loop μ-loop
+array-write-tags c = omega (arith, step (c .before .before) .high, step (c .before .before) .low)
 
 value-of-requires : tie.Need-value-of-requires Inv-loop μ-loop
 value-of-requires c κs = search needs
@@ -170,7 +170,7 @@ loop-less : tie.Need-loop-less Inv-loop μ-loop
 loop-less c = omega (arith, c .before .before .before .before .before .before .before .before .before .before .before .before .before .before .before .before .before .before .loop .inv .progress .count-range, c .before .before .before .before .before .before .before .before .before .before .before .before .before .before .before .before .if2 .left)
 
 loop-again : tie.Need-loop-again Inv-loop μ-loop
-loop-again c = rw (c .before .before .form-of .ensures, c .before .value-of .ensures, c .before .before .before .first-record .ensures) (step (c .before .before .before .before) .walked-again (c .within .result) (c .within .ensures))
+loop-again c = rw (c .before .before .tag-of .ensures, c .before .value-of .ensures, c .before .before .before .first-record .ensures) (step (c .before .before .before .before) .walked-again (c .within .result) (c .within .ensures))
 
 same-length-7 : tie.Need-same-length-7 Inv-loop μ-loop
 same-length-7 c = omega (arith, c .before .before .loop .inv .tables .starts-size, c .before .before .before .before .before .before .before .pre .0)
@@ -247,8 +247,8 @@ walk-spec =
     slice-write-firsts
     add-top
     sub-top
-    form-of-requires
-    array-write-forms
+    tag-of-requires
+    array-write-tags
     value-of-requires
     mul-values
     array-write-values

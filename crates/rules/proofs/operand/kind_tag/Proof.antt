@@ -1,7 +1,7 @@
--- `judge::operand::kind_form` meets its contract: case by case. Assumes nothing.
+-- `rules::operand::kind_tag` meets its contract: case by case. Assumes nothing.
 use borrow.Author.Needs.{needs}
-use Rattle.rules.proofs.operand.kind_form.Statement.{statement}
-use Rattle.rules.proofs.operand.kind_form.Tie as tie
+use Rattle.rules.proofs.operand.kind_tag.Statement.{statement}
+use Rattle.rules.proofs.operand.kind_tag.Tie as tie
 
 enum-told : tie.Need-enum-told
 enum-told c = search needs
@@ -27,7 +27,7 @@ returns-3 c = rw (c .enum-told3 .given .1)
 returns-4 : tie.Need-returns-4
 returns-4 c = rw (c .enum-told4 .given .1)
 
-pub kind-form-spec : {M : Type 1} → statement M
-kind-form-spec =
+pub kind-tag-spec : {M : Type 1} → statement M
+kind-tag-spec =
     tie.close
     (tie.spec enum-told enum-told-2 enum-told-3 enum-told-4 returns returns-2 returns-3 returns-4)

@@ -1,12 +1,12 @@
-// The forms of nodes' texts, and which of them is a minus.
+// The shapes of nodes' texts, and which of them is a minus.
 use crate::Foot;
 use crate::Node;
 ghost use mathlib.Core.Path.{_≡_};
-ghost use Rattle.view.specs.View.{isMinus, formOf};
+ghost use Rattle.view.specs.View.{isMinus, shapeOf};
 
 // The way in which a node's text is put together: a text of its own, a minus before the operand, a suffix after it, operands in
 // brackets after a head, an operator between two.
-pub enum Form {
+pub enum Shape {
     Whole,
     Minus,
     Suffixed,
@@ -14,20 +14,20 @@ pub enum Form {
     Infixed,
 }
 
-pub fn form_of(node: Node) -> Form
-    ensures { λ r. ⌜ r ≡ formOf (node .foot) ⌝ }
+pub fn shape_of(node: Node) -> Shape
+    ensures { λ r. ⌜ r ≡ shapeOf (node .foot) ⌝ }
 {
     let foot = node.foot;
     match foot {
-        Foot::Number => Form::Whole,
-        Foot::String => Form::Whole,
-        Foot::Selector => Form::Whole,
-        Foot::Subquery => Form::Suffixed,
-        Foot::Unary => Form::Minus,
-        Foot::Paren => Form::Enclosed,
-        Foot::Binary => Form::Infixed,
-        Foot::Aggregate => Form::Enclosed,
-        Foot::Call => Form::Enclosed,
+        Foot::Number => Shape::Whole,
+        Foot::String => Shape::Whole,
+        Foot::Selector => Shape::Whole,
+        Foot::Subquery => Shape::Suffixed,
+        Foot::Unary => Shape::Minus,
+        Foot::Paren => Shape::Enclosed,
+        Foot::Binary => Shape::Infixed,
+        Foot::Aggregate => Shape::Enclosed,
+        Foot::Call => Shape::Enclosed,
     }
 }
 

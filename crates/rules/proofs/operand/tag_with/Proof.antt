@@ -1,7 +1,7 @@
--- `judge::operand::marked` meets its contract: case by case. Assumes nothing.
+-- `rules::operand::tag_with` meets its contract: case by case. Assumes nothing.
 use borrow.Author.Needs.{needs}
-use Rattle.rules.proofs.operand.marked.Statement.{statement}
-use Rattle.rules.proofs.operand.marked.Tie as tie
+use Rattle.rules.proofs.operand.tag_with.Statement.{statement}
+use Rattle.rules.proofs.operand.tag_with.Tie as tie
 
 add-result : tie.Need-add-result
 add-result c = search needs
@@ -24,6 +24,6 @@ returns-3 c = simp (c .before .if1 .left, c .if3 .taken)
 returns-4 : tie.Need-returns-4
 returns-4 c = simp (c .before .if1 .left, c .if3 .left)
 
-pub marked-spec : {M : Type 1} → statement M
-marked-spec =
+pub tag_with-spec : {M : Type 1} → statement M
+tag_with-spec =
     tie.close (tie.spec add-result returns add-result-2 returns-2 add-result-3 returns-3 returns-4)
