@@ -28,7 +28,7 @@ static void test_null(void) {
     expect(sandzguli_joint_label(NULL, 0) == 0, "joint_label takes NULL");
 }
 
-/* `up`: 5 with too little room and an unchanged buffer, then its text and nothing behind it. */
+/* `up`: 5 with too little room and an unchanged buffer, then its text and nothing after it. */
 static void test_up(void) {
     const uint8_t up[] = {0x02, 0x02, 'u', 'p', 0x00};
     uint8_t out[4] = {'a', 'b', 'c', 'd'};
@@ -101,7 +101,7 @@ static void test_names(void) {
     expect(is_refused_with(sandzguli_refusal_name(1, NULL, 0), SANDZGULI_OUTPUT_TOO_SHORT, 0), "a name needs room");
 }
 
-/* Every name fits, and the bytes behind it stay as they were. */
+/* Every name fits, and the bytes after it stay as they were. */
 static void test_name_bytes(void) {
     for (uint64_t number = 0; number < 256; number++) {
         uint8_t out[SANDZGULI_NAME_BYTES + 1];

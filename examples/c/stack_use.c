@@ -82,7 +82,7 @@ struct records {
 /* @ 10^15 ms, offset -2^53 ms. */
 #define LONG_TIMES "\x05\x02\x80\x80\x9a\xa6\xea\xaf\xe3\x01\x06\x01\x80\x80\x80\x80\x80\x80\x80\x10"
 
-/* The innermost part: a name, or 16 matchers; then the longest numbers behind it. */
+/* The innermost part: a name, or 16 matchers; then the longest numbers after it. */
 static const struct records leaves[] = {
     RECORDS(1, UP),
     RECORDS(1, MATCHING),
@@ -90,7 +90,7 @@ static const struct records leaves[] = {
     RECORDS(3, MATCHING LONG_TIMES),
 };
 
-/* What stands before and behind the leaf, as often as there is room for. */
+/* What stands before and after the leaf, as often as there is room for. */
 static const struct {
     struct records before;
     struct records behind;

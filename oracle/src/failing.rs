@@ -24,7 +24,7 @@ const PAGES: &[&[&str]] = &[
     &["(023b 61*59; 00)*4; (023a 61*58; 00)*60;", "(023a 61*58; 00)*64;", "(090600)*127;"],
 ];
 
-/// What the program says of such an input, behind its name.
+/// What the program says of such an input, after its name.
 const UNREADABLE: &str = "the input cannot be read";
 
 /// What was run without a fault.

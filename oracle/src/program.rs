@@ -60,7 +60,7 @@ fn run(mut child: Child, page: &[u8], pieces: usize) -> io::Result<Written> {
     thread::scope(|scope| {
         scope.spawn(move || {
             for piece in page.chunks(page.len().div_ceil(pieces).max(1)) {
-                // The program may stop reading behind the limit; then the pipe is closed.
+                // The program may stop reading after the limit; then the pipe is closed.
                 let _ = input.write_all(piece);
                 if pieces > 1 {
                     thread::sleep(Duration::from_millis(5));

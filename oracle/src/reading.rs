@@ -38,7 +38,7 @@ pub fn compare(seed: u64, rounds: usize, program: &mut Command) -> Result<Tally,
     }
 }
 
-/// Writes each page behind its length (four bytes, lowest first), and hands it to the comparing side.
+/// Writes each page after its length (four bytes, lowest first), and hands it to the comparing side.
 fn send(seed: u64, rounds: usize, input: ChildStdin, sent: &Sender<Vec<u8>>) -> io::Result<()> {
     let mut input = BufWriter::new(input);
     let mut random = Random::new(seed);

@@ -40,7 +40,7 @@ pub struct Guarded {
 }
 
 impl Guarded {
-    /// `size` bytes, a multiple of the machine's page, with a guard before and behind them.
+    /// `size` bytes, a multiple of the machine's page, with a guard before and after them.
     pub fn new(size: usize) -> Self {
         assert_eq!(size % GUARD, 0, "the guards lie on whole pages");
         // SAFETY: a fresh mapping; its middle part lies inside it.

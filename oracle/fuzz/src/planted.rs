@@ -31,7 +31,7 @@ unsafe extern "C" fn misnumbering(page: *const u8, length: usize) -> u64 {
     word + u64::from(is_offset_twice(word)) * 65_536
 }
 
-/// Reads a byte behind the page.
+/// Reads a byte after the page.
 unsafe extern "C" fn straying(page: *const u8, length: usize) -> u64 {
     // SAFETY: the caller's page.
     let word = unsafe { (Library::linked().check)(page, length) };

@@ -38,7 +38,7 @@ pub enum Record {
     Binary {
         /// The operator.
         code: Code,
-        /// What stands behind it.
+        /// What stands after it.
         modifier: Option<BinModifier>,
     },
     /// An aggregator over its arguments.

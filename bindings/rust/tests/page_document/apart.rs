@@ -117,7 +117,7 @@ fn answers_and_words_are_the_librarys() {
         let calls = apart.words.iter().map(|(call, _)| *call);
         let given: Vec<_> = calls.map(|call| (call, word(call, &apart.page))).collect();
         assert_eq!(given, apart.words);
-        // A refusal has its label's place behind the words, an answer its length.
+        // A refusal has its label's place after the words, an answer its length.
         let bytes = format!("({} bytes", apart.answer.len());
         let is_label = given[1].0 == "joint_label";
         assert!(is_label || apart.text.contains(&bytes), "{bytes}");

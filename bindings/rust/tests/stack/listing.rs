@@ -49,7 +49,7 @@ fn relocation(line: &str) -> Option<&str> {
     Some(symbol[..end].trim_start_matches(".text."))
 }
 
-/// The functions of a listing. A relocation stands behind the instruction whose operand it is.
+/// The functions of a listing. A relocation stands after the instruction whose operand it is.
 pub fn functions(listing: &str) -> Functions {
     let mut functions = Functions::new();
     let mut function = "";

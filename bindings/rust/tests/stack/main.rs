@@ -101,7 +101,7 @@ impl Code {
         frame.unwrap_or_else(|| panic!("how much does {function} use?"))
     }
 
-    /// Bytes of the deepest chain of calls from a function on, behind pairs over records of which the widest has so
+    /// Bytes of the deepest chain of calls from a function on, after pairs over records of which the widest has so
     /// many. One round of each pair is counted where the chain comes to it, all others as rounds of the widest.
     fn deepest(&self, function: &str, widest: usize) -> usize {
         let rounds = |widest| (RECORDS - 1) * widest;
@@ -138,7 +138,7 @@ fn no_call_uses_more_stack_than_is_said() {
     assert!(sums["sandzguli_split"] > sums["sandzguli_canonical"]);
 }
 
-/// A function that calls itself over records, and another such one behind it.
+/// A function that calls itself over records, and another such one after it.
 const MADE: &str = "
 0000000000000000 <sandzguli_made>:
    0:	sub    $0x18,%rsp

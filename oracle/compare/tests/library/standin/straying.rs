@@ -34,7 +34,7 @@ pub const ALL: [&str; 4] = [
 ];
 
 extern "C" fn reads_behind(page: *const u8, length: usize) -> u64 {
-    // SAFETY: none, that is the fault: the byte behind the page.
+    // SAFETY: none, that is the fault: the byte after the page.
     let _ = unsafe { page.add(length).read_volatile() };
     check(page, length)
 }
@@ -51,7 +51,7 @@ extern "C" fn writes_behind(
     out: *mut u8,
     out_length: usize,
 ) -> u64 {
-    // SAFETY: none, that is the fault: the byte behind the buffer, with the value that it has.
+    // SAFETY: none, that is the fault: the byte after the buffer, with the value that it has.
     unsafe {
         let behind = out.add(out_length);
         behind.write_volatile(behind.read_volatile());
