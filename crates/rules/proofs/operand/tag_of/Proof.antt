@@ -12,20 +12,20 @@ enum-told-2 c = search needs
 enum-known-operand : tie.Need-enum-known-operand
 enum-known-operand c = search needs
 
-tag_with-requires : tie.Need-tag_with-requires
-tag_with-requires c κs = search needs
+tag-with-requires : tie.Need-tag-with-requires
+tag-with-requires c κs = search needs
 
 enum-known-operand-2 : tie.Need-enum-known-operand-2
 enum-known-operand-2 c = search needs
 
-tag_with-requires-2 : tie.Need-tag_with-requires-2
-tag_with-requires-2 c κs = search needs
+tag-with-requires-2 : tie.Need-tag-with-requires-2
+tag-with-requires-2 c κs = search needs
 
 enum-known-operand-3 : tie.Need-enum-known-operand-3
 enum-known-operand-3 c = search needs
 
-tag_with-requires-3 : tie.Need-tag_with-requires-3
-tag_with-requires-3 c κs = search needs
+tag-with-requires-3 : tie.Need-tag-with-requires-3
+tag-with-requires-3 c κs = search needs
 
 enum-known-operand-4 : tie.Need-enum-known-operand-4
 enum-known-operand-4 c = search needs
@@ -40,13 +40,13 @@ returns-2 : tie.Need-returns-2
 returns-2 c = search needs
 
 returns-3 : tie.Need-returns-3
-returns-3 c = rw (c .before .before .operand .given .1) (c .tag_with .ensures)
+returns-3 c = rw (c .before .before .operand .given .1) (c .tag-with .ensures)
 
 returns-4 : tie.Need-returns-4
-returns-4 c = rw (c .before .before .operand2 .given .1) (c .tag_with2 .ensures)
+returns-4 c = rw (c .before .before .operand2 .given .1) (c .tag-with2 .ensures)
 
 returns-5 : tie.Need-returns-5
-returns-5 c = rw (c .before .before .operand3 .given .1) (c .tag_with3 .ensures)
+returns-5 c = rw (c .before .before .operand3 .given .1) (c .tag-with3 .ensures)
 
 returns-6 : tie.Need-returns-6
 returns-6 c = rw (c .before .before .operand4 .given .1) (c .kind-tag .ensures)
@@ -58,11 +58,11 @@ tag-of-spec =
     enum-told
     enum-told-2
     enum-known-operand
-    tag_with-requires
+    tag-with-requires
     enum-known-operand-2
-    tag_with-requires-2
+    tag-with-requires-2
     enum-known-operand-3
-    tag_with-requires-3
+    tag-with-requires-3
     enum-known-operand-4
     kind-tag-requires
     returns

@@ -24,6 +24,6 @@ returns-3 c = simp (c .before .if1 .left, c .if3 .taken)
 returns-4 : tie.Need-returns-4
 returns-4 c = simp (c .before .if1 .left, c .if3 .left)
 
-pub tag_with-spec : {M : Type 1} → statement M
-tag_with-spec =
+pub tag-with-spec : {M : Type 1} → statement M
+tag-with-spec =
     tie.close (tie.spec add-result returns add-result-2 returns-2 add-result-3 returns-3 returns-4)
