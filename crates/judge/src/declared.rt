@@ -1,24 +1,14 @@
 // Declared kinds of a signature, which stay on the page and are read again.
 use records::Kind;
 use records::KindField;
+use records::kind_number;
 use records::read_kind;
 ghost use mathlib.Core.Bool.{not};
 ghost use mathlib.Core.Path.{_≡_};
 ghost use Rattle.page.specs.Bytes.{isEmpty};
-ghost use Rattle.records.specs.Kind.{kindNumber, equalKind};
+ghost use Rattle.records.specs.Kind.{equalKind};
 ghost use Rattle.records.specs.Answers.{kindOf, kindsOn};
 ghost use Rattle.judge.specs.Call.{declaredMeant, nextKind};
-
-fn kind_number(kind: Kind) -> u8
-    ensures { λ r. ⌜ r ≡ kindNumber (kindOf kind) ⌝ }
-{
-    match kind {
-        Kind::Vector => 0,
-        Kind::Scalar => 1,
-        Kind::Matrix => 2,
-        Kind::String => 3,
-    }
-}
 
 pub fn same_kind(a: Kind, b: Kind) -> bool
     ensures { λ r. ⌜ r ≡ equalKind (kindOf a) (kindOf b) ⌝ }

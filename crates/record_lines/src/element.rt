@@ -1,12 +1,12 @@
 // The elements of lists as numbers, read again where they stand: labels, matchers, kinds.
 use crate::number::Numbers;
 use crate::number::flag_number;
-use crate::number::kind_number;
 use page::Fault;
 use page::Span;
 use page::Text;
 use page::TextClass;
 use page::read_text;
+use records::kind_number;
 ghost use mathlib.Core.Path.{_≡_};
 ghost use mathlib.Core.List.{_∷_, _++_};
 ghost use lib.ListN.{drop};

@@ -1,15 +1,12 @@
 // Parts of a record that are one or two numbers.
 use crate::line::put_spaced;
 use records::AtModifier;
-use records::Kind;
 use records::Literal;
 use records::Offset;
 use records::OptionalDuration;
 use records::Variadic;
 ghost use mathlib.Core.Path.{_≡_};
 ghost use Prim.Native.Nat.{_-_};
-ghost use Rattle.records.specs.Kind.{kindNumber};
-ghost use Rattle.records.specs.Answers.{kindOf};
 ghost use Rattle.record_lines.specs.Line.{Shows};
 ghost use Rattle.record_lines.specs.Numbers.{spanNumbers, flagNumber, literalNumbers, stepNumbers, atNumbers, offsetNumbers, variadicNumbers};
 ghost use Rattle.record_lines.specs.Answers.{numbersOf};
@@ -57,17 +54,6 @@ pub fn flag_number(flag: bool) -> u64
         return 1;
     }
     0
-}
-
-pub fn kind_number(kind: Kind) -> u64
-    ensures { λ r. ⌜ r ≡ kindNumber (kindOf kind) ⌝ }
-{
-    match kind {
-        Kind::Vector => 0,
-        Kind::Scalar => 1,
-        Kind::Matrix => 2,
-        Kind::String => 3,
-    }
 }
 
 fn literal_numbers(literal: Literal) -> Numbers

@@ -4,8 +4,9 @@ ghost use lib.ListN.{drop};
 ghost use Rattle.page.specs.Read.{repeat};
 ghost use Rattle.page.specs.Text.{readList};
 ghost use Rattle.page.specs.Answers.{listAt, listStored};
+ghost use Rattle.records.specs.Kind.{kindNumber};
 ghost use Rattle.records.specs.Field.{readFlag, readKind};
-ghost use Rattle.records.specs.Answers.{flagAt, kindAt};
+ghost use Rattle.records.specs.Answers.{kindOf, flagAt, kindAt};
 
 // 0 or 1, and the position after it.
 pub enum Flag {
@@ -31,6 +32,18 @@ pub enum Kind {
     Scalar,
     Matrix,
     String,
+}
+
+// The number that stands for a kind on a page.
+pub fn kind_number(kind: Kind) -> u64
+    ensures { λ r. ⌜ r ≡ kindNumber (kindOf kind) ⌝ }
+{
+    match kind {
+        Kind::Vector => 0,
+        Kind::Scalar => 1,
+        Kind::Matrix => 2,
+        Kind::String => 3,
+    }
 }
 
 // A kind and the position after it.

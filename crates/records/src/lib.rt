@@ -11,6 +11,7 @@ pub mod time;
 pub use kind::Flag;
 pub use kind::Kind;
 pub use kind::KindField;
+pub use kind::kind_number;
 pub use kind::kinds_from;
 pub use kind::read_flag;
 pub use kind::read_kind;

@@ -1,23 +1,10 @@
 // An outcome as one 64-bit word, for C (house format).
-use records::Kind;
+use records::kind_number;
 use rules::refusal::refusal_number;
 use walk::Outcome;
 ghost use mathlib.Core.Path.{_≡_};
-ghost use Rattle.records.specs.Kind.{kindNumber};
-ghost use Rattle.records.specs.Answers.{kindOf};
 ghost use Rattle.walk.specs.Answers.{outcomeMeant};
 ghost use Rattle.sandzguli.specs.Words.{outcomeWord, FitsWord};
-
-fn kind_number(kind: Kind) -> u64
-    ensures { λ r. ⌜ r ≡ kindNumber (kindOf kind) ⌝ }
-{
-    match kind {
-        Kind::Vector => 0,
-        Kind::Scalar => 1,
-        Kind::Matrix => 2,
-        Kind::String => 3,
-    }
-}
 
 // Accepted: four times the count of bytes, and the kind. Refused: the highest bit, the refusal's number, the record.
 pub fn outcome_word(outcome: Outcome) -> u64
