@@ -1,4 +1,4 @@
-// What a record makes of the stack, and how many operands it takes.
+// What a record makes of the stack.
 use crate::call::judge_call;
 use crate::modifier::judge_binary;
 use crate::selector::judge_selector;
@@ -15,35 +15,13 @@ use rules::wrapper::judge_paren;
 use rules::wrapper::judge_range;
 use rules::wrapper::judge_subquery;
 use rules::wrapper::judge_unary;
-ghost use Prim.Native.Nat.{ℕ};
-ghost use mathlib.Core.List.{List};
 ghost use mathlib.Core.Path.{_≡_};
 ghost use lib.ListN.{drop};
-ghost use Rattle.records.specs.Record.{operands};
 ghost use Rattle.reader.specs.Answers.{recordOn};
 ghost use Rattle.ast.specs.Judge.{judgement};
 ghost use Rattle.rules.specs.Answers.{verdictMeant};
 ghost use Rattle.rules.specs.Stack.{heldOperands, Sized};
 ghost use Rattle.judge.specs.Judgeable.{Judgeable};
-
-pub fn operand_count(item: Record) -> usize
-    ensures { λ r. ⌜ ((page : List ℕ) → r ≡ operands (recordOn page item)) ⌝ }
-{
-    match item {
-        Record::Number(_) => 0,
-        Record::String(_) => 0,
-        Record::Selector(_) => 0,
-        Record::Range(_) => 1,
-        Record::Subquery(_, _) => 1,
-        Record::At(_) => 1,
-        Record::Offset(_) => 1,
-        Record::Unary => 1,
-        Record::Paren => 1,
-        Record::Binary(_, _) => 2,
-        Record::Aggregate(_, _, count) => count,
-        Record::Call(_, count) => count,
-    }
-}
 
 // The operands are there: they lie from `top` on, the last one first.
 pub fn judge_record(page: &[u8], item: Record, tags: &[u8], values: &[f64], top: usize) -> Verdict

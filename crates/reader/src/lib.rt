@@ -22,12 +22,14 @@ use records::read_matchers;
 use records::read_modifier;
 use records::read_offset;
 use records::read_optional_duration;
+ghost use Prim.Native.Nat.{ℕ};
+ghost use mathlib.Core.List.{List};
 ghost use mathlib.Core.Path.{_≡_};
 ghost use lib.ListN.{drop};
 ghost use Rattle.page.specs.Read.{readerAt};
 ghost use Rattle.page.specs.Answers.{numberAt};
-ghost use Rattle.records.specs.Record.{readCode, recordForms, readRecord};
-ghost use Rattle.reader.specs.Answers.{recordAt, recordLies};
+ghost use Rattle.records.specs.Record.{operands, readCode, recordForms, readRecord};
+ghost use Rattle.reader.specs.Answers.{recordOn, recordAt, recordLies};
 
 // A selector: its name, a part without bytes where there is none, the start of its first matcher and their count, and what the
 // check asks of them: whether one is named `__name__`, and whether all accept empty text.
@@ -52,6 +54,26 @@ pub enum Record {
     Binary(u64, Modifier),
     Aggregate(u64, LabelModifier, usize),
     Call(Function, usize),
+}
+
+// How many operands a record takes.
+pub fn operand_count(item: Record) -> usize
+    ensures { λ r. ⌜ ((page : List ℕ) → r ≡ operands (recordOn page item)) ⌝ }
+{
+    match item {
+        Record::Number(_) => 0,
+        Record::String(_) => 0,
+        Record::Selector(_) => 0,
+        Record::Range(_) => 1,
+        Record::Subquery(_, _) => 1,
+        Record::At(_) => 1,
+        Record::Offset(_) => 1,
+        Record::Unary => 1,
+        Record::Paren => 1,
+        Record::Binary(_, _) => 2,
+        Record::Aggregate(_, _, count) => count,
+        Record::Call(_, count) => count,
+    }
 }
 
 // A record and the position after it.

@@ -5,7 +5,6 @@ pub mod shape;
 
 pub use literal::Signed;
 pub use literal::signed_literal;
-use reader::Record;
 pub use shape::Shape;
 pub use shape::is_minus;
 pub use shape::shape_of;
@@ -61,20 +60,7 @@ fn operands_at(page: &[u8], starts: &[u16], i: usize) -> usize
 {
     let start = starts[i] as usize;
     match reader::read_record(page, start) {
-        reader::RecordField::Got(item, _) => match item {
-            Record::Number(_) => 0,
-            Record::String(_) => 0,
-            Record::Selector(_) => 0,
-            Record::Range(_) => 1,
-            Record::Subquery(_, _) => 1,
-            Record::At(_) => 1,
-            Record::Offset(_) => 1,
-            Record::Unary => 1,
-            Record::Paren => 1,
-            Record::Binary(_, _) => 2,
-            Record::Aggregate(_, _, n) => n,
-            Record::Call(_, n) => n,
-        },
+        reader::RecordField::Got(item, _) => reader::operand_count(item),
         reader::RecordField::Bad(_) => 0,
     }
 }

@@ -3,9 +3,9 @@
 // the record ends.
 use crate::answer::field_refusal;
 use judge::record::judge_record;
-use judge::record::operand_count;
 use reader::Record;
 use reader::RecordField;
+use reader::operand_count;
 use reader::read_record;
 use records::Kind;
 use rules::Refusal;

@@ -1,7 +1,7 @@
--- `judge::record::operand_count` meets its contract, record by record. Assumes nothing.
+-- `reader::operand_count` meets its contract, record by record. Assumes nothing.
 use borrow.Author.Needs.{needs}
-use Rattle.judge.proofs.record.operand_count.Statement.{statement}
-use Rattle.judge.proofs.record.operand_count.Tie as tie
+use Rattle.reader.proofs.operand_count.Statement.{statement}
+use Rattle.reader.proofs.operand_count.Tie as tie
 
 enum-told : tie.Need-enum-told
 enum-told c = search needs
