@@ -1,7 +1,7 @@
 -- The refusal table on heldOperands: what a record makes of the heldOperands of its operands. Constructors (refusals 6 to 15) and checks (16 to 34)
 -- of one record stand together; the rows are those of `CheckAst`. That this is what the trees do is proved in proofs/OperandLaws.
 use Prim.Native.Nat.{ℕ}
-use mathlib.Core.Bool.{Bool, true, false, _&&_, _||_}
+use mathlib.Core.Bool.{Bool, true, false, _&&_, _||_, not}
 use mathlib.Core.List.{List, [], _∷_, _++_, map}
 use mathlib.Core.Option.{Option, none, some}
 use lib.ListN.{length, drop}
@@ -57,23 +57,22 @@ abbrev pub setMark : ℕ → Bool → Operand → Result Operand
 setMark n true x = refused n
 setMark n false x = ok x
 
+-- @ set on an operand, or else offset: the first refusal where it is set already, the second on an operand that has none
+abbrev pub judgeMark : Bool → ℕ → ℕ → Operand → Result Operand
+judgeMark isAt twice without (numberOperand x) = refused without
+judgeMark isAt twice without stringOperand = refused without
+judgeMark isAt twice without (selectorOperand a o) = setMark twice (pick isAt a o) (selectorOperand (isAt || a) (not isAt || o))
+judgeMark isAt twice without (rangeOperand a o) = setMark twice (pick isAt a o) (rangeOperand (isAt || a) (not isAt || o))
+judgeMark isAt twice without (subqueryOperand a o) = setMark twice (pick isAt a o) (subqueryOperand (isAt || a) (not isAt || o))
+judgeMark isAt twice without (otherOperand k) = refused without
+
 -- `at_expr`: 10 where it is set already, 11 on an operand that has none
 abbrev pub judgeAt : Operand → Result Operand
-judgeAt (numberOperand x) = refused 11
-judgeAt stringOperand = refused 11
-judgeAt (selectorOperand a o) = setMark 10 a (selectorOperand true o)
-judgeAt (rangeOperand a o) = setMark 10 a (rangeOperand true o)
-judgeAt (subqueryOperand a o) = setMark 10 a (subqueryOperand true o)
-judgeAt (otherOperand k) = refused 11
+judgeAt x = judgeMark true 10 11 x
 
 -- `offset_expr`: 12 where it is set already, 13 on an operand that has none
 abbrev pub judgeOffset : Operand → Result Operand
-judgeOffset (numberOperand x) = refused 13
-judgeOffset stringOperand = refused 13
-judgeOffset (selectorOperand a o) = setMark 12 o (selectorOperand a true)
-judgeOffset (rangeOperand a o) = setMark 12 o (rangeOperand a true)
-judgeOffset (subqueryOperand a o) = setMark 12 o (subqueryOperand a true)
-judgeOffset (otherOperand k) = refused 13
+judgeOffset x = judgeMark false 12 13 x
 
 -- `new_subquery_expr`, then 32
 abbrev pub judgeSubquery : Operand → Result Operand

@@ -7,10 +7,11 @@ use crate::refusal::Refusal;
 use crate::refusal::Verdict;
 use records::Kind;
 ghost use mathlib.Core.Path.{_≡_};
+ghost use Rattle.page.specs.Bytes.{pick};
 ghost use Rattle.ast.specs.Refusal.{ok};
 ghost use Rattle.ast.specs.Operand.{otherOperand, operandKind};
-ghost use Rattle.ast.specs.Judge.{judgeUnary, judgeRange, judgeAt, judgeOffset, judgeSubquery};
-ghost use Rattle.rules.specs.Answers.{operandMeant, verdictMeant};
+ghost use Rattle.ast.specs.Judge.{judgeUnary, judgeRange, judgeMark, judgeAt, judgeOffset, judgeSubquery};
+ghost use Rattle.rules.specs.Answers.{operandMeant, refusalNumber, verdictMeant};
 
 // A number is negated; 6 on a string literal or a range selector, 31 on another operand that is no scalar or vector.
 pub fn judge_unary(operand: Operand) -> Verdict
@@ -54,62 +55,62 @@ pub fn judge_range(operand: Operand) -> Verdict
     }
 }
 
+// Whether @, or else offset, is set.
+fn is_marked(is_at: bool, at: bool, offset: bool) -> bool
+    ensures { λ r. ⌜ r ≡ pick «is_at» at offset ⌝ }
+{
+    if is_at {
+        return at;
+    }
+    offset
+}
+
+// @ set on a operand, or else offset: the first refusal where it is set already, the second on a operand that has none.
+fn judge_mark(operand: Operand, is_at: bool, twice: Refusal, without: Refusal) -> Verdict
+    ensures { λ r. ⌜ verdictMeant r ≡ judgeMark «is_at» (refusalNumber twice) (refusalNumber without) (operandMeant operand) ⌝ }
+{
+    match operand {
+        Operand::Number(_) => Verdict::Refused(without),
+        Operand::String => Verdict::Refused(without),
+        Operand::Selector(at, offset) => {
+            if is_marked(is_at, at, offset) {
+                return Verdict::Refused(twice);
+            }
+            Verdict::Put(Operand::Selector(is_at | at, !is_at | offset))
+        }
+        Operand::Range(at, offset) => {
+            if is_marked(is_at, at, offset) {
+                return Verdict::Refused(twice);
+            }
+            Verdict::Put(Operand::Range(is_at | at, !is_at | offset))
+        }
+        Operand::Subquery(at, offset) => {
+            if is_marked(is_at, at, offset) {
+                return Verdict::Refused(twice);
+            }
+            Verdict::Put(Operand::Subquery(is_at | at, !is_at | offset))
+        }
+        Operand::Other(_) => Verdict::Refused(without),
+    }
+}
+
 // 10 where @ is set already, 11 on a operand that has none.
 pub fn judge_at(operand: Operand) -> Verdict
     ensures { λ r. ⌜ verdictMeant r ≡ judgeAt (operandMeant operand) ⌝ }
 {
-    match operand {
-        Operand::Number(_) => Verdict::Refused(Refusal::AtOnNoSelector),
-        Operand::String => Verdict::Refused(Refusal::AtOnNoSelector),
-        Operand::Selector(at, offset) => {
-            if at {
-                return Verdict::Refused(Refusal::AtTwice);
-            }
-            Verdict::Put(Operand::Selector(true, offset))
-        }
-        Operand::Range(at, offset) => {
-            if at {
-                return Verdict::Refused(Refusal::AtTwice);
-            }
-            Verdict::Put(Operand::Range(true, offset))
-        }
-        Operand::Subquery(at, offset) => {
-            if at {
-                return Verdict::Refused(Refusal::AtTwice);
-            }
-            Verdict::Put(Operand::Subquery(true, offset))
-        }
-        Operand::Other(_) => Verdict::Refused(Refusal::AtOnNoSelector),
-    }
+    judge_mark(operand, true, Refusal::AtTwice, Refusal::AtOnNoSelector)
 }
 
 // 12 where offset is set already, 13 on a operand that has none.
 pub fn judge_offset(operand: Operand) -> Verdict
     ensures { λ r. ⌜ verdictMeant r ≡ judgeOffset (operandMeant operand) ⌝ }
 {
-    match operand {
-        Operand::Number(_) => Verdict::Refused(Refusal::OffsetOnNoSelector),
-        Operand::String => Verdict::Refused(Refusal::OffsetOnNoSelector),
-        Operand::Selector(at, offset) => {
-            if offset {
-                return Verdict::Refused(Refusal::OffsetTwice);
-            }
-            Verdict::Put(Operand::Selector(at, true))
-        }
-        Operand::Range(at, offset) => {
-            if offset {
-                return Verdict::Refused(Refusal::OffsetTwice);
-            }
-            Verdict::Put(Operand::Range(at, true))
-        }
-        Operand::Subquery(at, offset) => {
-            if offset {
-                return Verdict::Refused(Refusal::OffsetTwice);
-            }
-            Verdict::Put(Operand::Subquery(at, true))
-        }
-        Operand::Other(_) => Verdict::Refused(Refusal::OffsetOnNoSelector),
-    }
+    judge_mark(
+        operand,
+        false,
+        Refusal::OffsetTwice,
+        Refusal::OffsetOnNoSelector,
+    )
 }
 
 // 32 where the operand is no vector.
