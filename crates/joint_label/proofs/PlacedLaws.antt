@@ -1,25 +1,27 @@
--- The part of the first group label that is also in the on list, a label at a time, and the same of a list that was read. Labels placed are
--- read from the same bytes as labels (`repeat-placed`). Assumes nothing.
+-- The part of the first group label that is also in the on list: where the bytes from it on begin (`part-from`), and the same of a list that
+-- was read. Labels placed are read from the same bytes as labels (`repeat-placed`). Assumes nothing.
 use Prim.Native.Nat.{ℕ, zero, suc, _-_, _≤_, _<_}
 use mathlib.Core.Path.{_≡_, refl, sym, ap, _∙_}
-use mathlib.Core.Bool.{true, false}
+use mathlib.Core.Bool.{Bool, true, false}
 use mathlib.Core.List.{List, [], _∷_}
 use native.Mathlib.Nat.{not-suc-le-zero}
 use native.Mathlib.Omega.{arith}
 use lib.ListN.{length, drop, length-drop}
+use Rattle.page.specs.Bytes.{pick}
 use Rattle.page.specs.Read.{FieldFault, Read, refused, got, andThen, readerAt, repeat}
 use Rattle.page.specs.Text.{Text, readAnyText}
-use Rattle.page.specs.Listed.{listed}
+use Rattle.page.specs.Listed.{before, listed}
 use Rattle.page.specs.Answers.{spanOn, Lies}
 use Rattle.page.specs.declared.text.Span.{Span}
-use Rattle.page.proofs.ListLaws.{passed, repeat-listed, listed-more, listed-refused, listed-none}
+use Rattle.page.proofs.ListLaws.{passed, repeat-listed}
 use Rattle.records.specs.Field.{Labels}
 use Rattle.records.specs.Record.{Record, readRecord}
 use Rattle.records.specs.Outcome.{refusal}
 use Rattle.records.proofs.SpanLaws.{span-size}
 use Rattle.ast.specs.CheckAst.{hasLabel}
 use Rattle.ast.specs.Part.{Part, emptyPart, fromRecord, Placed, readPlaced, firstIn, placedForms, readJoint, partIn, labelPart}
-use Rattle.joint_label.specs.Answers.{spanPart, IsPart, placedPart, firstPart}
+use Rattle.judge.specs.Label.{fromLabel, fromJoint}
+use Rattle.joint_label.specs.Answers.{spanPart, IsPart, partAt, firstPart}
 
 -- no bytes where the part is empty
 pub nowhere : {page : List ℕ} {part : Part} → part ≡ emptyPart → IsPart page part (record { start = 0; end = 0 })
@@ -33,12 +35,6 @@ part-as e h = record { is = h .is ∙ sym e; lies = h .lies }
 abbrev placedAs : Text → List ℕ → Placed
 placedAs t rest = record { label = t; left = length rest }
 
-placed : (s : List ℕ) {a : Text} {t : List ℕ} → got a t ≡ readAnyText s → got (placedAs a t) t ≡ readPlaced s
-placed s e = ap (λ (m : Read Text). andThen m (λ l u. got (placedAs l u) u)) e
-
-unplaced : (s : List ℕ) {f : FieldFault} → refused f ≡ readAnyText s → refused f ≡ readPlaced s
-unplaced s e = ap (λ (m : Read Text). andThen m (λ l u. got (placedAs l u) u)) e
-
 abbrev startsAt : ℕ → ℕ → Part
 startsAt n size = record { start = n; size = size }
 
@@ -49,25 +45,35 @@ span-place page s lies =
     let from : s .start ≡ length page - (length page - s .end) - (s .end - s .start) = omega (arith, lies .ordered, lies .inside) in
     rw (span-size page s lies, left) (ap (λ (n : ℕ). startsAt n (s .end - s .start)) from)
 
--- ## The loop: `whole`, the part of the whole list, is that of the `left` labels from `at` on
+-- ## A label read at a position
 
-module _ (page : List ℕ) (on : Labels) (left at : ℕ) {whole : Part} (inv : whole ≡ placedPart (length page) on (listed readPlaced left (drop at page))) where
-  step : {a : Text} {t : List ℕ} → 0 < left → got a t ≡ readAnyText (drop at page)
-      → whole ≡ placedPart (length page) on (placedAs a t ∷ listed readPlaced (left - 1) t)
-  step h e = inv ∙ ap (placedPart (length page) on) (listed-more readPlaced left (drop at page) h (placed (drop at page) e))
+pub part-got : (page : List ℕ) (at : ℕ) {s : Span} → got (spanOn page s) (drop (s .end) page) ≡ readAnyText (drop at page) → Lies page s
+    → IsPart page (partAt (length page) (drop at page)) s
+part-got page at {s} e lies = record { is = rw (← e) (span-place page s lies); lies = lies }
 
-  pub place-found : {s : Span} → 0 < left → got (spanOn page s) (drop (s .end) page) ≡ readAnyText (drop at page) → hasLabel on (spanOn page s) ≡ true → Lies page s → IsPart page whole s
-  place-found {s} h e has lies = record { is = span-place page s lies ∙ sym (step h e ∙ rw has); lies = lies }
+pub part-refused : (page : List ℕ) (at : ℕ) {f : FieldFault} → refused f ≡ readAnyText (drop at page) → partAt (length page) (drop at page) ≡ emptyPart
+part-refused page at e = rw (← e)
 
-  pub place-next : {a : Text} {t : List ℕ} → 0 < left → got a t ≡ readAnyText (drop at page) → hasLabel on a ≡ false
-      → whole ≡ placedPart (length page) on (listed readPlaced (left - 1) t)
-  place-next h e has = step h e ∙ rw has
+-- ## The first of a list's labels
 
-  pub place-refused : {f : FieldFault} → refused f ≡ readAnyText (drop at page) → whole ≡ emptyPart
-  place-refused e = inv ∙ ap (placedPart (length page) on) (listed-refused readPlaced left (drop at page) (unplaced (drop at page) e))
+abbrev placedPart : ℕ → Labels → List Placed → Part
+placedPart size on placed = partIn size (got (firstIn on placed) [])
 
-  pub place-none : left ≤ 0 → whole ≡ emptyPart
-  place-none h = inv ∙ ap (placedPart (length page) on) (listed-none readPlaced left (drop at page) h)
+first-part : (size : ℕ) (on : Labels) (n : ℕ) (s : List ℕ) (m : Read Text) → m ≡ readAnyText s
+    → ((t : List ℕ) → placedPart size on (listed readPlaced n t) ≡ partAt size (fromJoint on n t))
+    → placedPart size on (before (andThen m (λ t u. got (placedAs t u) u)) (λ t. listed readPlaced n t)) ≡ partAt size (fromLabel on s m (λ t. fromJoint on n t))
+first-part size on n s (refused f) e more = refl
+first-part size on n s (got a t) e more = by (hasLabel on a)
+  where
+    by : (has : Bool) → partIn size (got (pick has (placedAs a t ∷ []) (firstIn on (listed readPlaced n t))) []) ≡ partAt size (pick has s (fromJoint on n t))
+    by true = rw (← e)
+    by false = more t
+
+-- it is read where the bytes from it on begin
+pub part-from : (size : ℕ) (on : Labels) (n : ℕ) (s : List ℕ) → placedPart size on (listed readPlaced n s) ≡ partAt size (fromJoint on n s)
+unfolding listed fromJoint
+part-from size on zero s = refl
+part-from size on (suc n) s = first-part size on n s (readAnyText s) refl (part-from size on n)
 
 -- ## A list that was read
 
@@ -95,8 +101,9 @@ part-rest size [] s = refl
 part-rest size (p ∷ ps) s = refl
 
 pub list-got : (page : List ℕ) (on : Labels) (n : ℕ) (s : List ℕ) {ls : Labels} {t : List ℕ} → got ls t ≡ repeat n readAnyText s
-    → firstPart page on (repeat n readPlaced s) ≡ placedPart (length page) on (listed readPlaced n s)
-list-got page on n s {ls} {t} e = rw (repeat-placed n s, ← e) (part-rest (length page) (firstIn on (listed readPlaced n s)) t)
+    → firstPart page on (repeat n readPlaced s) ≡ partAt (length page) (fromJoint on n s)
+list-got page on n s {ls} {t} e =
+    rw (repeat-placed n s, ← e) (part-rest (length page) (firstIn on (listed readPlaced n s)) t ∙ part-from (length page) on n s)
 
 pub list-refused : (page : List ℕ) (on : Labels) (n : ℕ) (s : List ℕ) {f : FieldFault} → refused f ≡ repeat n readAnyText s
     → firstPart page on (repeat n readPlaced s) ≡ emptyPart

@@ -1,11 +1,10 @@
 -- What the answers of this crate mean: a part of the page by its ends is the definition's part by its start and its size.
 use Prim.Native.Nat.{ℕ, _-_}
-use mathlib.Core.List.{List, []}
+use mathlib.Core.List.{List, [], _∷_}
 use mathlib.Core.Path.{_≡_}
 use lib.ListN.{length, drop}
-use Rattle.page.specs.Read.{Read, got, Reader, andThen, _>>=_, return}
+use Rattle.page.specs.Read.{Read, Reader, andThen, _>>=_, return}
 use Rattle.page.specs.Number.{readChoice}
-use Rattle.page.specs.Listed.{listed}
 use Rattle.page.specs.Answers.{Lies}
 use Rattle.page.specs.declared.text.Span.{Span}
 use Rattle.records.specs.Field.{Labels, readFlag}
@@ -21,15 +20,11 @@ pub record IsPart (page : List ℕ) (part : Part) (span : Span) : Type 0 where
   pub is : spanPart span ≡ part
   pub lies : Lies page span
 
--- the part of the first label placed that is also in the on list
-abbrev pub placedPart : ℕ → Labels → List Placed → Part
-placedPart size on placed = partIn size (got (firstIn on placed) [])
+-- the part of the label that some bytes begin with
+abbrev pub partAt : ℕ → List ℕ → Part
+partAt size s = partIn size (andThen (readPlaced s) (λ p. return (p ∷ [])))
 
--- the same of the labels that start at a position
-abbrev pub firstOn : List ℕ → Labels → ℕ → ℕ → Part
-firstOn page on start count = placedPart (length page) on (listed readPlaced count (drop start page))
-
--- the same of labels that were read
+-- the part of the first label that is also in the on list, of labels that were read
 abbrev pub firstPart : List ℕ → Labels → Read (List Placed) → Part
 firstPart page on read = partIn (length page) (andThen read (λ placed. return (firstIn on placed)))
 

@@ -1,5 +1,5 @@
 // The group labels of a modifier, read at a position, and the first of them that is also in the on list.
-use judge::label::has_label;
+use judge::label::first_joint;
 use page::Count;
 use page::ListField;
 use page::Number;
@@ -9,7 +9,6 @@ use page::TextClass;
 use page::read_count;
 use page::read_number;
 use page::read_text;
-use page::text_at;
 use records::Flag;
 use records::LabelModifier;
 use records::LabelModifierField;
@@ -21,38 +20,25 @@ ghost use Rattle.page.specs.Number.{readChoice};
 ghost use Rattle.page.specs.Text.{readList};
 ghost use Rattle.records.specs.Answers.{labelsOn};
 ghost use Rattle.ast.specs.Part.{readPlaced, placedForms, partIn};
-ghost use Rattle.joint_label.specs.Answers.{IsPart, firstPart, firstOn, readGrouped};
+ghost use Rattle.joint_label.specs.Answers.{IsPart, partAt, firstPart, readGrouped};
 
-// The first of so many labels from a position on that is also in the on list, or no bytes.
-fn first_joint(page: &[u8], start: usize, count: usize, on: usize, ons: usize) -> Span
-    ensures { λ r. ⌜ IsPart (now (page .entry)) (firstOn (now (page .entry)) (labelsOn (now (page .entry)) on ons) start count) r ⌝ }
+// The label that stands at a position, or no bytes.
+fn label_at(page: &[u8], at: usize) -> Span
+    ensures { λ r. ⌜ IsPart (now (page .entry)) (partAt (length (now (page .entry))) (drop at (now (page .entry)))) r ⌝ }
 {
-    let mut left = count;
-    let mut at = start;
-    while 0 < left {
-        match read_text(page, at, TextClass::Any) {
-            Text::Got(label) => {
-                if has_label(page, on, ons, text_at(page, label)) {
-                    return label;
-                }
-                at = label.end;
-                left = left - 1;
-            }
-            Text::Bad(_) => {
-                return Span { start: 0, end: 0 };
-            }
-        }
+    match read_text(page, at, TextClass::Any) {
+        Text::Got(label) => label,
+        Text::Bad(_) => Span { start: 0, end: 0 },
     }
-    Span { start: 0, end: 0 }
 }
 
-// The same of a list of labels: none where the list cannot be read.
+// The first label of a list that is also in the on list: none where the list cannot be read.
 fn joint_in(page: &[u8], at: usize, on: usize, ons: usize) -> Span
     ensures { λ r. ⌜ IsPart (now (page .entry)) (firstPart (now (page .entry)) (labelsOn (now (page .entry)) on ons) (readList readPlaced (drop at (now (page .entry))))) r ⌝ }
 {
     match read_count(page, at) {
         Count::Got(count, start) => match labels_from(page, start, count) {
-            ListField::Got(_, _, _) => first_joint(page, start, count, on, ons),
+            ListField::Got(_, _, _) => label_at(page, first_joint(page, start, count, on, ons)),
             ListField::Bad(_) => Span { start: 0, end: 0 },
         },
         Count::Bad(_) => Span { start: 0, end: 0 },

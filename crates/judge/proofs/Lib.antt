@@ -1,3 +1,4 @@
+pub mod LabelLaws
 pub mod ModifierLaws
 pub mod DeclaredLaws
 pub mod CallLaws

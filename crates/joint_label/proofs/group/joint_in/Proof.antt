@@ -1,8 +1,10 @@
 -- `joint_label::group::joint_in` meets its contract: the list is read before its labels are looked at. Assumes nothing.
-use lib.ListN.{drop}
+use mathlib.Core.Path.{sym, ap, _∙_}
+use lib.ListN.{length, drop}
 use denote.Ref.{now}
 use borrow.Author.Needs.{needs}
 use Rattle.records.specs.Answers.{labelsOn}
+use Rattle.joint_label.specs.Answers.{partAt}
 use Rattle.joint_label.proofs.PlacedLaws.{nowhere, part-as, list-got, list-refused}
 use Rattle.joint_label.proofs.group.joint_in.Statement.{statement}
 use Rattle.joint_label.proofs.group.joint_in.Tie as tie
@@ -22,6 +24,9 @@ enum-told c = search needs
 first-joint-requires : tie.Need-first-joint-requires
 first-joint-requires c κs = search needs
 
+label-at-requires : tie.Need-label-at-requires
+label-at-requires c κs = search needs
+
 enum-told-2 : tie.Need-enum-told-2
 enum-told-2 c = search needs
 
@@ -30,10 +35,13 @@ enum-told-3 c = search needs
 
 returns : tie.Need-returns
 returns c =
-    let e = rw (c .before .before .before .before .before .count .given .1) at (c .before .before .before .before .before .before .before .read-count .ensures) in
-    let g = rw (c .before .enum-told .given .1) at (c .before .before .before .labels-from .ensures .0) in
-    let page = now (c .before .before .before .before .before .before .before .before .before .args .page) in
-    part-as (rw (← e) (list-got page (labelsOn page (c .before .before .before .before .before .before .before .before .before .args .on) (c .before .before .before .before .before .before .before .before .before .args .ons)) (c .before .before .before .before .before .count .given .0 .0) (drop (c .before .before .before .before .before .count .given .0 .1 .0) page) g)) (c .first-joint .ensures)
+    let at-start = c .before .before .before .before .before .before .before .before .before .before in
+    let page = now (at-start .args .page) in
+    let on = labelsOn page (at-start .args .on) (at-start .args .ons) in
+    let e = rw (c .before .before .before .before .before .before .count .given .1) at (c .before .before .before .before .before .before .before .before .read-count .ensures) in
+    let g = rw (c .before .before .enum-told .given .1) at (c .before .before .before .before .labels-from .ensures .0) in
+    let first = list-got page on (c .before .before .before .before .before .before .count .given .0 .0) (drop (c .before .before .before .before .before .before .count .given .0 .1 .0) page) g in
+    part-as (rw (← e) (first ∙ ap (partAt (length page)) (sym (c .before .first-joint .ensures)))) (c .label-at .ensures)
 
 returns-2 : tie.Need-returns-2
 returns-2 c =
@@ -54,6 +62,7 @@ joint-in-spec =
     labels-from-requires
     enum-told
     first-joint-requires
+    label-at-requires
     enum-told-2
     enum-told-3
     returns
