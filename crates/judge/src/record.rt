@@ -32,7 +32,7 @@ pub fn judge_record(page: &[u8], item: Record, tags: &[u8], values: &[f64], top:
     match item {
         Record::Number(literal) => Verdict::Put(Operand::Number(literal_value(literal))),
         Record::String(_) => Verdict::Put(Operand::String),
-        Record::Selector(selector) => judge_selector(page, selector),
+        Record::Selector(selector) => judge_selector(selector),
         Record::Range(_) => judge_range(operand_at(tags, values, top)),
         Record::Subquery(_, _) => judge_subquery(operand_at(tags, values, top)),
         Record::At(_) => judge_at(operand_at(tags, values, top)),

@@ -3,7 +3,9 @@ use reader::Selector;
 use rules::Operand;
 use rules::Refusal;
 use rules::Verdict;
+ghost use Prim.Native.Nat.{ℕ};
 ghost use mathlib.Core.Bool.{false};
+ghost use mathlib.Core.List.{List};
 ghost use mathlib.Core.Path.{_≡_};
 ghost use Rattle.reader.specs.Answers.{selectorOn, SelectorRead};
 ghost use Rattle.ast.specs.CheckAst.{selectorRows};
@@ -12,9 +14,8 @@ ghost use Rattle.ast.specs.Judge.{put};
 ghost use Rattle.rules.specs.Answers.{verdictMeant};
 
 // 33 for a name and a `__name__` matcher, 34 without a name where every matcher accepts empty text.
-pub fn judge_selector(page: &[u8], selector: Selector) -> Verdict
-    requires { ⌜ SelectorRead (now page) selector ⌝ }
-    ensures { λ r. ⌜ verdictMeant r ≡ put (selectorRows (selectorOn (now (page .entry)) selector)) (selectorOperand false false) ⌝ }
+pub fn judge_selector(selector: Selector) -> Verdict
+    ensures { λ r. ⌜ ((page : List ℕ) → SelectorRead page selector → verdictMeant r ≡ put (selectorRows (selectorOn page selector)) (selectorOperand false false)) ⌝ }
 {
     let name = selector.name;
     if name.start != name.end {

@@ -32,7 +32,7 @@ enum-known-item-2 : tie.Need-enum-known-item-2
 enum-known-item-2 c = search needs
 
 judge-selector-requires : tie.Need-judge-selector-requires
-judge-selector-requires c κs = rw (c .before .item2 .given .1) at (c .before .before .before .before .before .before .pre .1 .lies)
+judge-selector-requires c κs = search needs
 
 enum-told-2 : tie.Need-enum-told-2
 enum-told-2 c = search needs
@@ -128,7 +128,12 @@ returns-2 : tie.Need-returns-2
 returns-2 c = rw (c .enum-told .given .1) (judgement-leaf (string (spanOn (now (c .before .before .before .before .before .args .page)) (c .enum-told .given .0 .0))) (drop (c .before .before .before .before .before .args .top) (heldOperands (now (c .before .before .before .before .before .args .tags)) (now (c .before .before .before .before .before .args .values)))))
 
 returns-3 : tie.Need-returns-3
-returns-3 c = rw (c .before .before .item2 .given .1) (c .judge-selector .ensures ∙ judgement-leaf (selector (selectorOn (now (c .before .before .before .before .before .before .before .args .page)) (c .before .before .item2 .given .0 .0))) (drop (c .before .before .before .before .before .before .before .args .top) (heldOperands (now (c .before .before .before .before .before .before .before .args .tags)) (now (c .before .before .before .before .before .before .before .args .values)))))
+returns-3 c =
+    let at-start = c .before .before .before .before .before .before .before in
+    let page = now (at-start .args .page) in
+    let selector· = c .before .before .item2 .given .0 .0 in
+    let read = rw (c .before .before .item2 .given .1) at (at-start .pre .1 .lies) in
+    rw (c .before .before .item2 .given .1) (c .judge-selector .ensures page read ∙ judgement-leaf (selector (selectorOn page selector·)) (drop (at-start .args .top) (heldOperands (now (at-start .args .tags)) (now (at-start .args .values)))))
 
 returns-4 : tie.Need-returns-4
 returns-4 c = let h : c .before .before .before .before .before .before .before .args .top + 1 ≤ 256 = rw (c .before .before .enum-told2 .given .1) at (c .before .before .before .before .before .before .before .pre .1 .fits) in
