@@ -7,27 +7,27 @@ use borrow.Author.Needs.{needs}
 use Rattle.rules.proofs.operand.operand_at.Statement.{statement}
 use Rattle.rules.proofs.operand.operand_at.Tie as tie
 
-shared-slice-read-operand-of : tie.Need-shared-slice-read-operand-of
-shared-slice-read-operand-of c = search needs
+shared-slice-read-operand-from : tie.Need-shared-slice-read-operand-from
+shared-slice-read-operand-from c = search needs
 
-mul-operand-of : tie.Need-mul-operand-of
-mul-operand-of c = search needs
+mul-operand-from : tie.Need-mul-operand-from
+mul-operand-from c = search needs
 
-shared-slice-read-operand-of-2 : tie.Need-shared-slice-read-operand-of-2
-shared-slice-read-operand-of-2 c = search needs
+shared-slice-read-operand-from-2 : tie.Need-shared-slice-read-operand-from-2
+shared-slice-read-operand-from-2 c = search needs
 
-operand-of-requires : tie.Need-operand-of-requires
-operand-of-requires c κs = search needs
+operand-from-requires : tie.Need-operand-from-requires
+operand-from-requires c κs = search needs
 
 returns : tie.Need-returns
-returns c = let s = c .before .before .before .before .before .pre .0 in c .operand-of .ensures ∙ sym (heldOperands-getD (now (c .before .before .before .before .before .args .tags)) (now (c .before .before .before .before .before .args .values)) (c .before .before .before .before .before .args .i) _ _ _ (omega arith) (omega arith))
+returns c = let s = c .before .before .before .before .before .pre .0 in c .operand-from .ensures ∙ sym (heldOperands-getD (now (c .before .before .before .before .before .args .tags)) (now (c .before .before .before .before .before .args .values)) (c .before .before .before .before .before .args .i) _ _ _ (omega arith) (omega arith))
 
 pub operand-at-spec : {M : Type 1} → statement M
 operand-at-spec =
     tie.close
     (tie.spec
-    shared-slice-read-operand-of
-    mul-operand-of
-    shared-slice-read-operand-of-2
-    operand-of-requires
+    shared-slice-read-operand-from
+    mul-operand-from
+    shared-slice-read-operand-from-2
+    operand-from-requires
     returns)

@@ -61,8 +61,8 @@ returns-17 c = rw (c .match .keys17)
 returns-18 : tie.Need-returns-18
 returns-18 c = let seen = c .match .rest in sym (operandFrom-last (c .before .args .tag) (c .before .args .value) (further (further (further (further (further (further (further (further (further (further (further (further (further (further (further (further (further zero-le (seen .0 .0 .0 .0 .0 .0 .0 .0 .0 .0 .0 .0 .0 .0 .0 .0 .1)) (seen .0 .0 .0 .0 .0 .0 .0 .0 .0 .0 .0 .0 .0 .0 .0 .1)) (seen .0 .0 .0 .0 .0 .0 .0 .0 .0 .0 .0 .0 .0 .0 .1)) (seen .0 .0 .0 .0 .0 .0 .0 .0 .0 .0 .0 .0 .0 .1)) (seen .0 .0 .0 .0 .0 .0 .0 .0 .0 .0 .0 .0 .1)) (seen .0 .0 .0 .0 .0 .0 .0 .0 .0 .0 .0 .1)) (seen .0 .0 .0 .0 .0 .0 .0 .0 .0 .0 .1)) (seen .0 .0 .0 .0 .0 .0 .0 .0 .0 .1)) (seen .0 .0 .0 .0 .0 .0 .0 .0 .1)) (seen .0 .0 .0 .0 .0 .0 .0 .1)) (seen .0 .0 .0 .0 .0 .0 .1)) (seen .0 .0 .0 .0 .0 .1)) (seen .0 .0 .0 .0 .1)) (seen .0 .0 .0 .1)) (seen .0 .0 .1)) (seen .0 .1)) (seen .1)))
 
-pub operand-of-spec : {M : Type 1} → statement M
-operand-of-spec =
+pub operand-from-spec : {M : Type 1} → statement M
+operand-from-spec =
     tie.close
     (tie.spec
     returns
