@@ -69,29 +69,29 @@ shapes =
     shape.Whole ∷ shape.Whole ∷ shape.Whole ∷ shape.Whole ∷ shape.Suffixed ∷ shape.Whole ∷ shape.Whole ∷ shape.Minus ∷ shape.Enclosed ∷ shape.Infixed ∷ shape.Enclosed
     ∷ shape.Enclosed ∷ []
 
-abbrev formBy : ℕ → Shape
-formBy kind = getD shapes kind shape.Whole
+abbrev shapeBy : ℕ → Shape
+shapeBy kind = getD shapes kind shape.Whole
 
 -- the operands of kinds 0 to 9; aggregates and calls say theirs
 abbrev pub counts : List ℕ
 counts = 0 ∷ 0 ∷ 0 ∷ 1 ∷ 1 ∷ 1 ∷ 1 ∷ 1 ∷ 1 ∷ 2 ∷ []
 
 -- the shape of a layout
-abbrev shape : Layout → Shape
-shape (whole t) = shape.Whole
-shape negation = shape.Minus
-shape (suffixed t) = shape.Suffixed
-shape (enclosed t) = shape.Enclosed
-shape (infixed t) = shape.Infixed
+abbrev layoutShape : Layout → Shape
+layoutShape (whole t) = shape.Whole
+layoutShape negation = shape.Minus
+layoutShape (suffixed t) = shape.Suffixed
+layoutShape (enclosed t) = shape.Enclosed
+layoutShape (infixed t) = shape.Infixed
 
-pub shape-shaped : (l : Layout) → l ≡ shaped (shape l) (head l) (operator l) (suffix l)
+pub shape-shaped : (l : Layout) → l ≡ shaped (layoutShape l) (head l) (operator l) (suffix l)
 shape-shaped (whole t) = refl
 shape-shaped negation = refl
 shape-shaped (suffixed t) = refl
 shape-shaped (enclosed t) = refl
 shape-shaped (infixed t) = refl
 
-by-kind : (item : Record) (n : Option ℕ) (u : Times) → (shape (layoutBy item n u) ≡ formBy (kindOf item)) × (operands item ≡ getD counts (kindOf item) (operands item))
+by-kind : (item : Record) (n : Option ℕ) (u : Times) → (layoutShape (layoutBy item n u) ≡ shapeBy (kindOf item)) × (operands item ≡ getD counts (kindOf item) (operands item))
 by-kind (leaf (number l)) n u = (refl, refl)
 by-kind (leaf (string t)) n u = (refl, refl)
 by-kind (leaf (selector s)) n u = (refl, refl)
@@ -111,8 +111,8 @@ module _ {page starts : List ℕ} {i j : ℕ} {n : Option ℕ} {u : Times} (s : 
     item-laidOut : LaidOut page i (layoutBy (k .item) n u) j (operands (k .item))
     item-laidOut = laidOut-item s above (k .item) (k .reads) (ap isAttached (k .same) ∙ h) (λ e. v (sym (k .same) ∙ e))
 
-    kind-shape : shape (layoutOf (treeAt page i)) ≡ formBy kind
-    kind-shape = ap shape (item-laidOut .layout) ∙ by-kind (k .item) n u .0 ∙ ap formBy (k .same)
+    kind-shape : layoutShape (layoutOf (treeAt page i)) ≡ shapeBy kind
+    kind-shape = ap layoutShape (item-laidOut .layout) ∙ by-kind (k .item) n u .0 ∙ ap shapeBy (k .same)
 
     -- with the operands that the record says
     pub laidOut-kind : {count : ℕ} → operands (k .item) ≡ count → LaidOut page i (layoutOf (treeAt page i)) j count
@@ -122,8 +122,8 @@ module _ {page starts : List ℕ} {i j : ℕ} {n : Option ℕ} {u : Times} (s : 
     pub laidOut-fixed : (count : ℕ) → ((c : ℕ) → getD counts kind c ≡ count) → LaidOut page i (layoutOf (treeAt page i)) j count
     laidOut-fixed count few = laidOut-kind (by-kind (k .item) n u .1 ∙ ap (λ (m : ℕ). getD counts m (operands (k .item))) (k .same) ∙ few _)
 
-  pub foot-shape : (f : Foot) → FootAt page starts j f → shape (layoutOf (treeAt page i)) ≡ shapeOf f
-  foot-shape foot.Number v = ap shape (laidOut-valued s above v .layout)
+  pub foot-shape : (f : Foot) → FootAt page starts j f → layoutShape (layoutOf (treeAt page i)) ≡ shapeOf f
+  foot-shape foot.Number v = ap layoutShape (laidOut-valued s above v .layout)
   foot-shape foot.String k = kind-shape k refl (λ e. absurd (omega (arith, e)))
   foot-shape foot.Selector k = kind-shape k refl (λ e. absurd (omega (arith, e)))
   foot-shape foot.Subquery k = kind-shape k refl (λ e. absurd (omega (arith, e)))
