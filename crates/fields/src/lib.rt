@@ -40,8 +40,8 @@ fn no_text() -> page::Span
 pub fn string_of(page: &[u8], starts: &[u16], node: Node) -> page::Span
     requires { ⌜ NodeAt (now page) (now starts) node ⌝ }
     requires { ⌜ node .foot ≡ Foot.String ⌝ }
-    ensures { λ r. ⌜ Reads (now (page .entry)) (now (starts .entry)) (node .base) (leaf (string (spanOn (now (page .entry)) r))) ⌝ }
-    ensures { λ r. ⌜ Lies (now (page .entry)) r ⌝ }
+    ensures reads { λ r. ⌜ Reads (now (page .entry)) (now (starts .entry)) (node .base) (leaf (string (spanOn (now (page .entry)) r))) ⌝ }
+    ensures lies { λ r. ⌜ Lies (now (page .entry)) r ⌝ }
 {
     let start = view::fields_start(starts, node.base);
     match page::read_text(page, start, page::TextClass::Any) {
@@ -54,8 +54,8 @@ pub fn string_of(page: &[u8], starts: &[u16], node: Node) -> page::Span
 pub fn function_of(page: &[u8], starts: &[u16], node: Node) -> page::Span
     requires { ⌜ NodeAt (now page) (now starts) node ⌝ }
     requires { ⌜ node .foot ≡ Foot.Call ⌝ }
-    ensures { λ r. ⌜ CallAt (now (page .entry)) (now (starts .entry)) (node .base) r ⌝ }
-    ensures { λ r. ⌜ Lies (now (page .entry)) r ⌝ }
+    ensures reads { λ r. ⌜ CallAt (now (page .entry)) (now (starts .entry)) (node .base) r ⌝ }
+    ensures lies { λ r. ⌜ Lies (now (page .entry)) r ⌝ }
 {
     let start = view::fields_start(starts, node.base);
     match page::read_text(page, start, page::TextClass::FunctionName) {
@@ -80,9 +80,9 @@ fn selector(name: page::Span, matchers: usize, count: usize) -> reader::Selector
 pub fn selector_of(page: &[u8], starts: &[u16], node: Node) -> reader::Selector
     requires { ⌜ NodeAt (now page) (now starts) node ⌝ }
     requires { ⌜ node .foot ≡ Foot.Selector ⌝ }
-    ensures { λ r. ⌜ Reads (now (page .entry)) (now (starts .entry)) (node .base) (leaf (selector (selectorOn (now (page .entry)) r))) ⌝ }
-    ensures { λ r. ⌜ SelectorLies (now (page .entry)) r ⌝ }
-    ensures { λ r. ⌜ (r .named ≡ false) × (r .empty ≡ false) ⌝ }
+    ensures reads { λ r. ⌜ Reads (now (page .entry)) (now (starts .entry)) (node .base) (leaf (selector (selectorOn (now (page .entry)) r))) ⌝ }
+    ensures lies { λ r. ⌜ SelectorLies (now (page .entry)) r ⌝ }
+    ensures unmarked { λ r. ⌜ (r .named ≡ false) × (r .empty ≡ false) ⌝ }
 {
     let start = view::fields_start(starts, node.base);
     match page::read_text(page, start, page::TextClass::MetricName) {
@@ -133,9 +133,9 @@ pub struct Operator {
 pub fn operator_of(page: &[u8], starts: &[u16], node: Node) -> Operator
     requires { ⌜ NodeAt (now page) (now starts) node ⌝ }
     requires { ⌜ node .foot ≡ Foot.Binary ⌝ }
-    ensures { λ r. ⌜ Reads (now (page .entry)) (now (starts .entry)) (node .base) (binary (r .code) (modifierOn (now (page .entry)) (r .modifier))) ⌝ }
-    ensures { λ r. ⌜ ModifierStored (now (page .entry)) (r .modifier) ⌝ }
-    ensures { λ r. ⌜ ModifierExact (modifierOn (now (page .entry)) (r .modifier)) ⌝ }
+    ensures reads { λ r. ⌜ Reads (now (page .entry)) (now (starts .entry)) (node .base) (binary (r .code) (modifierOn (now (page .entry)) (r .modifier))) ⌝ }
+    ensures stored { λ r. ⌜ ModifierStored (now (page .entry)) (r .modifier) ⌝ }
+    ensures exact { λ r. ⌜ ModifierExact (modifierOn (now (page .entry)) (r .modifier)) ⌝ }
 {
     let start = view::fields_start(starts, node.base);
     match reader::read_code(page, start) {
@@ -165,8 +165,8 @@ pub struct Aggregator {
 pub fn aggregator_of(page: &[u8], starts: &[u16], node: Node) -> Aggregator
     requires { ⌜ NodeAt (now page) (now starts) node ⌝ }
     requires { ⌜ node .foot ≡ Foot.Aggregate ⌝ }
-    ensures { λ r. ⌜ AggregateAt (now (page .entry)) (now (starts .entry)) (node .base) (r .code) (labelModifierOn (now (page .entry)) (r .grouping)) ⌝ }
-    ensures { λ r. ⌜ LabelModifierStored (now (page .entry)) (r .grouping) ⌝ }
+    ensures reads { λ r. ⌜ AggregateAt (now (page .entry)) (now (starts .entry)) (node .base) (r .code) (labelModifierOn (now (page .entry)) (r .grouping)) ⌝ }
+    ensures stored { λ r. ⌜ LabelModifierStored (now (page .entry)) (r .grouping) ⌝ }
 {
     let start = view::fields_start(starts, node.base);
     match reader::read_code(page, start) {

@@ -48,8 +48,8 @@ fn measure(
     requires { ⌜ Tables (now page) (now starts) (now firsts) (suc i) ⌝ }
     requires { ⌜ Numberless (now page) i numberless ⌝ }
     requires { ⌜ Widths (now page) (now widths) ⌝ }
-    ensures { λ r. ⌜ r ≡ min (length (display (treeAt (now (page .entry)) i))) 101 ⌝ }
-    ensures { λ r. ⌜ Widths (now (page .entry)) (now (widths .exit)) ⌝ }
+    ensures value { λ r. ⌜ r ≡ min (length (display (treeAt (now (page .entry)) i))) 101 ⌝ }
+    ensures known { λ r. ⌜ Widths (now (page .entry)) (now (widths .exit)) ⌝ }
 {
     let node = view::view_at(page, starts, i, numberless);
     let end = node.base;
@@ -93,8 +93,8 @@ fn measure_operands(
     requires { ⌜ Numberless (now page) (end - 1) numberless ⌝ }
     requires { ⌜ cap ≤ 101 ⌝ }
     requires { ⌜ Widths (now page) (now widths) ⌝ }
-    ensures { λ r. ⌜ Measured (λ separator. joined separator display display (operandsOf count (stackAt (now (page .entry)) end))) gap cap r ⌝ }
-    ensures { λ r. ⌜ Widths (now (page .entry)) (now (widths .exit)) ⌝ }
+    ensures value { λ r. ⌜ Measured (λ separator. joined separator display display (operandsOf count (stackAt (now (page .entry)) end))) gap cap r ⌝ }
+    ensures known { λ r. ⌜ Widths (now (page .entry)) (now (widths .exit)) ⌝ }
 {
     if count == 0 {
         return 0;

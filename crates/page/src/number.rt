@@ -19,8 +19,8 @@ pub enum Number {
 // The number at a position, if it is at most `limit`. The groups after the first make a number of at most `limit / 128`, so the
 // calls are no deeper than the limit has groups.
 pub fn read_up_to(page: &[u8], at: usize, limit: u64) -> Number
-    ensures { λ r. ⌜ numberAt (now (page .entry)) r ≡ readUpTo limit (drop at (now (page .entry))) ⌝ }
-    ensures { λ r. ⌜ numberEnd r ≤ length (now (page .entry)) ⌝ }
+    ensures reads { λ r. ⌜ numberAt (now (page .entry)) r ≡ readUpTo limit (drop at (now (page .entry))) ⌝ }
+    ensures lies { λ r. ⌜ numberEnd r ≤ length (now (page .entry)) ⌝ }
 {
     if page.len() <= at {
         return Number::Bad;
@@ -49,8 +49,8 @@ pub fn read_up_to(page: &[u8], at: usize, limit: u64) -> Number
 
 // Most numbers of a page are one byte: these are read without a call.
 pub fn read_number(page: &[u8], at: usize) -> Number
-    ensures { λ r. ⌜ numberAt (now (page .entry)) r ≡ readNumber (drop at (now (page .entry))) ⌝ }
-    ensures { λ r. ⌜ numberEnd r ≤ length (now (page .entry)) ⌝ }
+    ensures reads { λ r. ⌜ numberAt (now (page .entry)) r ≡ readNumber (drop at (now (page .entry))) ⌝ }
+    ensures lies { λ r. ⌜ numberEnd r ≤ length (now (page .entry)) ⌝ }
 {
     if page.len() <= at {
         return Number::Bad;

@@ -73,8 +73,8 @@ pub enum Text {
 }
 
 pub fn read_text(page: &[u8], at: usize, class: TextClass) -> Text
-    ensures { λ r. ⌜ textAt (now (page .entry)) r ≡ readTextOf class (drop at (now (page .entry))) ⌝ }
-    ensures { λ r. ⌜ textLies (now (page .entry)) r ⌝ }
+    ensures reads { λ r. ⌜ textAt (now (page .entry)) r ≡ readTextOf class (drop at (now (page .entry))) ⌝ }
+    ensures lies { λ r. ⌜ textLies (now (page .entry)) r ⌝ }
 {
     match read_number(page, at) {
         Number::Got(n, start) => {
@@ -102,8 +102,8 @@ pub fn read_text(page: &[u8], at: usize, class: TextClass) -> Text
 // A text that can be read: its length says where it ends, and its bytes are not tested again.
 pub fn stored_text(page: &[u8], at: usize) -> Span
     requires { ⌜ Readable readAnyText (drop at (now page)) ⌝ }
-    ensures { λ r. ⌜ got (spanOn (now (page .entry)) r) (drop (r .end) (now (page .entry))) ≡ readAnyText (drop at (now (page .entry))) ⌝ }
-    ensures { λ r. ⌜ Lies (now (page .entry)) r ⌝ }
+    ensures reads { λ r. ⌜ got (spanOn (now (page .entry)) r) (drop (r .end) (now (page .entry))) ≡ readAnyText (drop at (now (page .entry))) ⌝ }
+    ensures lies { λ r. ⌜ Lies (now (page .entry)) r ⌝ }
 {
     match read_number(page, at) {
         Number::Got(n, start) => Span {

@@ -35,8 +35,8 @@ fn put_line(page: &[u8], out: &mut [u8]) -> usize
 
 // The program's output at the start of the buffer; the bytes after it stay.
 pub fn put_sheet(page: &[u8], out: &mut [u8; 65537]) -> usize
-    ensures { λ r. ⌜ Wrote (now (out .entry)) (now (out .exit)) 0 (programOutput (now (page .entry))) r ⌝ }
-    ensures { λ r. ⌜ r ≤ length (now (out .exit)) ⌝ }
+    ensures wrote { λ r. ⌜ Wrote (now (out .entry)) (now (out .exit)) 0 (programOutput (now (page .entry))) r ⌝ }
+    ensures fits { λ r. ⌜ r ≤ length (now (out .exit)) ⌝ }
 {
     put_line(page, out)
 }

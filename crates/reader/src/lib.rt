@@ -99,8 +99,8 @@ pub fn read_code(page: &[u8], at: usize) -> page::Number
 }
 
 fn read_number_record(page: &[u8], at: usize) -> RecordField
-    ensures { λ r. ⌜ recordAt (now (page .entry)) r ≡ readerAt recordForms 0 (drop at (now (page .entry))) ⌝ }
-    ensures { λ r. ⌜ recordLies (now (page .entry)) r ⌝ }
+    ensures reads { λ r. ⌜ recordAt (now (page .entry)) r ≡ readerAt recordForms 0 (drop at (now (page .entry))) ⌝ }
+    ensures lies { λ r. ⌜ recordLies (now (page .entry)) r ⌝ }
 {
     match read_literal(page, at) {
         LiteralField::Got(l, next) => RecordField::Got(Record::Number(l), next),
@@ -109,8 +109,8 @@ fn read_number_record(page: &[u8], at: usize) -> RecordField
 }
 
 fn read_string(page: &[u8], at: usize) -> RecordField
-    ensures { λ r. ⌜ recordAt (now (page .entry)) r ≡ readerAt recordForms 1 (drop at (now (page .entry))) ⌝ }
-    ensures { λ r. ⌜ recordLies (now (page .entry)) r ⌝ }
+    ensures reads { λ r. ⌜ recordAt (now (page .entry)) r ≡ readerAt recordForms 1 (drop at (now (page .entry))) ⌝ }
+    ensures lies { λ r. ⌜ recordLies (now (page .entry)) r ⌝ }
 {
     match page::read_text(page, at, page::TextClass::Any) {
         page::Text::Got(text) => RecordField::Got(Record::String(text), text.end),
@@ -119,8 +119,8 @@ fn read_string(page: &[u8], at: usize) -> RecordField
 }
 
 fn read_selector(page: &[u8], at: usize) -> RecordField
-    ensures { λ r. ⌜ recordAt (now (page .entry)) r ≡ readerAt recordForms 2 (drop at (now (page .entry))) ⌝ }
-    ensures { λ r. ⌜ recordLies (now (page .entry)) r ⌝ }
+    ensures reads { λ r. ⌜ recordAt (now (page .entry)) r ≡ readerAt recordForms 2 (drop at (now (page .entry))) ⌝ }
+    ensures lies { λ r. ⌜ recordLies (now (page .entry)) r ⌝ }
 {
     match page::read_text(page, at, page::TextClass::MetricName) {
         page::Text::Got(name) => match read_matchers(page, name.end) {
@@ -141,8 +141,8 @@ fn read_selector(page: &[u8], at: usize) -> RecordField
 }
 
 fn read_range(page: &[u8], at: usize) -> RecordField
-    ensures { λ r. ⌜ recordAt (now (page .entry)) r ≡ readerAt recordForms 3 (drop at (now (page .entry))) ⌝ }
-    ensures { λ r. ⌜ recordLies (now (page .entry)) r ⌝ }
+    ensures reads { λ r. ⌜ recordAt (now (page .entry)) r ≡ readerAt recordForms 3 (drop at (now (page .entry))) ⌝ }
+    ensures lies { λ r. ⌜ recordLies (now (page .entry)) r ⌝ }
 {
     match page::read_number(page, at) {
         page::Number::Got(range, next) => RecordField::Got(Record::Range(range), next),
@@ -151,8 +151,8 @@ fn read_range(page: &[u8], at: usize) -> RecordField
 }
 
 fn read_subquery(page: &[u8], at: usize) -> RecordField
-    ensures { λ r. ⌜ recordAt (now (page .entry)) r ≡ readerAt recordForms 4 (drop at (now (page .entry))) ⌝ }
-    ensures { λ r. ⌜ recordLies (now (page .entry)) r ⌝ }
+    ensures reads { λ r. ⌜ recordAt (now (page .entry)) r ≡ readerAt recordForms 4 (drop at (now (page .entry))) ⌝ }
+    ensures lies { λ r. ⌜ recordLies (now (page .entry)) r ⌝ }
 {
     match page::read_number(page, at) {
         page::Number::Got(range, next) => match read_optional_duration(page, next) {
@@ -167,8 +167,8 @@ fn read_subquery(page: &[u8], at: usize) -> RecordField
 }
 
 fn read_at(page: &[u8], at: usize) -> RecordField
-    ensures { λ r. ⌜ recordAt (now (page .entry)) r ≡ readerAt recordForms 5 (drop at (now (page .entry))) ⌝ }
-    ensures { λ r. ⌜ recordLies (now (page .entry)) r ⌝ }
+    ensures reads { λ r. ⌜ recordAt (now (page .entry)) r ≡ readerAt recordForms 5 (drop at (now (page .entry))) ⌝ }
+    ensures lies { λ r. ⌜ recordLies (now (page .entry)) r ⌝ }
 {
     match read_at_modifier(page, at) {
         AtField::Got(modifier, next) => RecordField::Got(Record::At(modifier), next),
@@ -177,8 +177,8 @@ fn read_at(page: &[u8], at: usize) -> RecordField
 }
 
 fn read_offset_record(page: &[u8], at: usize) -> RecordField
-    ensures { λ r. ⌜ recordAt (now (page .entry)) r ≡ readerAt recordForms 6 (drop at (now (page .entry))) ⌝ }
-    ensures { λ r. ⌜ recordLies (now (page .entry)) r ⌝ }
+    ensures reads { λ r. ⌜ recordAt (now (page .entry)) r ≡ readerAt recordForms 6 (drop at (now (page .entry))) ⌝ }
+    ensures lies { λ r. ⌜ recordLies (now (page .entry)) r ⌝ }
 {
     match read_offset(page, at) {
         OffsetField::Got(offset, next) => RecordField::Got(Record::Offset(offset), next),
@@ -187,8 +187,8 @@ fn read_offset_record(page: &[u8], at: usize) -> RecordField
 }
 
 fn read_binary(page: &[u8], at: usize) -> RecordField
-    ensures { λ r. ⌜ recordAt (now (page .entry)) r ≡ readerAt recordForms 9 (drop at (now (page .entry))) ⌝ }
-    ensures { λ r. ⌜ recordLies (now (page .entry)) r ⌝ }
+    ensures reads { λ r. ⌜ recordAt (now (page .entry)) r ≡ readerAt recordForms 9 (drop at (now (page .entry))) ⌝ }
+    ensures lies { λ r. ⌜ recordLies (now (page .entry)) r ⌝ }
 {
     match read_code(page, at) {
         page::Number::Got(code, next) => match read_modifier(page, next) {
@@ -200,8 +200,8 @@ fn read_binary(page: &[u8], at: usize) -> RecordField
 }
 
 fn read_aggregate(page: &[u8], at: usize) -> RecordField
-    ensures { λ r. ⌜ recordAt (now (page .entry)) r ≡ readerAt recordForms 10 (drop at (now (page .entry))) ⌝ }
-    ensures { λ r. ⌜ recordLies (now (page .entry)) r ⌝ }
+    ensures reads { λ r. ⌜ recordAt (now (page .entry)) r ≡ readerAt recordForms 10 (drop at (now (page .entry))) ⌝ }
+    ensures lies { λ r. ⌜ recordLies (now (page .entry)) r ⌝ }
 {
     match read_code(page, at) {
         page::Number::Got(code, next) => match read_label_modifier(page, next) {
@@ -216,8 +216,8 @@ fn read_aggregate(page: &[u8], at: usize) -> RecordField
 }
 
 fn read_call(page: &[u8], at: usize) -> RecordField
-    ensures { λ r. ⌜ recordAt (now (page .entry)) r ≡ readerAt recordForms 11 (drop at (now (page .entry))) ⌝ }
-    ensures { λ r. ⌜ recordLies (now (page .entry)) r ⌝ }
+    ensures reads { λ r. ⌜ recordAt (now (page .entry)) r ≡ readerAt recordForms 11 (drop at (now (page .entry))) ⌝ }
+    ensures lies { λ r. ⌜ recordLies (now (page .entry)) r ⌝ }
 {
     match read_function(page, at) {
         FunctionField::Got(function, next) => match page::read_count(page, next) {
@@ -230,8 +230,8 @@ fn read_call(page: &[u8], at: usize) -> RecordField
 
 // The record of a kind, after the kind's number.
 fn read_fields(page: &[u8], at: usize, kind: u64) -> RecordField
-    ensures { λ r. ⌜ recordAt (now (page .entry)) r ≡ readerAt recordForms kind (drop at (now (page .entry))) ⌝ }
-    ensures { λ r. ⌜ recordLies (now (page .entry)) r ⌝ }
+    ensures reads { λ r. ⌜ recordAt (now (page .entry)) r ≡ readerAt recordForms kind (drop at (now (page .entry))) ⌝ }
+    ensures lies { λ r. ⌜ recordLies (now (page .entry)) r ⌝ }
 {
     match kind {
         0 => read_number_record(page, at),
@@ -252,8 +252,8 @@ fn read_fields(page: &[u8], at: usize, kind: u64) -> RecordField
 
 // The record at a position: for every page and every position.
 pub fn read_record(page: &[u8], at: usize) -> RecordField
-    ensures { λ r. ⌜ recordAt (now (page .entry)) r ≡ readRecord (drop at (now (page .entry))) ⌝ }
-    ensures { λ r. ⌜ recordLies (now (page .entry)) r ⌝ }
+    ensures reads { λ r. ⌜ recordAt (now (page .entry)) r ≡ readRecord (drop at (now (page .entry))) ⌝ }
+    ensures lies { λ r. ⌜ recordLies (now (page .entry)) r ⌝ }
 {
     match page::read_number(page, at) {
         page::Number::Got(kind, next) => read_fields(page, next, kind),

@@ -69,8 +69,8 @@ pub fn read_kind(page: &[u8], at: usize) -> KindField
 
 // So many kinds from a position on.
 pub fn kinds_from(page: &[u8], start: usize, count: usize) -> page::ListField
-    ensures { λ r. ⌜ listAt readKind (now (page .entry)) r ≡ repeat count readKind (drop start (now (page .entry))) ⌝ }
-    ensures { λ r. ⌜ listStored readKind (now (page .entry)) r ⌝ }
+    ensures reads { λ r. ⌜ listAt readKind (now (page .entry)) r ≡ repeat count readKind (drop start (now (page .entry))) ⌝ }
+    ensures stored { λ r. ⌜ listStored readKind (now (page .entry)) r ⌝ }
 {
     let mut left = count;
     let mut at = start;
@@ -90,8 +90,8 @@ pub fn kinds_from(page: &[u8], start: usize, count: usize) -> page::ListField
 
 // A count, and so many kinds.
 pub fn read_kinds(page: &[u8], at: usize) -> page::ListField
-    ensures { λ r. ⌜ listAt readKind (now (page .entry)) r ≡ readList readKind (drop at (now (page .entry))) ⌝ }
-    ensures { λ r. ⌜ listStored readKind (now (page .entry)) r ⌝ }
+    ensures reads { λ r. ⌜ listAt readKind (now (page .entry)) r ≡ readList readKind (drop at (now (page .entry))) ⌝ }
+    ensures stored { λ r. ⌜ listStored readKind (now (page .entry)) r ⌝ }
 {
     match page::read_count(page, at) {
         page::Count::Got(count, start) => kinds_from(page, start, count),

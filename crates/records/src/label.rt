@@ -8,8 +8,8 @@ ghost use Rattle.records.specs.Field.{readLabels};
 
 // So many labels from a position on.
 pub fn labels_from(page: &[u8], start: usize, count: usize) -> page::ListField
-    ensures { λ r. ⌜ listAt readAnyText (now (page .entry)) r ≡ repeat count readAnyText (drop start (now (page .entry))) ⌝ }
-    ensures { λ r. ⌜ listStored readAnyText (now (page .entry)) r ⌝ }
+    ensures reads { λ r. ⌜ listAt readAnyText (now (page .entry)) r ≡ repeat count readAnyText (drop start (now (page .entry))) ⌝ }
+    ensures stored { λ r. ⌜ listStored readAnyText (now (page .entry)) r ⌝ }
 {
     let mut left = count;
     let mut at = start;
@@ -29,8 +29,8 @@ pub fn labels_from(page: &[u8], start: usize, count: usize) -> page::ListField
 
 // A count, and so many labels.
 pub fn read_labels(page: &[u8], at: usize) -> page::ListField
-    ensures { λ r. ⌜ listAt readAnyText (now (page .entry)) r ≡ readLabels (drop at (now (page .entry))) ⌝ }
-    ensures { λ r. ⌜ listStored readAnyText (now (page .entry)) r ⌝ }
+    ensures reads { λ r. ⌜ listAt readAnyText (now (page .entry)) r ≡ readLabels (drop at (now (page .entry))) ⌝ }
+    ensures stored { λ r. ⌜ listStored readAnyText (now (page .entry)) r ⌝ }
 {
     match page::read_count(page, at) {
         page::Count::Got(count, start) => labels_from(page, start, count),

@@ -101,8 +101,8 @@ pub enum Matchers {
 
 // So many matchers from a position on.
 pub fn matchers_from(page: &[u8], start: usize, count: usize) -> Matchers
-    ensures { λ r. ⌜ matchersAt (now (page .entry)) r ≡ repeat count readMatcher (drop start (now (page .entry))) ⌝ }
-    ensures { λ r. ⌜ matchersStored (now (page .entry)) r ⌝ }
+    ensures reads { λ r. ⌜ matchersAt (now (page .entry)) r ≡ repeat count readMatcher (drop start (now (page .entry))) ⌝ }
+    ensures withFacts { λ r. ⌜ matchersStored (now (page .entry)) r ⌝ }
 {
     let mut left = count;
     let mut at = start;
@@ -126,8 +126,8 @@ pub fn matchers_from(page: &[u8], start: usize, count: usize) -> Matchers
 
 // A count, and so many matchers.
 pub fn read_matchers(page: &[u8], at: usize) -> Matchers
-    ensures { λ r. ⌜ matchersAt (now (page .entry)) r ≡ readList readMatcher (drop at (now (page .entry))) ⌝ }
-    ensures { λ r. ⌜ matchersStored (now (page .entry)) r ⌝ }
+    ensures reads { λ r. ⌜ matchersAt (now (page .entry)) r ≡ readList readMatcher (drop at (now (page .entry))) ⌝ }
+    ensures withFacts { λ r. ⌜ matchersStored (now (page .entry)) r ⌝ }
 {
     match page::read_count(page, at) {
         page::Count::Got(count, start) => matchers_from(page, start, count),

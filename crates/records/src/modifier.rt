@@ -25,8 +25,8 @@ pub enum LabelModifierField {
 }
 
 pub fn read_label_modifier(page: &[u8], at: usize) -> LabelModifierField
-    ensures { λ r. ⌜ labelModifierAt (now (page .entry)) r ≡ readLabelModifier (drop at (now (page .entry))) ⌝ }
-    ensures { λ r. ⌜ labelModifierStored (now (page .entry)) r ⌝ }
+    ensures reads { λ r. ⌜ labelModifierAt (now (page .entry)) r ≡ readLabelModifier (drop at (now (page .entry))) ⌝ }
+    ensures stored { λ r. ⌜ labelModifierStored (now (page .entry)) r ⌝ }
 {
     match page::read_number(page, at) {
         page::Number::Got(n, next) => match n {
@@ -63,8 +63,8 @@ pub enum CardinalityField {
 }
 
 pub fn read_cardinality(page: &[u8], at: usize) -> CardinalityField
-    ensures { λ r. ⌜ cardinalityAt (now (page .entry)) r ≡ readCardinality (drop at (now (page .entry))) ⌝ }
-    ensures { λ r. ⌜ cardinalityStored (now (page .entry)) r ⌝ }
+    ensures reads { λ r. ⌜ cardinalityAt (now (page .entry)) r ≡ readCardinality (drop at (now (page .entry))) ⌝ }
+    ensures stored { λ r. ⌜ cardinalityStored (now (page .entry)) r ⌝ }
 {
     match page::read_number(page, at) {
         page::Number::Got(n, next) => match n {
@@ -111,8 +111,8 @@ fn read_fills(
     card: Cardinality,
 ) -> BinModifierField
     requires { ⌜ LabelModifierStored (now page) matching × CardinalityStored (now page) card ⌝ }
-    ensures { λ r. ⌜ binModifierAt (now (page .entry)) r ≡ readFills flag (labelModifierOn (now (page .entry)) matching) (cardinalityOn (now (page .entry)) card) (drop at (now (page .entry))) ⌝ }
-    ensures { λ r. ⌜ binModifierStored (now (page .entry)) r ⌝ }
+    ensures reads { λ r. ⌜ binModifierAt (now (page .entry)) r ≡ readFills flag (labelModifierOn (now (page .entry)) matching) (cardinalityOn (now (page .entry)) card) (drop at (now (page .entry))) ⌝ }
+    ensures stored { λ r. ⌜ binModifierStored (now (page .entry)) r ⌝ }
 {
     match read_fill(page, at) {
         FillField::Got(lhs, next) => match read_fill(page, next) {
@@ -133,8 +133,8 @@ fn read_fills(
 }
 
 pub fn read_bin_modifier(page: &[u8], at: usize) -> BinModifierField
-    ensures { λ r. ⌜ binModifierAt (now (page .entry)) r ≡ readBinModifier (drop at (now (page .entry))) ⌝ }
-    ensures { λ r. ⌜ binModifierStored (now (page .entry)) r ⌝ }
+    ensures reads { λ r. ⌜ binModifierAt (now (page .entry)) r ≡ readBinModifier (drop at (now (page .entry))) ⌝ }
+    ensures stored { λ r. ⌜ binModifierStored (now (page .entry)) r ⌝ }
 {
     match read_flag(page, at) {
         Flag::Got(flag, next) => match read_label_modifier(page, next) {
@@ -160,8 +160,8 @@ pub enum ModifierField {
 }
 
 pub fn read_modifier(page: &[u8], at: usize) -> ModifierField
-    ensures { λ r. ⌜ modifierAt (now (page .entry)) r ≡ readOption readBinModifier (drop at (now (page .entry))) ⌝ }
-    ensures { λ r. ⌜ modifierStored (now (page .entry)) r ⌝ }
+    ensures reads { λ r. ⌜ modifierAt (now (page .entry)) r ≡ readOption readBinModifier (drop at (now (page .entry))) ⌝ }
+    ensures stored { λ r. ⌜ modifierStored (now (page .entry)) r ⌝ }
 {
     match page::read_number(page, at) {
         page::Number::Got(n, next) => match n {

@@ -82,8 +82,8 @@ fn read_function_rest(
     declared: usize,
 ) -> FunctionField
     requires { ⌜ Lies (now page) name × (length (kindsOn (now page) kinds declared) ≡ declared) ⌝ }
-    ensures { λ r. ⌜ functionAt (now (page .entry)) r ≡ readFunctionRest (spanOn (now (page .entry)) name) (kindsOn (now (page .entry)) kinds declared) (drop at (now (page .entry))) ⌝ }
-    ensures { λ r. ⌜ functionLies (now (page .entry)) r ⌝ }
+    ensures reads { λ r. ⌜ functionAt (now (page .entry)) r ≡ readFunctionRest (spanOn (now (page .entry)) name) (kindsOn (now (page .entry)) kinds declared) (drop at (now (page .entry))) ⌝ }
+    ensures lies { λ r. ⌜ functionLies (now (page .entry)) r ⌝ }
 {
     match read_variadic(page, at) {
         VariadicField::Got(variadic, next) => match read_kind(page, next) {
@@ -104,8 +104,8 @@ fn read_function_rest(
 }
 
 pub fn read_function(page: &[u8], at: usize) -> FunctionField
-    ensures { λ r. ⌜ functionAt (now (page .entry)) r ≡ readFunction (drop at (now (page .entry))) ⌝ }
-    ensures { λ r. ⌜ functionLies (now (page .entry)) r ⌝ }
+    ensures reads { λ r. ⌜ functionAt (now (page .entry)) r ≡ readFunction (drop at (now (page .entry))) ⌝ }
+    ensures lies { λ r. ⌜ functionLies (now (page .entry)) r ⌝ }
 {
     match page::read_text(page, at, page::TextClass::FunctionName) {
         page::Text::Got(name) => match read_kinds(page, name.end) {

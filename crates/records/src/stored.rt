@@ -30,8 +30,8 @@ fn with_op(op: MatchOp, name: page::Span, value: page::Span, next: usize) -> Sto
 
 pub fn stored_matcher(page: &[u8], at: usize) -> StoredMatcher
     requires { ⌜ Readable readMatcher (drop at (now page)) ⌝ }
-    ensures { λ r. ⌜ got (matcherOn (now (page .entry)) (r .matcher)) (drop (r .next) (now (page .entry))) ≡ readMatcher (drop at (now (page .entry))) ⌝ }
-    ensures { λ r. ⌜ MatcherLies (now (page .entry)) (r .matcher) ⌝ }
+    ensures reads { λ r. ⌜ got (matcherOn (now (page .entry)) (r .matcher)) (drop (r .next) (now (page .entry))) ≡ readMatcher (drop at (now (page .entry))) ⌝ }
+    ensures lies { λ r. ⌜ MatcherLies (now (page .entry)) (r .matcher) ⌝ }
 {
     let op = page[at];
     let name = page::stored_text(page, at + 1);
