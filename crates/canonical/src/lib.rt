@@ -30,8 +30,8 @@ pub fn text_len(
     numberless: bool,
     cap: usize,
 ) -> usize
-    requires { ⌜ Tables (now page) (now starts) (now firsts) (suc i) ⌝ }
-    requires { ⌜ Numberless (now page) i numberless ⌝ }
+    requires tables { ⌜ Tables (now page) (now starts) (now firsts) (suc i) ⌝ }
+    requires numberless { ⌜ Numberless (now page) i numberless ⌝ }
     ensures { λ r. ⌜ r ≡ min (length (display (treeAt (now (page .entry)) i))) cap ⌝ }
 {
     if cap == 0 {
@@ -68,9 +68,9 @@ fn operands_len(
     gap: usize,
     cap: usize,
 ) -> usize
-    requires { ⌜ Tables (now page) (now starts) (now firsts) end ⌝ }
-    requires { ⌜ count ≤ length (stackAt (now page) end) ⌝ }
-    requires { ⌜ Numberless (now page) (end - 1) numberless ⌝ }
+    requires tables { ⌜ Tables (now page) (now starts) (now firsts) end ⌝ }
+    requires operands { ⌜ count ≤ length (stackAt (now page) end) ⌝ }
+    requires numberless { ⌜ Numberless (now page) (end - 1) numberless ⌝ }
     ensures { λ r. ⌜ Measured (λ separator. joined separator display display (operandsOf count (stackAt (now (page .entry)) end))) gap cap r ⌝ }
 {
     if count == 0 {
@@ -109,9 +109,9 @@ pub fn write_text(
     out: &mut [u8],
     at: usize,
 ) -> usize
-    requires { ⌜ Tables (now page) (now starts) (now firsts) (suc i) ⌝ }
-    requires { ⌜ Numberless (now page) i numberless ⌝ }
-    requires { ⌜ at + length (display (treeAt (now page) i)) ≤ length (now out) ⌝ }
+    requires tables { ⌜ Tables (now page) (now starts) (now firsts) (suc i) ⌝ }
+    requires numberless { ⌜ Numberless (now page) i numberless ⌝ }
+    requires room { ⌜ at + length (display (treeAt (now page) i)) ≤ length (now out) ⌝ }
     ensures { λ r. ⌜ Wrote (now (out .entry)) (now (out .exit)) at (display (treeAt (now (page .entry)) i)) r ⌝ }
 {
     let node = view::view_at(page, starts, i, numberless);
@@ -136,11 +136,11 @@ fn write_operands(
     out: &mut [u8],
     at: usize,
 ) -> usize
-    requires { ⌜ Tables (now page) (now starts) (now firsts) end ⌝ }
-    requires { ⌜ NodeAt (now page) (now starts) node ⌝ }
-    requires { ⌜ count ≤ length (stackAt (now page) end) ⌝ }
-    requires { ⌜ Numberless (now page) (end - 1) numberless ⌝ }
-    requires { ⌜ at + length (joined (between (layoutAt (now page) node)) display display (operandsOf count (stackAt (now page) end))) ≤ length (now out) ⌝ }
+    requires tables { ⌜ Tables (now page) (now starts) (now firsts) end ⌝ }
+    requires node { ⌜ NodeAt (now page) (now starts) node ⌝ }
+    requires operands { ⌜ count ≤ length (stackAt (now page) end) ⌝ }
+    requires numberless { ⌜ Numberless (now page) (end - 1) numberless ⌝ }
+    requires room { ⌜ at + length (joined (between (layoutAt (now page) node)) display display (operandsOf count (stackAt (now page) end))) ≤ length (now out) ⌝ }
     ensures { λ r. ⌜ Wrote (now (out .entry)) (now (out .exit)) at (joined (between (layoutAt (now (page .entry)) node)) display display (operandsOf count (stackAt (now (page .entry)) end))) r ⌝ }
 {
     if count == 0 {

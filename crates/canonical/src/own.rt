@@ -54,8 +54,8 @@ pub fn rear_len(page: &[u8], starts: &[u16], node: Node, cap: usize) -> usize
 }
 
 pub fn put_front(page: &[u8], starts: &[u16], node: Node, out: &mut [u8], at: usize) -> usize
-    requires { ⌜ NodeAt (now page) (now starts) node ⌝ }
-    requires { ⌜ at + length (front (layoutAt (now page) node)) ≤ length (now out) ⌝ }
+    requires node { ⌜ NodeAt (now page) (now starts) node ⌝ }
+    requires room { ⌜ at + length (front (layoutAt (now page) node)) ≤ length (now out) ⌝ }
     ensures { λ r. ⌜ Wrote (now (out .entry)) (now (out .exit)) at (front (layoutAt (now (page .entry)) node)) r ⌝ }
 {
     match view::shape_of(node) {
@@ -71,8 +71,8 @@ pub fn put_front(page: &[u8], starts: &[u16], node: Node, out: &mut [u8], at: us
 }
 
 pub fn put_between(page: &[u8], starts: &[u16], node: Node, out: &mut [u8], at: usize) -> usize
-    requires { ⌜ NodeAt (now page) (now starts) node ⌝ }
-    requires { ⌜ at + length (between (layoutAt (now page) node)) ≤ length (now out) ⌝ }
+    requires node { ⌜ NodeAt (now page) (now starts) node ⌝ }
+    requires room { ⌜ at + length (between (layoutAt (now page) node)) ≤ length (now out) ⌝ }
     ensures { λ r. ⌜ Wrote (now (out .entry)) (now (out .exit)) at (between (layoutAt (now (page .entry)) node)) r ⌝ }
 {
     match view::shape_of(node) {
@@ -89,8 +89,8 @@ pub fn put_between(page: &[u8], starts: &[u16], node: Node, out: &mut [u8], at: 
 }
 
 pub fn put_rear(page: &[u8], starts: &[u16], node: Node, out: &mut [u8], at: usize) -> usize
-    requires { ⌜ NodeAt (now page) (now starts) node ⌝ }
-    requires { ⌜ at + length (rear (layoutAt (now page) node)) ≤ length (now out) ⌝ }
+    requires node { ⌜ NodeAt (now page) (now starts) node ⌝ }
+    requires room { ⌜ at + length (rear (layoutAt (now page) node)) ≤ length (now out) ⌝ }
     ensures { λ r. ⌜ Wrote (now (out .entry)) (now (out .exit)) at (rear (layoutAt (now (page .entry)) node)) r ⌝ }
 {
     match view::shape_of(node) {

@@ -19,8 +19,8 @@ ghost use Rattle.fields.specs.Fields.{CallAt, AggregateAt, SelectorLies}
 
 // The number, with its sign.
 pub fn literal_of(page: &[u8], starts: &[u16], node: Node) -> records::Literal
-    requires { ⌜ NodeAt (now page) (now starts) node ⌝ }
-    requires { ⌜ node .foot ≡ Foot.Number ⌝ }
+    requires node { ⌜ NodeAt (now page) (now starts) node ⌝ }
+    requires foot { ⌜ node .foot ≡ Foot.Number ⌝ }
     ensures { λ r. ⌜ NumberAt (now (page .entry)) (now (starts .entry)) (node .base) (literalOf r) ⌝ }
 {
     let base = node.base;
@@ -38,8 +38,8 @@ fn no_text() -> page::Span
 }
 
 pub fn string_of(page: &[u8], starts: &[u16], node: Node) -> page::Span
-    requires { ⌜ NodeAt (now page) (now starts) node ⌝ }
-    requires { ⌜ node .foot ≡ Foot.String ⌝ }
+    requires node { ⌜ NodeAt (now page) (now starts) node ⌝ }
+    requires foot { ⌜ node .foot ≡ Foot.String ⌝ }
     ensures reads { λ r. ⌜ Reads (now (page .entry)) (now (starts .entry)) (node .base) (leaf (string (spanOn (now (page .entry)) r))) ⌝ }
     ensures lies { λ r. ⌜ Lies (now (page .entry)) r ⌝ }
 {
@@ -52,8 +52,8 @@ pub fn string_of(page: &[u8], starts: &[u16], node: Node) -> page::Span
 
 // The name of a call's function.
 pub fn function_of(page: &[u8], starts: &[u16], node: Node) -> page::Span
-    requires { ⌜ NodeAt (now page) (now starts) node ⌝ }
-    requires { ⌜ node .foot ≡ Foot.Call ⌝ }
+    requires node { ⌜ NodeAt (now page) (now starts) node ⌝ }
+    requires foot { ⌜ node .foot ≡ Foot.Call ⌝ }
     ensures reads { λ r. ⌜ CallAt (now (page .entry)) (now (starts .entry)) (node .base) r ⌝ }
     ensures lies { λ r. ⌜ Lies (now (page .entry)) r ⌝ }
 {
@@ -78,8 +78,8 @@ fn selector(name: page::Span, matchers: usize, count: usize) -> reader::Selector
 }
 
 pub fn selector_of(page: &[u8], starts: &[u16], node: Node) -> reader::Selector
-    requires { ⌜ NodeAt (now page) (now starts) node ⌝ }
-    requires { ⌜ node .foot ≡ Foot.Selector ⌝ }
+    requires node { ⌜ NodeAt (now page) (now starts) node ⌝ }
+    requires foot { ⌜ node .foot ≡ Foot.Selector ⌝ }
     ensures reads { λ r. ⌜ Reads (now (page .entry)) (now (starts .entry)) (node .base) (leaf (selector (selectorOn (now (page .entry)) r))) ⌝ }
     ensures lies { λ r. ⌜ SelectorLies (now (page .entry)) r ⌝ }
     ensures unmarked { λ r. ⌜ (r .named ≡ false) × (r .empty ≡ false) ⌝ }
@@ -101,8 +101,8 @@ pub struct Spacing {
 }
 
 pub fn spacing_of(page: &[u8], starts: &[u16], node: Node) -> Spacing
-    requires { ⌜ NodeAt (now page) (now starts) node ⌝ }
-    requires { ⌜ node .foot ≡ Foot.Subquery ⌝ }
+    requires node { ⌜ NodeAt (now page) (now starts) node ⌝ }
+    requires foot { ⌜ node .foot ≡ Foot.Subquery ⌝ }
     ensures { λ r. ⌜ Reads (now (page .entry)) (now (starts .entry)) (node .base) (wrapper (subquery (r .range) (optionalDurationOf (r .step)))) ⌝ }
 {
     let start = view::fields_start(starts, node.base);
@@ -131,8 +131,8 @@ pub struct Operator {
 }
 
 pub fn operator_of(page: &[u8], starts: &[u16], node: Node) -> Operator
-    requires { ⌜ NodeAt (now page) (now starts) node ⌝ }
-    requires { ⌜ node .foot ≡ Foot.Binary ⌝ }
+    requires node { ⌜ NodeAt (now page) (now starts) node ⌝ }
+    requires foot { ⌜ node .foot ≡ Foot.Binary ⌝ }
     ensures reads { λ r. ⌜ Reads (now (page .entry)) (now (starts .entry)) (node .base) (binary (r .code) (modifierOn (now (page .entry)) (r .modifier))) ⌝ }
     ensures stored { λ r. ⌜ ModifierStored (now (page .entry)) (r .modifier) ⌝ }
     ensures exact { λ r. ⌜ ModifierExact (modifierOn (now (page .entry)) (r .modifier)) ⌝ }
@@ -163,8 +163,8 @@ pub struct Aggregator {
 }
 
 pub fn aggregator_of(page: &[u8], starts: &[u16], node: Node) -> Aggregator
-    requires { ⌜ NodeAt (now page) (now starts) node ⌝ }
-    requires { ⌜ node .foot ≡ Foot.Aggregate ⌝ }
+    requires node { ⌜ NodeAt (now page) (now starts) node ⌝ }
+    requires foot { ⌜ node .foot ≡ Foot.Aggregate ⌝ }
     ensures reads { λ r. ⌜ AggregateAt (now (page .entry)) (now (starts .entry)) (node .base) (r .code) (labelModifierOn (now (page .entry)) (r .grouping)) ⌝ }
     ensures stored { λ r. ⌜ LabelModifierStored (now (page .entry)) (r .grouping) ⌝ }
 {

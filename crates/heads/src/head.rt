@@ -46,8 +46,8 @@ fn put_bool(returns_bool: bool, out: &mut [u8], at: usize) -> usize
 
 // The fill numbers come as floats, with marks that say whether they are there.
 fn modifier_len(page: &[u8], modifier: BinModifier, values: FillValues, cap: usize) -> usize
-    requires { ⌜ BinModifierStored (now page) modifier ⌝ }
-    requires { ⌜ (values ≡ fillValues (fillOf (modifier .lhs)) (fillOf (modifier .rhs))) × FillExact (fillOf (modifier .lhs)) × FillExact (fillOf (modifier .rhs)) ⌝ }
+    requires stored { ⌜ BinModifierStored (now page) modifier ⌝ }
+    requires exact { ⌜ (values ≡ fillValues (fillOf (modifier .lhs)) (fillOf (modifier .rhs))) × FillExact (fillOf (modifier .lhs)) × FillExact (fillOf (modifier .rhs)) ⌝ }
     ensures { λ r. ⌜ r ≡ min (length (displayModifier (binModifierOn (now (page .entry)) modifier))) cap ⌝ }
 {
     let matching = modifier.matching;
@@ -66,9 +66,9 @@ fn put_modifier(
     out: &mut [u8],
     at: usize,
 ) -> usize
-    requires { ⌜ BinModifierStored (now page) modifier ⌝ }
-    requires { ⌜ (values ≡ fillValues (fillOf (modifier .lhs)) (fillOf (modifier .rhs))) × FillExact (fillOf (modifier .lhs)) × FillExact (fillOf (modifier .rhs)) ⌝ }
-    requires { ⌜ at + length (displayModifier (binModifierOn (now page) modifier)) ≤ length (now out) ⌝ }
+    requires stored { ⌜ BinModifierStored (now page) modifier ⌝ }
+    requires exact { ⌜ (values ≡ fillValues (fillOf (modifier .lhs)) (fillOf (modifier .rhs))) × FillExact (fillOf (modifier .lhs)) × FillExact (fillOf (modifier .rhs)) ⌝ }
+    requires room { ⌜ at + length (displayModifier (binModifierOn (now page) modifier)) ≤ length (now out) ⌝ }
     ensures { λ r. ⌜ Wrote (now (out .entry)) (now (out .exit)) at (displayModifier (binModifierOn (now (page .entry)) modifier)) r ⌝ }
 {
     let matching = modifier.matching;
@@ -82,8 +82,8 @@ fn put_modifier(
 }
 
 pub fn operator_len(page: &[u8], code: u64, modifier: Modifier, cap: usize) -> usize
-    requires { ⌜ ModifierStored (now page) modifier ⌝ }
-    requires { ⌜ ModifierExact (modifierOn (now page) modifier) ⌝ }
+    requires stored { ⌜ ModifierStored (now page) modifier ⌝ }
+    requires exact { ⌜ ModifierExact (modifierOn (now page) modifier) ⌝ }
     ensures { λ r. ⌜ r ≡ min (length (displayOperator code (modifierOn (now (page .entry)) modifier))) cap ⌝ }
 {
     let token = token_len(code);
@@ -99,9 +99,9 @@ pub fn operator_len(page: &[u8], code: u64, modifier: Modifier, cap: usize) -> u
 }
 
 pub fn put_operator(page: &[u8], code: u64, modifier: Modifier, out: &mut [u8], at: usize) -> usize
-    requires { ⌜ ModifierStored (now page) modifier ⌝ }
-    requires { ⌜ ModifierExact (modifierOn (now page) modifier) ⌝ }
-    requires { ⌜ at + length (displayOperator code (modifierOn (now page) modifier)) ≤ length (now out) ⌝ }
+    requires stored { ⌜ ModifierStored (now page) modifier ⌝ }
+    requires exact { ⌜ ModifierExact (modifierOn (now page) modifier) ⌝ }
+    requires room { ⌜ at + length (displayOperator code (modifierOn (now page) modifier)) ≤ length (now out) ⌝ }
     ensures { λ r. ⌜ Wrote (now (out .entry)) (now (out .exit)) at (displayOperator code (modifierOn (now (page .entry)) modifier)) r ⌝ }
 {
     match modifier {
@@ -131,8 +131,8 @@ pub fn put_aggregator(
     out: &mut [u8],
     at: usize,
 ) -> usize
-    requires { ⌜ LabelModifierStored (now page) grouping ⌝ }
-    requires { ⌜ at + length (displayAggregator code (labelModifierOn (now page) grouping)) ≤ length (now out) ⌝ }
+    requires stored { ⌜ LabelModifierStored (now page) grouping ⌝ }
+    requires room { ⌜ at + length (displayAggregator code (labelModifierOn (now page) grouping)) ≤ length (now out) ⌝ }
     ensures { λ r. ⌜ Wrote (now (out .entry)) (now (out .exit)) at (displayAggregator code (labelModifierOn (now (page .entry)) grouping)) r ⌝ }
 {
     let behind = put_token(code, out, at);

@@ -29,9 +29,9 @@ fn braces_len(page: &[u8], start: usize, count: usize, cap: usize) -> usize
 }
 
 fn put_braces(page: &[u8], start: usize, count: usize, out: &mut [u8], at: usize) -> usize
-    requires { ⌜ AllRead readMatcher count (drop start (now page)) ⌝ }
-    requires { ⌜ (length (matchersOn (now page) start count) ≤ countLimit) × (length (now page) ≤ pageLimit) ⌝ }
-    requires { ⌜ at + length (displayBraces (matchersOn (now page) start count)) ≤ length (now out) ⌝ }
+    requires stored { ⌜ AllRead readMatcher count (drop start (now page)) ⌝ }
+    requires limits { ⌜ (length (matchersOn (now page) start count) ≤ countLimit) × (length (now page) ≤ pageLimit) ⌝ }
+    requires room { ⌜ at + length (displayBraces (matchersOn (now page) start count)) ≤ length (now out) ⌝ }
     ensures { λ r. ⌜ Wrote (now (out .entry)) (now (out .exit)) at (displayBraces (matchersOn (now (page .entry)) start count)) r ⌝ }
 {
     if count == 0 {
@@ -43,8 +43,8 @@ fn put_braces(page: &[u8], start: usize, count: usize, out: &mut [u8], at: usize
 }
 
 pub fn selector_len(page: &[u8], selector: Selector, cap: usize) -> usize
-    requires { ⌜ Lies (now page) (selector .name) ⌝ }
-    requires { ⌜ AllRead readMatcher (selector .count) (drop (selector .matchers) (now page)) ⌝ }
+    requires lies { ⌜ Lies (now page) (selector .name) ⌝ }
+    requires stored { ⌜ AllRead readMatcher (selector .count) (drop (selector .matchers) (now page)) ⌝ }
     ensures { λ r. ⌜ r ≡ min (length (displaySelector (selectorOn (now (page .entry)) selector))) cap ⌝ }
 {
     let name = text_at(page, selector.name);
@@ -56,10 +56,10 @@ pub fn selector_len(page: &[u8], selector: Selector, cap: usize) -> usize
 }
 
 pub fn put_selector(page: &[u8], selector: Selector, out: &mut [u8], at: usize) -> usize
-    requires { ⌜ Lies (now page) (selector .name) ⌝ }
-    requires { ⌜ AllRead readMatcher (selector .count) (drop (selector .matchers) (now page)) ⌝ }
-    requires { ⌜ (length (matchersOn (now page) (selector .matchers) (selector .count)) ≤ countLimit) × (length (now page) ≤ pageLimit) ⌝ }
-    requires { ⌜ at + length (displaySelector (selectorOn (now page) selector)) ≤ length (now out) ⌝ }
+    requires lies { ⌜ Lies (now page) (selector .name) ⌝ }
+    requires stored { ⌜ AllRead readMatcher (selector .count) (drop (selector .matchers) (now page)) ⌝ }
+    requires limits { ⌜ (length (matchersOn (now page) (selector .matchers) (selector .count)) ≤ countLimit) × (length (now page) ≤ pageLimit) ⌝ }
+    requires room { ⌜ at + length (displaySelector (selectorOn (now page) selector)) ≤ length (now out) ⌝ }
     ensures { λ r. ⌜ Wrote (now (out .entry)) (now (out .exit)) at (displaySelector (selectorOn (now (page .entry)) selector)) r ⌝ }
 {
     let behind = put_bytes(text_at(page, selector.name), out, at);

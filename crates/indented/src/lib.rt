@@ -58,8 +58,8 @@ fn led_len(
     level: usize,
     cap: usize,
 ) -> usize
-    requires { ⌜ NodeAt (now page) (now starts) node ⌝ }
-    requires { ⌜ level ≤ 256 ⌝ }
+    requires node { ⌜ NodeAt (now page) (now starts) node ⌝ }
+    requires level { ⌜ level ≤ 256 ⌝ }
     ensures { λ r. ⌜ r ≡ min (length (indentIf indents level ++ head (layoutAt (now (page .entry)) node))) cap ⌝ }
 {
     let lead = indent_len(indents, level, cap);
@@ -75,8 +75,8 @@ fn put_led(
     out: &mut [u8],
     at: usize,
 ) -> usize
-    requires { ⌜ NodeAt (now page) (now starts) node ⌝ }
-    requires { ⌜ at + length (indentIf indents level ++ head (layoutAt (now page) node)) ≤ length (now out) ⌝ }
+    requires node { ⌜ NodeAt (now page) (now starts) node ⌝ }
+    requires room { ⌜ at + length (indentIf indents level ++ head (layoutAt (now page) node)) ≤ length (now out) ⌝ }
     ensures { λ r. ⌜ Wrote (now (out .entry)) (now (out .exit)) at (indentIf indents level ++ head (layoutAt (now (page .entry)) node)) r ⌝ }
 {
     let next = put_indent(indents, level, out, at);
@@ -91,8 +91,8 @@ pub fn front_at_len(
     level: usize,
     cap: usize,
 ) -> usize
-    requires { ⌜ NodeAt (now page) (now starts) node ⌝ }
-    requires { ⌜ level ≤ 256 ⌝ }
+    requires node { ⌜ NodeAt (now page) (now starts) node ⌝ }
+    requires level { ⌜ level ≤ 256 ⌝ }
     ensures { λ r. ⌜ r ≡ min (length (frontAt indents level (layoutAt (now (page .entry)) node))) cap ⌝ }
 {
     match view::shape_of(node) {
@@ -109,8 +109,8 @@ pub fn front_at_len(
 }
 
 pub fn between_at_len(page: &[u8], starts: &[u16], node: Node, level: usize, cap: usize) -> usize
-    requires { ⌜ NodeAt (now page) (now starts) node ⌝ }
-    requires { ⌜ level ≤ 256 ⌝ }
+    requires node { ⌜ NodeAt (now page) (now starts) node ⌝ }
+    requires level { ⌜ level ≤ 256 ⌝ }
     ensures { λ r. ⌜ r ≡ min (length (betweenAt level (layoutAt (now (page .entry)) node))) cap ⌝ }
 {
     match view::shape_of(node) {
@@ -126,8 +126,8 @@ pub fn between_at_len(page: &[u8], starts: &[u16], node: Node, level: usize, cap
 }
 
 pub fn rear_at_len(page: &[u8], starts: &[u16], node: Node, level: usize, cap: usize) -> usize
-    requires { ⌜ NodeAt (now page) (now starts) node ⌝ }
-    requires { ⌜ level ≤ 256 ⌝ }
+    requires node { ⌜ NodeAt (now page) (now starts) node ⌝ }
+    requires level { ⌜ level ≤ 256 ⌝ }
     ensures { λ r. ⌜ r ≡ min (length (rearAt level (layoutAt (now (page .entry)) node))) cap ⌝ }
 {
     match view::shape_of(node) {
@@ -148,8 +148,8 @@ pub fn put_front_at(
     out: &mut [u8],
     at: usize,
 ) -> usize
-    requires { ⌜ NodeAt (now page) (now starts) node ⌝ }
-    requires { ⌜ at + length (frontAt indents level (layoutAt (now page) node)) ≤ length (now out) ⌝ }
+    requires node { ⌜ NodeAt (now page) (now starts) node ⌝ }
+    requires room { ⌜ at + length (frontAt indents level (layoutAt (now page) node)) ≤ length (now out) ⌝ }
     ensures { λ r. ⌜ Wrote (now (out .entry)) (now (out .exit)) at (frontAt indents level (layoutAt (now (page .entry)) node)) r ⌝ }
 {
     match view::shape_of(node) {
@@ -172,8 +172,8 @@ pub fn put_between_at(
     out: &mut [u8],
     at: usize,
 ) -> usize
-    requires { ⌜ NodeAt (now page) (now starts) node ⌝ }
-    requires { ⌜ at + length (betweenAt level (layoutAt (now page) node)) ≤ length (now out) ⌝ }
+    requires node { ⌜ NodeAt (now page) (now starts) node ⌝ }
+    requires room { ⌜ at + length (betweenAt level (layoutAt (now page) node)) ≤ length (now out) ⌝ }
     ensures { λ r. ⌜ Wrote (now (out .entry)) (now (out .exit)) at (betweenAt level (layoutAt (now (page .entry)) node)) r ⌝ }
 {
     match view::shape_of(node) {
@@ -198,8 +198,8 @@ pub fn put_rear_at(
     out: &mut [u8],
     at: usize,
 ) -> usize
-    requires { ⌜ NodeAt (now page) (now starts) node ⌝ }
-    requires { ⌜ at + length (rearAt level (layoutAt (now page) node)) ≤ length (now out) ⌝ }
+    requires node { ⌜ NodeAt (now page) (now starts) node ⌝ }
+    requires room { ⌜ at + length (rearAt level (layoutAt (now page) node)) ≤ length (now out) ⌝ }
     ensures { λ r. ⌜ Wrote (now (out .entry)) (now (out .exit)) at (rearAt level (layoutAt (now (page .entry)) node)) r ⌝ }
 {
     match view::shape_of(node) {

@@ -83,8 +83,8 @@ fn arguments_match(
     top: usize,
     count: usize,
 ) -> bool
-    requires { ⌜ Sized (now tags) (now values) ⌝ }
-    requires { ⌜ top + count ≤ 256 ⌝ }
+    requires sized { ⌜ Sized (now tags) (now values) ⌝ }
+    requires inside { ⌜ top + count ≤ 256 ⌝ }
     ensures { λ r. ⌜ r ≡ argsMatch (kindsOn (now (page .entry)) kinds declared) (map operandKind (operandsOf count (drop top (heldOperands (now (tags .entry)) (now (values .entry)))))) ⌝ }
 {
     let mut left = count;
@@ -117,9 +117,9 @@ pub fn judge_call(
     top: usize,
     count: usize,
 ) -> Verdict
-    requires { ⌜ Sized (now tags) (now values) ⌝ }
-    requires { ⌜ FunctionLies (now page) function ⌝ }
-    requires { ⌜ top + count ≤ 256 ⌝ }
+    requires sized { ⌜ Sized (now tags) (now values) ⌝ }
+    requires lies { ⌜ FunctionLies (now page) function ⌝ }
+    requires inside { ⌜ top + count ≤ 256 ⌝ }
     ensures { λ r. ⌜ verdictMeant r ≡ judgeCall (functionOn (now (page .entry)) function) (operandsOf count (drop top (heldOperands (now (tags .entry)) (now (values .entry))))) ⌝ }
 {
     let name = function.name;

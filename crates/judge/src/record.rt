@@ -25,8 +25,8 @@ ghost use Rattle.judge.specs.Judgeable.{Judgeable};
 
 // The operands are there: they lie from `top` on, the last one first.
 pub fn judge_record(page: &[u8], item: Record, tags: &[u8], values: &[f64], top: usize) -> Verdict
-    requires { ⌜ Sized (now tags) (now values) ⌝ }
-    requires { ⌜ Judgeable (now page) item top ⌝ }
+    requires sized { ⌜ Sized (now tags) (now values) ⌝ }
+    requires ready { ⌜ Judgeable (now page) item top ⌝ }
     ensures { λ r. ⌜ verdictMeant r ≡ judgement (recordOn (now (page .entry)) item) (drop top (heldOperands (now (tags .entry)) (now (values .entry)))) ⌝ }
 {
     match item {

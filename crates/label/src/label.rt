@@ -68,8 +68,8 @@ pub fn labels_len(page: &[u8], start: usize, count: usize, cap: usize) -> usize
 
 // `, ` and a label, for each.
 fn put_more_labels(page: &[u8], start: usize, count: usize, out: &mut [u8], at: usize) -> usize
-    requires { ⌜ AllRead readAnyText count (drop start (now page)) ⌝ }
-    requires { ⌜ at + length (displayMoreLabels (listed readAnyText count (drop start (now page)))) ≤ length (now out) ⌝ }
+    requires stored { ⌜ AllRead readAnyText count (drop start (now page)) ⌝ }
+    requires room { ⌜ at + length (displayMoreLabels (listed readAnyText count (drop start (now page)))) ≤ length (now out) ⌝ }
     ensures { λ r. ⌜ Wrote (now (out .entry)) (now (out .exit)) at (displayMoreLabels (listed readAnyText count (drop start (now (page .entry))))) r ⌝ }
 {
     let mut pos = at;
@@ -86,8 +86,8 @@ fn put_more_labels(page: &[u8], start: usize, count: usize, out: &mut [u8], at: 
 }
 
 pub fn put_labels(page: &[u8], start: usize, count: usize, out: &mut [u8], at: usize) -> usize
-    requires { ⌜ AllRead readAnyText count (drop start (now page)) ⌝ }
-    requires { ⌜ at + length (displayLabels (listed readAnyText count (drop start (now page)))) ≤ length (now out) ⌝ }
+    requires stored { ⌜ AllRead readAnyText count (drop start (now page)) ⌝ }
+    requires room { ⌜ at + length (displayLabels (listed readAnyText count (drop start (now page)))) ≤ length (now out) ⌝ }
     ensures { λ r. ⌜ Wrote (now (out .entry)) (now (out .exit)) at (displayLabels (listed readAnyText count (drop start (now (page .entry))))) r ⌝ }
 {
     if count == 0 {

@@ -60,8 +60,8 @@ fn printed(page: &[u8], matcher: Matcher) -> Printed
 
 // The keys of so many matchers from a position on, and how many there are.
 fn collect(page: &[u8], start: usize, count: usize, keys: &mut [u64]) -> usize
-    requires { ⌜ AllRead readMatcher count (drop start (now page)) ⌝ }
-    requires { ⌜ (length (matchersOn (now page) start count) ≤ length (now keys)) × (length (now page) ≤ pageLimit) ⌝ }
+    requires stored { ⌜ AllRead readMatcher count (drop start (now page)) ⌝ }
+    requires limits { ⌜ (length (matchersOn (now page) start count) ≤ length (now keys)) × (length (now page) ≤ pageLimit) ⌝ }
     ensures { λ r. ⌜ Collected (now (page .entry)) (matchersOn (now (page .entry)) start count) (now (keys .exit)) r ⌝ }
 {
     let mut i: usize = 0;
@@ -130,9 +130,9 @@ fn put_in_order(page: &[u8], order: &[u64], out: &mut [u8], at: usize) -> usize
 }
 
 pub fn put_matchers(page: &[u8], start: usize, count: usize, out: &mut [u8], at: usize) -> usize
-    requires { ⌜ AllRead readMatcher count (drop start (now page)) ⌝ }
-    requires { ⌜ (length (matchersOn (now page) start count) ≤ countLimit) × (length (now page) ≤ pageLimit) ⌝ }
-    requires { ⌜ at + length (displayMatchers (matchersOn (now page) start count)) ≤ length (now out) ⌝ }
+    requires stored { ⌜ AllRead readMatcher count (drop start (now page)) ⌝ }
+    requires limits { ⌜ (length (matchersOn (now page) start count) ≤ countLimit) × (length (now page) ≤ pageLimit) ⌝ }
+    requires room { ⌜ at + length (displayMatchers (matchersOn (now page) start count)) ≤ length (now out) ⌝ }
     ensures { λ r. ⌜ Wrote (now (out .entry)) (now (out .exit)) at (displayMatchers (matchersOn (now (page .entry)) start count)) r ⌝ }
 {
     let mut keys = [0u64; 16];

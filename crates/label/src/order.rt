@@ -110,8 +110,8 @@ pub fn matcher_at_most(
     op2: u8,
     value2: &[u8],
 ) -> bool
-    requires { ⌜ (bare1 ≡ isLabel (now name1)) × (op1 < 4) × (length (now name1) ≤ 255) × (length (now value1) ≤ 255) ⌝ }
-    requires { ⌜ (bare2 ≡ isLabel (now name2)) × (op2 < 4) × (length (now name2) ≤ 255) × (length (now value2) ≤ 255) ⌝ }
+    requires first { ⌜ (bare1 ≡ isLabel (now name1)) × (op1 < 4) × (length (now name1) ≤ 255) × (length (now value1) ≤ 255) ⌝ }
+    requires second { ⌜ (bare2 ≡ isLabel (now name2)) × (op2 < 4) × (length (now name2) ≤ 255) × (length (now value2) ≤ 255) ⌝ }
     ensures { λ r. ⌜ r ≡ atMost (matcherText (now (name1 .entry)) op1 (now (value1 .entry))) (matcherText (now (name2 .entry)) op2 (now (value2 .entry))) ⌝ }
 {
     let n = matcher_count(name1, bare1, op1, value1);

@@ -24,9 +24,9 @@ pub fn width(
     i: usize,
     numberless: bool,
 ) -> usize
-    requires { ⌜ Tables (now page) (now starts) (now firsts) (suc i) ⌝ }
-    requires { ⌜ Widths (now page) (now widths) ⌝ }
-    requires { ⌜ Numberless (now page) i numberless ⌝ }
+    requires tables { ⌜ Tables (now page) (now starts) (now firsts) (suc i) ⌝ }
+    requires known { ⌜ Widths (now page) (now widths) ⌝ }
+    requires numberless { ⌜ Numberless (now page) i numberless ⌝ }
     ensures { λ r. ⌜ r ≡ min (length (display (treeAt (now (page .entry)) i))) 101 ⌝ }
 {
     let known = widths[i] as usize;
@@ -45,9 +45,9 @@ fn measure(
     numberless: bool,
     widths: &mut [u8],
 ) -> usize
-    requires { ⌜ Tables (now page) (now starts) (now firsts) (suc i) ⌝ }
-    requires { ⌜ Numberless (now page) i numberless ⌝ }
-    requires { ⌜ Widths (now page) (now widths) ⌝ }
+    requires tables { ⌜ Tables (now page) (now starts) (now firsts) (suc i) ⌝ }
+    requires numberless { ⌜ Numberless (now page) i numberless ⌝ }
+    requires known { ⌜ Widths (now page) (now widths) ⌝ }
     ensures value { λ r. ⌜ r ≡ min (length (display (treeAt (now (page .entry)) i))) 101 ⌝ }
     ensures known { λ r. ⌜ Widths (now (page .entry)) (now (widths .exit)) ⌝ }
 {
@@ -88,11 +88,11 @@ fn measure_operands(
     cap: usize,
     widths: &mut [u8],
 ) -> usize
-    requires { ⌜ Tables (now page) (now starts) (now firsts) end ⌝ }
-    requires { ⌜ count ≤ length (stackAt (now page) end) ⌝ }
-    requires { ⌜ Numberless (now page) (end - 1) numberless ⌝ }
-    requires { ⌜ cap ≤ 101 ⌝ }
-    requires { ⌜ Widths (now page) (now widths) ⌝ }
+    requires tables { ⌜ Tables (now page) (now starts) (now firsts) end ⌝ }
+    requires operands { ⌜ count ≤ length (stackAt (now page) end) ⌝ }
+    requires numberless { ⌜ Numberless (now page) (end - 1) numberless ⌝ }
+    requires cap { ⌜ cap ≤ 101 ⌝ }
+    requires known { ⌜ Widths (now page) (now widths) ⌝ }
     ensures value { λ r. ⌜ Measured (λ separator. joined separator display display (operandsOf count (stackAt (now (page .entry)) end))) gap cap r ⌝ }
     ensures known { λ r. ⌜ Widths (now (page .entry)) (now (widths .exit)) ⌝ }
 {

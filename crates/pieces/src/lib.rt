@@ -50,8 +50,8 @@ fn put_selector(
     out: &mut [u8],
     at: usize,
 ) -> usize
-    requires { ⌜ SelectorLies (now page) selector ⌝ }
-    requires { ⌜ at + length (displaySelector (selectorOn (now page) selector) ++ (displayRange (optionalDurationOf (attached .range)) ++ displayTimes (timesOf (attached .times)))) ≤ length (now out) ⌝ }
+    requires lies { ⌜ SelectorLies (now page) selector ⌝ }
+    requires room { ⌜ at + length (displaySelector (selectorOn (now page) selector) ++ (displayRange (optionalDurationOf (attached .range)) ++ displayTimes (timesOf (attached .times)))) ≤ length (now out) ⌝ }
     ensures { λ r. ⌜ Wrote (now (out .entry)) (now (out .exit)) at (displaySelector (selectorOn (now (page .entry)) selector) ++ (displayRange (optionalDurationOf (attached .range)) ++ displayTimes (timesOf (attached .times)))) r ⌝ }
 {
     let range = attached.range;
@@ -98,8 +98,8 @@ pub fn head_len(page: &[u8], starts: &[u16], node: Node, cap: usize) -> usize
 }
 
 pub fn put_head(page: &[u8], starts: &[u16], node: Node, out: &mut [u8], at: usize) -> usize
-    requires { ⌜ NodeAt (now page) (now starts) node ⌝ }
-    requires { ⌜ at + length (head (layoutAt (now page) node)) ≤ length (now out) ⌝ }
+    requires node { ⌜ NodeAt (now page) (now starts) node ⌝ }
+    requires room { ⌜ at + length (head (layoutAt (now page) node)) ≤ length (now out) ⌝ }
     ensures { λ r. ⌜ Wrote (now (out .entry)) (now (out .exit)) at (head (layoutAt (now (page .entry)) node)) r ⌝ }
 {
     let foot = node.foot;
@@ -144,8 +144,8 @@ pub fn operator_len(page: &[u8], starts: &[u16], node: Node, cap: usize) -> usiz
 }
 
 pub fn put_operator(page: &[u8], starts: &[u16], node: Node, out: &mut [u8], at: usize) -> usize
-    requires { ⌜ NodeAt (now page) (now starts) node ⌝ }
-    requires { ⌜ at + length (operator (layoutAt (now page) node)) ≤ length (now out) ⌝ }
+    requires node { ⌜ NodeAt (now page) (now starts) node ⌝ }
+    requires room { ⌜ at + length (operator (layoutAt (now page) node)) ≤ length (now out) ⌝ }
     ensures { λ r. ⌜ Wrote (now (out .entry)) (now (out .exit)) at (operator (layoutAt (now (page .entry)) node)) r ⌝ }
 {
     let foot = node.foot;
@@ -174,8 +174,8 @@ pub fn suffix_len(page: &[u8], starts: &[u16], node: Node, cap: usize) -> usize
 }
 
 pub fn put_suffix(page: &[u8], starts: &[u16], node: Node, out: &mut [u8], at: usize) -> usize
-    requires { ⌜ NodeAt (now page) (now starts) node ⌝ }
-    requires { ⌜ at + length (suffix (layoutAt (now page) node)) ≤ length (now out) ⌝ }
+    requires node { ⌜ NodeAt (now page) (now starts) node ⌝ }
+    requires room { ⌜ at + length (suffix (layoutAt (now page) node)) ≤ length (now out) ⌝ }
     ensures { λ r. ⌜ Wrote (now (out .entry)) (now (out .exit)) at (suffix (layoutAt (now (page .entry)) node)) r ⌝ }
 {
     let foot = node.foot;

@@ -71,8 +71,8 @@ fn judge_operand(code: u64, parameter: Parameter, operand: Kind) -> Verdict
 
 // The arguments are the topmost so many entries of the stack, the operand being the last.
 pub fn judge_aggregate(code: u64, tags: &[u8], values: &[f64], top: usize, count: usize) -> Verdict
-    requires { ⌜ Sized (now tags) (now values) ⌝ }
-    requires { ⌜ top + count ≤ 256 ⌝ }
+    requires sized { ⌜ Sized (now tags) (now values) ⌝ }
+    requires inside { ⌜ top + count ≤ 256 ⌝ }
     ensures { λ r. ⌜ verdictMeant r ≡ judgeAggregate code (map operandKind (operandsOf count (drop top (heldOperands (now (tags .entry)) (now (values .entry)))))) ⌝ }
 {
     if count == 0 {

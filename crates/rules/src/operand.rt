@@ -114,8 +114,8 @@ pub fn operand_from(tag: u8, value: f64) -> Operand
 
 // The operand at an index of the stack.
 pub fn operand_at(tags: &[u8], values: &[f64], i: usize) -> Operand
-    requires { ⌜ Sized (now tags) (now values) ⌝ }
-    requires { ⌜ i < 256 ⌝ }
+    requires sized { ⌜ Sized (now tags) (now values) ⌝ }
+    requires inside { ⌜ i < 256 ⌝ }
     ensures { λ r. ⌜ operandMeant r ≡ getD (heldOperands (now (tags .entry)) (now (values .entry))) i stringOperand ⌝ }
 {
     operand_from(tags[i], values[i])

@@ -29,10 +29,10 @@ pub fn split_len(
     place: Place,
     cap: usize,
 ) -> usize
-    requires { ⌜ Tables (now page) (now starts) (now firsts) (suc i) ⌝ }
-    requires { ⌜ Widths (now page) (now widths) ⌝ }
-    requires { ⌜ Numberless (now page) i (place .numberless) ⌝ }
-    requires { ⌜ place .level + i ≤ 256 ⌝ }
+    requires tables { ⌜ Tables (now page) (now starts) (now firsts) (suc i) ⌝ }
+    requires known { ⌜ Widths (now page) (now widths) ⌝ }
+    requires numberless { ⌜ Numberless (now page) i (place .numberless) ⌝ }
+    requires level { ⌜ place .level + i ≤ 256 ⌝ }
     ensures { λ r. ⌜ r ≡ min (length (prettyIndented (place .indents) (place .level) (treeAt (now (page .entry)) i))) cap ⌝ }
 {
     if cap == 0 {
@@ -70,11 +70,11 @@ fn split_operands_len(
     gap: usize,
     cap: usize,
 ) -> usize
-    requires { ⌜ Tables (now page) (now starts) (now firsts) end ⌝ }
-    requires { ⌜ Widths (now page) (now widths) ⌝ }
-    requires { ⌜ count ≤ length (stackAt (now page) end) ⌝ }
-    requires { ⌜ Numberless (now page) (end - 1) (place .numberless) ⌝ }
-    requires { ⌜ place .level + end ≤ 257 ⌝ }
+    requires tables { ⌜ Tables (now page) (now starts) (now firsts) end ⌝ }
+    requires known { ⌜ Widths (now page) (now widths) ⌝ }
+    requires operands { ⌜ count ≤ length (stackAt (now page) end) ⌝ }
+    requires numberless { ⌜ Numberless (now page) (end - 1) (place .numberless) ⌝ }
+    requires level { ⌜ place .level + end ≤ 257 ⌝ }
     ensures { λ r. ⌜ Measured (λ separator. joined separator (prettyIndented (place .indents) (place .level)) (prettyIndented true (place .level)) (operandsOf count (stackAt (now (page .entry)) end))) gap cap r ⌝ }
 {
     if count == 0 {

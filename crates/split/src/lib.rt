@@ -30,8 +30,8 @@ fn inner_indents(page: &[u8], starts: &[u16], node: Node, indents: bool) -> bool
 
 // The level of the operands.
 fn inner_level(page: &[u8], starts: &[u16], node: Node, level: usize) -> usize
-    requires { ⌜ NodeAt (now page) (now starts) node ⌝ }
-    requires { ⌜ level ≤ 256 ⌝ }
+    requires node { ⌜ NodeAt (now page) (now starts) node ⌝ }
+    requires level { ⌜ level ≤ 256 ⌝ }
     ensures { λ r. ⌜ (r ≡ innerLevel level (layoutAt (now (page .entry)) node)) × (r ≤ suc level) ⌝ }
 {
     match view::shape_of(node) {

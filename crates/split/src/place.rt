@@ -35,8 +35,8 @@ pub fn with_indents(place: Place, indents: bool) -> Place
 
 // The place of the first operand, by the node's indents and level; `numberless` is said of the operand already.
 pub fn inner_place(page: &[u8], starts: &[u16], node: view::Node, place: Place) -> Place
-    requires { ⌜ NodeAt (now page) (now starts) node ⌝ }
-    requires { ⌜ place .level ≤ 256 ⌝ }
+    requires node { ⌜ NodeAt (now page) (now starts) node ⌝ }
+    requires level { ⌜ place .level ≤ 256 ⌝ }
     ensures { λ r. ⌜ (r ≡ innerPlace (now (page .entry)) node place) × (r .level ≤ suc (place .level)) ⌝ }
 {
     let indents = inner_indents(page, starts, node, place.indents);

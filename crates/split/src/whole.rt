@@ -26,8 +26,8 @@ pub fn prettify_len(
     i: usize,
     cap: usize,
 ) -> usize
-    requires { ⌜ Tables (now page) (now starts) (now firsts) (suc i) ⌝ }
-    requires { ⌜ Widths (now page) (now widths) ⌝ }
+    requires tables { ⌜ Tables (now page) (now starts) (now firsts) (suc i) ⌝ }
+    requires known { ⌜ Widths (now page) (now widths) ⌝ }
     ensures { λ r. ⌜ r ≡ min (length (prettify (treeAt (now (page .entry)) i))) cap ⌝ }
 {
     split_len(page, starts, firsts, widths, i, WHOLE, cap)
@@ -42,9 +42,9 @@ pub fn put_prettify(
     i: usize,
     out: &mut [u8],
 ) -> usize
-    requires { ⌜ Tables (now page) (now starts) (now firsts) (suc i) ⌝ }
-    requires { ⌜ Widths (now page) (now widths) ⌝ }
-    requires { ⌜ length (prettify (treeAt (now page) i)) ≤ length (now out) ⌝ }
+    requires tables { ⌜ Tables (now page) (now starts) (now firsts) (suc i) ⌝ }
+    requires known { ⌜ Widths (now page) (now widths) ⌝ }
+    requires room { ⌜ length (prettify (treeAt (now page) i)) ≤ length (now out) ⌝ }
     ensures { λ r. ⌜ Wrote (now (out .entry)) (now (out .exit)) 0 (prettify (treeAt (now (page .entry)) i)) r ⌝ }
 {
     write_split(page, starts, firsts, widths, i, WHOLE, out, 0)

@@ -29,11 +29,11 @@ pub fn write_split(
     out: &mut [u8],
     at: usize,
 ) -> usize
-    requires { ⌜ Tables (now page) (now starts) (now firsts) (suc i) ⌝ }
-    requires { ⌜ Widths (now page) (now widths) ⌝ }
-    requires { ⌜ Numberless (now page) i (place .numberless) ⌝ }
-    requires { ⌜ place .level + i ≤ 256 ⌝ }
-    requires { ⌜ at + length (prettyIndented (place .indents) (place .level) (treeAt (now page) i)) ≤ length (now out) ⌝ }
+    requires tables { ⌜ Tables (now page) (now starts) (now firsts) (suc i) ⌝ }
+    requires known { ⌜ Widths (now page) (now widths) ⌝ }
+    requires numberless { ⌜ Numberless (now page) i (place .numberless) ⌝ }
+    requires level { ⌜ place .level + i ≤ 256 ⌝ }
+    requires room { ⌜ at + length (prettyIndented (place .indents) (place .level) (treeAt (now page) i)) ≤ length (now out) ⌝ }
     ensures { λ r. ⌜ Wrote (now (out .entry)) (now (out .exit)) at (prettyIndented (place .indents) (place .level) (treeAt (now (page .entry)) i)) r ⌝ }
 {
     let line = width(page, starts, firsts, widths, i, place.numberless);
@@ -65,13 +65,13 @@ fn write_split_operands(
     out: &mut [u8],
     at: usize,
 ) -> usize
-    requires { ⌜ Tables (now page) (now starts) (now firsts) end ⌝ }
-    requires { ⌜ Widths (now page) (now widths) ⌝ }
-    requires { ⌜ NodeAt (now page) (now starts) own ⌝ }
-    requires { ⌜ count ≤ length (stackAt (now page) end) ⌝ }
-    requires { ⌜ Numberless (now page) (end - 1) (place .numberless) ⌝ }
-    requires { ⌜ place .level + end ≤ 256 ⌝ }
-    requires { ⌜ at + length (Operands (now page) own (place .indents) (place .level) count end) ≤ length (now out) ⌝ }
+    requires tables { ⌜ Tables (now page) (now starts) (now firsts) end ⌝ }
+    requires known { ⌜ Widths (now page) (now widths) ⌝ }
+    requires node { ⌜ NodeAt (now page) (now starts) own ⌝ }
+    requires operands { ⌜ count ≤ length (stackAt (now page) end) ⌝ }
+    requires numberless { ⌜ Numberless (now page) (end - 1) (place .numberless) ⌝ }
+    requires level { ⌜ place .level + end ≤ 256 ⌝ }
+    requires room { ⌜ at + length (Operands (now page) own (place .indents) (place .level) count end) ≤ length (now out) ⌝ }
     ensures { λ r. ⌜ Wrote (now (out .entry)) (now (out .exit)) at (Operands (now (page .entry)) own (place .indents) (place .level) count end) r ⌝ }
 {
     if count == 0 {

@@ -85,8 +85,8 @@ pub fn fills_len(values: FillValues, lhs: Fill, rhs: Fill) -> usize
 }
 
 pub fn put_fills(values: FillValues, lhs: Fill, rhs: Fill, out: &mut [u8], at: usize) -> usize
-    requires { ⌜ (values ≡ fillValues (fillOf lhs) (fillOf rhs)) × FillExact (fillOf lhs) × FillExact (fillOf rhs) ⌝ }
-    requires { ⌜ at + length (displayFills (fillOf lhs) (fillOf rhs)) ≤ length (now out) ⌝ }
+    requires exact { ⌜ (values ≡ fillValues (fillOf lhs) (fillOf rhs)) × FillExact (fillOf lhs) × FillExact (fillOf rhs) ⌝ }
+    requires room { ⌜ at + length (displayFills (fillOf lhs) (fillOf rhs)) ≤ length (now out) ⌝ }
     ensures { λ r. ⌜ Wrote (now (out .entry)) (now (out .exit)) at (displayFills (fillOf lhs) (fillOf rhs)) r ⌝ }
 {
     if values.has_left {

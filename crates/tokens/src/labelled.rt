@@ -31,8 +31,8 @@ pub fn put_labelled(
     out: &mut [u8],
     at: usize,
 ) -> usize
-    requires { ⌜ AllRead readAnyText count (drop start (now page)) ⌝ }
-    requires { ⌜ at + length (labelledBytes (now token) (labelsOn (now page) start count)) ≤ length (now out) ⌝ }
+    requires stored { ⌜ AllRead readAnyText count (drop start (now page)) ⌝ }
+    requires room { ⌜ at + length (labelledBytes (now token) (labelsOn (now page) start count)) ≤ length (now out) ⌝ }
     ensures { λ r. ⌜ Wrote (now (out .entry)) (now (out .exit)) at (labelledBytes (now (token .entry)) (labelsOn (now (page .entry)) start count)) r ⌝ }
 {
     let bracket = put_bytes(token, out, at);

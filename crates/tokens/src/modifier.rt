@@ -29,8 +29,8 @@ pub fn matching_len(page: &[u8], matching: LabelModifier, cap: usize) -> usize
 }
 
 pub fn put_matching(page: &[u8], matching: LabelModifier, out: &mut [u8], at: usize) -> usize
-    requires { ⌜ LabelModifierStored (now page) matching ⌝ }
-    requires { ⌜ at + length (displayMatching (labelModifierOn (now page) matching)) ≤ length (now out) ⌝ }
+    requires stored { ⌜ LabelModifierStored (now page) matching ⌝ }
+    requires room { ⌜ at + length (displayMatching (labelModifierOn (now page) matching)) ≤ length (now out) ⌝ }
     ensures { λ r. ⌜ Wrote (now (out .entry)) (now (out .exit)) at (displayMatching (labelModifierOn (now (page .entry)) matching)) r ⌝ }
 {
     match matching {
@@ -58,8 +58,8 @@ pub fn cardinality_len(page: &[u8], card: Cardinality, cap: usize) -> usize
 }
 
 pub fn put_cardinality(page: &[u8], card: Cardinality, out: &mut [u8], at: usize) -> usize
-    requires { ⌜ CardinalityStored (now page) card ⌝ }
-    requires { ⌜ at + length (displayCardinality (cardinalityOn (now page) card)) ≤ length (now out) ⌝ }
+    requires stored { ⌜ CardinalityStored (now page) card ⌝ }
+    requires room { ⌜ at + length (displayCardinality (cardinalityOn (now page) card)) ≤ length (now out) ⌝ }
     ensures { λ r. ⌜ Wrote (now (out .entry)) (now (out .exit)) at (displayCardinality (cardinalityOn (now (page .entry)) card)) r ⌝ }
 {
     match card {
@@ -102,8 +102,8 @@ pub fn grouping_len(page: &[u8], grouping: LabelModifier, cap: usize) -> usize
 }
 
 pub fn put_grouping(page: &[u8], grouping: LabelModifier, out: &mut [u8], at: usize) -> usize
-    requires { ⌜ LabelModifierStored (now page) grouping ⌝ }
-    requires { ⌜ at + length (displayGrouping (labelModifierOn (now page) grouping)) ≤ length (now out) ⌝ }
+    requires stored { ⌜ LabelModifierStored (now page) grouping ⌝ }
+    requires room { ⌜ at + length (displayGrouping (labelModifierOn (now page) grouping)) ≤ length (now out) ⌝ }
     ensures { λ r. ⌜ Wrote (now (out .entry)) (now (out .exit)) at (displayGrouping (labelModifierOn (now (page .entry)) grouping)) r ⌝ }
 {
     match grouping {

@@ -94,10 +94,10 @@ fn node_of(foot: Foot, top: usize, base: usize, count: usize) -> Node
 
 // A unary record: a minus, unless it is the sign of a bare number. Under another minus there is none.
 fn unary_view(page: &[u8], starts: &[u16], i: usize, j: usize, numberless: bool) -> Node
-    requires { ⌜ Starts (now page) (now starts) (suc i) ⌝ }
-    requires { ⌜ FootOf (now page) (now starts) i j ⌝ }
-    requires { ⌜ KindAt (now page) (now starts) j 7 ⌝ }
-    requires { ⌜ Numberless (now page) i numberless ⌝ }
+    requires starts { ⌜ Starts (now page) (now starts) (suc i) ⌝ }
+    requires foot { ⌜ FootOf (now page) (now starts) i j ⌝ }
+    requires kind { ⌜ KindAt (now page) (now starts) j 7 ⌝ }
+    requires numberless { ⌜ Numberless (now page) i numberless ⌝ }
     ensures { λ r. ⌜ Viewed (now (page .entry)) (now (starts .entry)) i r ⌝ }
 {
     if numberless {
@@ -111,8 +111,8 @@ fn unary_view(page: &[u8], starts: &[u16], i: usize, j: usize, numberless: bool)
 
 // The node that record i ends. `numberless` says that it is known to be no bare number.
 pub fn view_at(page: &[u8], starts: &[u16], i: usize, numberless: bool) -> Node
-    requires { ⌜ Starts (now page) (now starts) (suc i) ⌝ }
-    requires { ⌜ Numberless (now page) i numberless ⌝ }
+    requires starts { ⌜ Starts (now page) (now starts) (suc i) ⌝ }
+    requires numberless { ⌜ Numberless (now page) i numberless ⌝ }
     ensures { λ r. ⌜ Viewed (now (page .entry)) (now (starts .entry)) i r ⌝ }
 {
     let j = foot_of(page, starts, i);

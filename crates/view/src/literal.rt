@@ -29,8 +29,8 @@ fn negated(l: records::Literal) -> records::Literal
 
 // The number of a number record.
 fn literal_at(page: &[u8], starts: &[u16], i: usize) -> records::Literal
-    requires { ⌜ Starts (now page) (now starts) (suc i) ⌝ }
-    requires { ⌜ KindAt (now page) (now starts) i 0 ⌝ }
+    requires starts { ⌜ Starts (now page) (now starts) (suc i) ⌝ }
+    requires kind { ⌜ KindAt (now page) (now starts) i 0 ⌝ }
     ensures { λ r. ⌜ Reads (now (page .entry)) (now (starts .entry)) i (leaf (number (literalOf r))) ⌝ }
 {
     match records::read_literal(page, fields_start(starts, i)) {

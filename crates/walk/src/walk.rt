@@ -39,9 +39,9 @@ fn judge_next(
     values: &[f64],
     top: usize,
 ) -> Verdict
-    requires { ⌜ Sized (now tags) (now values) ⌝ }
-    requires { ⌜ RecordRead (now page) item needed ⌝ }
-    requires { ⌜ top ≤ 256 ⌝ }
+    requires sized { ⌜ Sized (now tags) (now values) ⌝ }
+    requires item { ⌜ RecordRead (now page) item needed ⌝ }
+    requires inside { ⌜ top ≤ 256 ⌝ }
     ensures { λ r. ⌜ verdictMeant r ≡ judgement (recordOn (now (page .entry)) item) (drop top (heldOperands (now (tags .entry)) (now (values .entry)))) ⌝ }
 {
     if 256 - top < needed {
@@ -52,8 +52,8 @@ fn judge_next(
 
 // The first record of the expression that record `count` ends: that of its deepest operand, or itself.
 fn first_record(bases: &[u8], top: usize, needed: usize, count: usize) -> u8
-    requires { ⌜ length (now bases) ≡ 256 ⌝ }
-    requires { ⌜ (top + needed ≤ 256) × (count < 256) ⌝ }
+    requires sized { ⌜ length (now bases) ≡ 256 ⌝ }
+    requires inside { ⌜ (top + needed ≤ 256) × (count < 256) ⌝ }
     ensures { λ r. ⌜ r ≡ firstOf needed count (drop top (now (bases .entry))) ⌝ }
 {
     if needed == 0 {
