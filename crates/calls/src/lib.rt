@@ -17,10 +17,10 @@ pub fn copy(page: &[u8], out: &mut [u8]) -> Outcome
     let mut firsts = [0u8; 256];
     let walked = walk(page, &mut starts, &mut firsts);
     match walked {
-        Walked::Accepted(kind, n) => {
+        Walked::Accepted { kind, count: n } => {
             if copy::copy_fits(page, &starts, n, out.len()) {
                 let written = copy::put_copy(page, &starts, n, out);
-                return Outcome::Accepted(kind, written);
+                return Outcome::Accepted { kind, written };
             }
             Outcome::Refused(Refusal::OutputTooShort, n)
         }
@@ -36,10 +36,10 @@ pub fn canonical(page: &[u8], out: &mut [u8]) -> Outcome
     let mut firsts = [0u8; 256];
     let walked = walk(page, &mut starts, &mut firsts);
     match walked {
-        Walked::Accepted(kind, n) => {
+        Walked::Accepted { kind, count: n } => {
             if canonical::text_fits(page, &starts, &firsts, n - 1, out.len()) {
                 let written = canonical::write_text(page, &starts, &firsts, n - 1, false, out, 0);
-                return Outcome::Accepted(kind, written);
+                return Outcome::Accepted { kind, written };
             }
             Outcome::Refused(Refusal::OutputTooShort, n)
         }
@@ -55,13 +55,13 @@ pub fn split(page: &[u8], out: &mut [u8]) -> Outcome
     let mut firsts = [0u8; 256];
     let walked = walk(page, &mut starts, &mut firsts);
     match walked {
-        Walked::Accepted(kind, n) => {
+        Walked::Accepted { kind, count: n } => {
             let room = out.len();
             let widths = widths_of(page, &starts, &firsts, n - 1);
             let size = prettify_len(page, &starts, &firsts, &widths, n - 1, room + 1);
             if size <= room {
                 let written = put_prettify(page, &starts, &firsts, &widths, n - 1, out);
-                return Outcome::Accepted(kind, written);
+                return Outcome::Accepted { kind, written };
             }
             Outcome::Refused(Refusal::OutputTooShort, n)
         }

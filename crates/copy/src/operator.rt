@@ -27,7 +27,7 @@ fn cardinality_at(page: &[u8], start: usize, next: usize) -> usize
     ensures { λ r. ⌜ CardinalityAt (now (page .entry)) start next r ⌝ }
 {
     match records::read_label_modifier(page, start + 4) {
-        records::LabelModifierField::Got(_, cut) => cut,
+        records::LabelModifierField::Got { next: cut, .. } => cut,
         // the record was read, so its matching can be read again
         records::LabelModifierField::Bad(_) => start,
     }

@@ -70,15 +70,15 @@ fn with_record(page: &[u8], starts: &[u16], j: usize, attached: Attached) -> Att
     let start = view::fields_start(starts, j);
     match view::kind_at(page, starts, j) {
         3 => match page::read_number(page, start) {
-            page::Number::Got(n, _) => with_range(attached, n),
+            page::Number::Got { number: n, .. } => with_range(attached, n),
             page::Number::Bad => attached,
         },
         5 => match records::read_at_modifier(page, start) {
-            records::AtField::Got(a, _) => with_at(attached, a),
+            records::AtField::Got { modifier: a, .. } => with_at(attached, a),
             records::AtField::Bad(_) => attached,
         },
         _ => match records::read_offset(page, start) {
-            records::OffsetField::Got(o, _) => with_offset(attached, o),
+            records::OffsetField::Got { offset: o, .. } => with_offset(attached, o),
             records::OffsetField::Bad => attached,
         },
     }

@@ -87,7 +87,10 @@ pub fn selector_of(page: &[u8], starts: &[u16], node: Node) -> reader::Selector
     let start = view::fields_start(starts, node.base);
     match page::read_text(page, start, page::TextClass::MetricName) {
         page::Text::Got(name) => match page::read_count(page, name.end) {
-            page::Count::Got(count, matchers) => selector(name, matchers, count),
+            page::Count::Got {
+                count,
+                next: matchers,
+            } => selector(name, matchers, count),
             page::Count::Bad(_) => selector(name, 0, 0),
         },
         page::Text::Bad(_) => selector(no_text(), 0, 0),
@@ -107,8 +110,11 @@ pub fn spacing_of(page: &[u8], starts: &[u16], node: Node) -> Spacing
 {
     let start = view::fields_start(starts, node.base);
     match page::read_number(page, start) {
-        page::Number::Got(range, next) => match records::read_optional_duration(page, next) {
-            records::OptionalDurationField::Got(step, _) => Spacing {
+        page::Number::Got {
+            number: range,
+            next,
+        } => match records::read_optional_duration(page, next) {
+            records::OptionalDurationField::Got { step, .. } => Spacing {
                 range: range,
                 step: step,
             },
@@ -139,8 +145,8 @@ pub fn operator_of(page: &[u8], starts: &[u16], node: Node) -> Operator
 {
     let start = view::fields_start(starts, node.base);
     match reader::read_code(page, start) {
-        page::Number::Got(code, next) => match records::read_modifier(page, next) {
-            records::ModifierField::Got(modifier, _) => Operator {
+        page::Number::Got { number: code, next } => match records::read_modifier(page, next) {
+            records::ModifierField::Got { modifier, .. } => Operator {
                 code: code,
                 modifier: modifier,
             },
@@ -170,8 +176,11 @@ pub fn aggregator_of(page: &[u8], starts: &[u16], node: Node) -> Aggregator
 {
     let start = view::fields_start(starts, node.base);
     match reader::read_code(page, start) {
-        page::Number::Got(code, next) => match records::read_label_modifier(page, next) {
-            records::LabelModifierField::Got(grouping, _) => Aggregator {
+        page::Number::Got { number: code, next } => match records::read_label_modifier(page, next) {
+            records::LabelModifierField::Got {
+                modifier: grouping,
+                ..
+            } => Aggregator {
                 code: code,
                 grouping: grouping,
             },

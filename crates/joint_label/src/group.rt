@@ -37,8 +37,8 @@ fn joint_in(page: &[u8], at: usize, on: usize, ons: usize) -> Span
     ensures { λ r. ⌜ IsPart (now (page .entry)) (firstPart (now (page .entry)) (labelsOn (now (page .entry)) on ons) (readList readPlaced (drop at (now (page .entry))))) r ⌝ }
 {
     match read_count(page, at) {
-        Count::Got(count, start) => match labels_from(page, start, count) {
-            ListField::Got(_, _, _) => label_at(page, first_joint(page, start, count, on, ons)),
+        Count::Got { count, next: start } => match labels_from(page, start, count) {
+            ListField::Got { .. } => label_at(page, first_joint(page, start, count, on, ons)),
             ListField::Bad(_) => Span { start: 0, end: 0 },
         },
         Count::Bad(_) => Span { start: 0, end: 0 },
@@ -50,7 +50,7 @@ fn joint_of(page: &[u8], at: usize, on: usize, ons: usize) -> Span
     ensures { λ r. ⌜ IsPart (now (page .entry)) (firstPart (now (page .entry)) (labelsOn (now (page .entry)) on ons) (readChoice placedForms (drop at (now (page .entry))))) r ⌝ }
 {
     match read_number(page, at) {
-        Number::Got(n, next) => match n {
+        Number::Got { number: n, next } => match n {
             1 => joint_in(page, next, on, ons),
             2 => joint_in(page, next, on, ons),
             _ => Span { start: 0, end: 0 },
@@ -64,8 +64,11 @@ pub fn joint_after(page: &[u8], at: usize) -> Span
     ensures { λ r. ⌜ IsPart (now (page .entry)) (partIn (length (now (page .entry))) (readGrouped (drop at (now (page .entry))))) r ⌝ }
 {
     match read_flag(page, at) {
-        Flag::Got(_, next) => match read_label_modifier(page, next) {
-            LabelModifierField::Got(matching, card) => match matching {
+        Flag::Got { next, .. } => match read_label_modifier(page, next) {
+            LabelModifierField::Got {
+                modifier: matching,
+                next: card,
+            } => match matching {
                 LabelModifier::None => Span { start: 0, end: 0 },
                 LabelModifier::Include(on, ons) => joint_of(page, card, on, ons),
                 LabelModifier::Exclude(_, _) => Span { start: 0, end: 0 },

@@ -20,7 +20,7 @@ fn record_start(page: &[u8], index: usize) -> usize
     let mut at = 0;
     while 0 < left {
         match read_record(page, at) {
-            RecordField::Got(_, next) => {
+            RecordField::Got { next, .. } => {
                 at = next;
                 left = left - 1;
             }
@@ -37,9 +37,9 @@ fn joint_at(page: &[u8], at: usize) -> Span
     ensures { λ r. ⌜ IsPart (now (page .entry)) (partIn (length (now (page .entry))) (readJoint (drop at (now (page .entry))))) r ⌝ }
 {
     match read_number(page, at) {
-        Number::Got(_, code) => match read_code(page, code) {
-            Number::Got(_, present) => match read_number(page, present) {
-                Number::Got(_, modifier) => joint_after(page, modifier),
+        Number::Got { next: code, .. } => match read_code(page, code) {
+            Number::Got { next: present, .. } => match read_number(page, present) {
+                Number::Got { next: modifier, .. } => joint_after(page, modifier),
                 Number::Bad => Span { start: 0, end: 0 },
             },
             Number::Bad => Span { start: 0, end: 0 },

@@ -92,7 +92,11 @@ fn arguments_match(
     let mut more = declared;
     while 0 < left {
         match next_kind(page, at, more) {
-            Declared::Got(kind, next, rest) => {
+            Declared::Got {
+                kind,
+                next,
+                left: rest,
+            } => {
                 if !same_kind(kind, kind_of(operand_at(tags, values, top + (left - 1)))) {
                     return false;
                 }

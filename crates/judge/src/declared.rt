@@ -24,14 +24,18 @@ fn has_kinds(page: &[u8], start: usize, count: usize) -> bool
         return false;
     }
     match read_kind(page, start) {
-        KindField::Got(_, _) => true,
+        KindField::Got { .. } => true,
         KindField::Bad => false,
     }
 }
 
 // The kind declared for an argument, and where those for the arguments after it start and how many they are.
 pub enum Declared {
-    Got(Kind, usize, usize),
+    Got {
+        kind: Kind,
+        next: usize,
+        left: usize,
+    },
     None,
 }
 
@@ -43,11 +47,19 @@ pub fn next_kind(page: &[u8], start: usize, count: usize) -> Declared
         return Declared::None;
     }
     match read_kind(page, start) {
-        KindField::Got(kind, next) => {
+        KindField::Got { kind, next } => {
             if has_kinds(page, next, count - 1) {
-                return Declared::Got(kind, next, count - 1);
+                return Declared::Got {
+                    kind,
+                    next,
+                    left: count - 1,
+                };
             }
-            Declared::Got(kind, start, count)
+            Declared::Got {
+                kind,
+                next: start,
+                left: count,
+            }
         }
         KindField::Bad => Declared::None,
     }

@@ -34,17 +34,17 @@ pub fn judge_record(page: &[u8], item: Record, tags: &[u8], values: &[f64], top:
         Record::String(_) => Verdict::Put(Operand::String),
         Record::Selector(selector) => judge_selector(selector),
         Record::Range(_) => judge_range(operand_at(tags, values, top)),
-        Record::Subquery(_, _) => judge_subquery(operand_at(tags, values, top)),
+        Record::Subquery { .. } => judge_subquery(operand_at(tags, values, top)),
         Record::At(_) => judge_at(operand_at(tags, values, top)),
         Record::Offset(_) => judge_offset(operand_at(tags, values, top)),
         Record::Unary => judge_unary(operand_at(tags, values, top)),
         Record::Paren => judge_paren(operand_at(tags, values, top)),
-        Record::Binary(code, modifier) => {
+        Record::Binary { code, modifier } => {
             let right = kind_of(operand_at(tags, values, top));
             let left = kind_of(operand_at(tags, values, top + 1));
             judge_binary(page, code, modifier, left, right)
         }
-        Record::Aggregate(code, _, count) => judge_aggregate(code, tags, values, top, count),
-        Record::Call(function, count) => judge_call(page, function, tags, values, top, count),
+        Record::Aggregate { code, count, .. } => judge_aggregate(code, tags, values, top, count),
+        Record::Call { function, count } => judge_call(page, function, tags, values, top, count),
     }
 }

@@ -3,6 +3,10 @@ use crate::fault::Fault;
 
 // Where the first element starts, how many there are, and the position after the last.
 pub enum ListField {
-    Got(usize, usize, usize),
+    Got {
+        start: usize,
+        count: usize,
+        next: usize,
+    },
     Bad(Fault),
 }

@@ -12,7 +12,7 @@ pub const LIMIT: u64 = 9007199254740992;
 
 // A number and the position after it. Whatever is wrong with a number is a bad field.
 pub enum Number {
-    Got(u64, usize),
+    Got { number: u64, next: usize },
     Bad,
 }
 
@@ -30,10 +30,13 @@ pub fn read_up_to(page: &[u8], at: usize, limit: u64) -> Number
         return Number::Bad;
     }
     if b < 128 {
-        return Number::Got(b, at + 1);
+        return Number::Got {
+            number: b,
+            next: at + 1,
+        };
     }
     match read_up_to(page, at + 1, limit / 128) {
-        Number::Got(v, next) => {
+        Number::Got { number: v, next } => {
             if v == 0 {
                 return Number::Bad;
             }
@@ -41,7 +44,7 @@ pub fn read_up_to(page: &[u8], at: usize, limit: u64) -> Number
             if limit < n {
                 return Number::Bad;
             }
-            Number::Got(n, next)
+            Number::Got { number: n, next }
         }
         Number::Bad => Number::Bad,
     }
@@ -57,14 +60,17 @@ pub fn read_number(page: &[u8], at: usize) -> Number
     }
     let b = page[at] as u64;
     if b < 128 {
-        return Number::Got(b, at + 1);
+        return Number::Got {
+            number: b,
+            next: at + 1,
+        };
     }
     read_up_to(page, at, LIMIT)
 }
 
 // A count of labels, matchers, kinds or arguments, and the position after it.
 pub enum Count {
-    Got(usize, usize),
+    Got { count: usize, next: usize },
     Bad(Fault),
 }
 
@@ -72,9 +78,12 @@ pub fn read_count(page: &[u8], at: usize) -> Count
     ensures { λ r. ⌜ countAt (now (page .entry)) r ≡ readCount (drop at (now (page .entry))) ⌝ }
 {
     match read_number(page, at) {
-        Number::Got(n, next) => {
+        Number::Got { number: n, next } => {
             if n <= 16 {
-                Count::Got(n as usize, next)
+                Count::Got {
+                    count: n as usize,
+                    next,
+                }
             } else {
                 Count::Bad(Fault::PastLimit)
             }

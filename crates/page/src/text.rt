@@ -77,7 +77,10 @@ pub fn read_text(page: &[u8], at: usize, class: TextClass) -> Text
     ensures lies { λ r. ⌜ textLies (now (page .entry)) r ⌝ }
 {
     match read_number(page, at) {
-        Number::Got(n, start) => {
+        Number::Got {
+            number: n,
+            next: start,
+        } => {
             let size = n as usize;
             if page.len() - start < size {
                 return Text::Bad(Fault::BadField);
@@ -106,7 +109,10 @@ pub fn stored_text(page: &[u8], at: usize) -> Span
     ensures lies { λ r. ⌜ Lies (now (page .entry)) r ⌝ }
 {
     match read_number(page, at) {
-        Number::Got(n, start) => Span {
+        Number::Got {
+            number: n,
+            next: start,
+        } => Span {
             start: start,
             end: start + n as usize,
         },

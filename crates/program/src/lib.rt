@@ -28,7 +28,7 @@ fn put_line(page: &[u8], out: &mut [u8]) -> usize
     ensures { λ r. ⌜ Wrote (now (out .entry)) (now (out .exit)) 0 (programOutput (now (page .entry))) r ⌝ }
 {
     match split(page, &mut out[..65536]) {
-        Outcome::Accepted(_, n) => put_byte(b'\n', out, n),
+        Outcome::Accepted { written: n, .. } => put_byte(b'\n', out, n),
         Outcome::Refused(refusal, index) => { put_refused(refusal_number(refusal), index, out, 0) }
     }
 }

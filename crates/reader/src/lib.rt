@@ -46,14 +46,27 @@ pub enum Record {
     String(page::Span),
     Selector(Selector),
     Range(u64),
-    Subquery(u64, OptionalDuration),
+    Subquery {
+        range: u64,
+        step: OptionalDuration,
+    },
     At(AtModifier),
     Offset(Offset),
     Unary,
     Paren,
-    Binary(u64, Modifier),
-    Aggregate(u64, LabelModifier, usize),
-    Call(Function, usize),
+    Binary {
+        code: u64,
+        modifier: Modifier,
+    },
+    Aggregate {
+        code: u64,
+        grouping: LabelModifier,
+        count: usize,
+    },
+    Call {
+        function: Function,
+        count: usize,
+    },
 }
 
 // How many operands a record takes.
@@ -65,20 +78,20 @@ pub fn operand_count(item: Record) -> usize
         Record::String(_) => 0,
         Record::Selector(_) => 0,
         Record::Range(_) => 1,
-        Record::Subquery(_, _) => 1,
+        Record::Subquery { .. } => 1,
         Record::At(_) => 1,
         Record::Offset(_) => 1,
         Record::Unary => 1,
         Record::Paren => 1,
-        Record::Binary(_, _) => 2,
-        Record::Aggregate(_, _, count) => count,
-        Record::Call(_, count) => count,
+        Record::Binary { .. } => 2,
+        Record::Aggregate { count, .. } => count,
+        Record::Call { count, .. } => count,
     }
 }
 
 // A record and the position after it.
 pub enum RecordField {
-    Got(Record, usize),
+    Got { item: Record, next: usize },
     Bad(page::Fault),
 }
 
@@ -87,9 +100,9 @@ pub fn read_code(page: &[u8], at: usize) -> page::Number
     ensures { λ r. ⌜ numberAt (now (page .entry)) r ≡ readCode (drop at (now (page .entry))) ⌝ }
 {
     match page::read_number(page, at) {
-        page::Number::Got(code, next) => {
+        page::Number::Got { number: code, next } => {
             if (1 <= code) & (code <= 30) {
-                page::Number::Got(code, next)
+                page::Number::Got { number: code, next }
             } else {
                 page::Number::Bad
             }
@@ -103,7 +116,10 @@ fn read_number_record(page: &[u8], at: usize) -> RecordField
     ensures lies { λ r. ⌜ recordLies (now (page .entry)) r ⌝ }
 {
     match read_literal(page, at) {
-        LiteralField::Got(l, next) => RecordField::Got(Record::Number(l), next),
+        LiteralField::Got { literal: l, next } => RecordField::Got {
+            item: Record::Number(l),
+            next,
+        },
         LiteralField::Bad => RecordField::Bad(page::Fault::BadField),
     }
 }
@@ -113,7 +129,10 @@ fn read_string(page: &[u8], at: usize) -> RecordField
     ensures lies { λ r. ⌜ recordLies (now (page .entry)) r ⌝ }
 {
     match page::read_text(page, at, page::TextClass::Any) {
-        page::Text::Got(text) => RecordField::Got(Record::String(text), text.end),
+        page::Text::Got(text) => RecordField::Got {
+            item: Record::String(text),
+            next: text.end,
+        },
         page::Text::Bad(f) => RecordField::Bad(f),
     }
 }
@@ -124,8 +143,14 @@ fn read_selector(page: &[u8], at: usize) -> RecordField
 {
     match page::read_text(page, at, page::TextClass::MetricName) {
         page::Text::Got(name) => match read_matchers(page, name.end) {
-            Matchers::Got(matchers, count, named, empty, next) => RecordField::Got(
-                Record::Selector(Selector {
+            Matchers::Got {
+                start: matchers,
+                count,
+                named,
+                empty,
+                next,
+            } => RecordField::Got {
+                item: Record::Selector(Selector {
                     name: name,
                     matchers: matchers,
                     count: count,
@@ -133,7 +158,7 @@ fn read_selector(page: &[u8], at: usize) -> RecordField
                     empty: empty,
                 }),
                 next,
-            ),
+            },
             Matchers::Bad(f) => RecordField::Bad(f),
         },
         page::Text::Bad(f) => RecordField::Bad(f),
@@ -145,7 +170,13 @@ fn read_range(page: &[u8], at: usize) -> RecordField
     ensures lies { λ r. ⌜ recordLies (now (page .entry)) r ⌝ }
 {
     match page::read_number(page, at) {
-        page::Number::Got(range, next) => RecordField::Got(Record::Range(range), next),
+        page::Number::Got {
+            number: range,
+            next,
+        } => RecordField::Got {
+            item: Record::Range(range),
+            next,
+        },
         page::Number::Bad => RecordField::Bad(page::Fault::BadField),
     }
 }
@@ -155,11 +186,14 @@ fn read_subquery(page: &[u8], at: usize) -> RecordField
     ensures lies { λ r. ⌜ recordLies (now (page .entry)) r ⌝ }
 {
     match page::read_number(page, at) {
-        page::Number::Got(range, next) => match read_optional_duration(page, next) {
-            OptionalDurationField::Got(step, end) => RecordField::Got(
-                Record::Subquery(range, step),
-                end,
-            ),
+        page::Number::Got {
+            number: range,
+            next,
+        } => match read_optional_duration(page, next) {
+            OptionalDurationField::Got { step, next } => RecordField::Got {
+                item: Record::Subquery { range, step },
+                next,
+            },
             OptionalDurationField::Bad => RecordField::Bad(page::Fault::BadField),
         },
         page::Number::Bad => RecordField::Bad(page::Fault::BadField),
@@ -171,7 +205,10 @@ fn read_at(page: &[u8], at: usize) -> RecordField
     ensures lies { λ r. ⌜ recordLies (now (page .entry)) r ⌝ }
 {
     match read_at_modifier(page, at) {
-        AtField::Got(modifier, next) => RecordField::Got(Record::At(modifier), next),
+        AtField::Got { modifier, next } => RecordField::Got {
+            item: Record::At(modifier),
+            next,
+        },
         AtField::Bad(f) => RecordField::Bad(f),
     }
 }
@@ -181,7 +218,10 @@ fn read_offset_record(page: &[u8], at: usize) -> RecordField
     ensures lies { λ r. ⌜ recordLies (now (page .entry)) r ⌝ }
 {
     match read_offset(page, at) {
-        OffsetField::Got(offset, next) => RecordField::Got(Record::Offset(offset), next),
+        OffsetField::Got { offset, next } => RecordField::Got {
+            item: Record::Offset(offset),
+            next,
+        },
         OffsetField::Bad => RecordField::Bad(page::Fault::BadField),
     }
 }
@@ -191,8 +231,11 @@ fn read_binary(page: &[u8], at: usize) -> RecordField
     ensures lies { λ r. ⌜ recordLies (now (page .entry)) r ⌝ }
 {
     match read_code(page, at) {
-        page::Number::Got(code, next) => match read_modifier(page, next) {
-            ModifierField::Got(m, end) => RecordField::Got(Record::Binary(code, m), end),
+        page::Number::Got { number: code, next } => match read_modifier(page, next) {
+            ModifierField::Got { modifier: m, next } => RecordField::Got {
+                item: Record::Binary { code, modifier: m },
+                next,
+            },
             ModifierField::Bad(f) => RecordField::Bad(f),
         },
         page::Number::Bad => RecordField::Bad(page::Fault::BadField),
@@ -204,9 +247,19 @@ fn read_aggregate(page: &[u8], at: usize) -> RecordField
     ensures lies { λ r. ⌜ recordLies (now (page .entry)) r ⌝ }
 {
     match read_code(page, at) {
-        page::Number::Got(code, next) => match read_label_modifier(page, next) {
-            LabelModifierField::Got(m, after) => match page::read_count(page, after) {
-                page::Count::Got(n, end) => RecordField::Got(Record::Aggregate(code, m, n), end),
+        page::Number::Got { number: code, next } => match read_label_modifier(page, next) {
+            LabelModifierField::Got {
+                modifier: m,
+                next: after,
+            } => match page::read_count(page, after) {
+                page::Count::Got { count: n, next } => RecordField::Got {
+                    item: Record::Aggregate {
+                        code,
+                        grouping: m,
+                        count: n,
+                    },
+                    next,
+                },
                 page::Count::Bad(f) => RecordField::Bad(f),
             },
             LabelModifierField::Bad(f) => RecordField::Bad(f),
@@ -220,8 +273,11 @@ fn read_call(page: &[u8], at: usize) -> RecordField
     ensures lies { λ r. ⌜ recordLies (now (page .entry)) r ⌝ }
 {
     match read_function(page, at) {
-        FunctionField::Got(function, next) => match page::read_count(page, next) {
-            page::Count::Got(n, end) => RecordField::Got(Record::Call(function, n), end),
+        FunctionField::Got { function, next } => match page::read_count(page, next) {
+            page::Count::Got { count: n, next } => RecordField::Got {
+                item: Record::Call { function, count: n },
+                next,
+            },
             page::Count::Bad(f) => RecordField::Bad(f),
         },
         FunctionField::Bad(f) => RecordField::Bad(f),
@@ -241,8 +297,14 @@ fn read_fields(page: &[u8], at: usize, kind: u64) -> RecordField
         4 => read_subquery(page, at),
         5 => read_at(page, at),
         6 => read_offset_record(page, at),
-        7 => RecordField::Got(Record::Unary, at),
-        8 => RecordField::Got(Record::Paren, at),
+        7 => RecordField::Got {
+            item: Record::Unary,
+            next: at,
+        },
+        8 => RecordField::Got {
+            item: Record::Paren,
+            next: at,
+        },
         9 => read_binary(page, at),
         10 => read_aggregate(page, at),
         11 => read_call(page, at),
@@ -256,7 +318,7 @@ pub fn read_record(page: &[u8], at: usize) -> RecordField
     ensures lies { λ r. ⌜ recordLies (now (page .entry)) r ⌝ }
 {
     match page::read_number(page, at) {
-        page::Number::Got(kind, next) => read_fields(page, next, kind),
+        page::Number::Got { number: kind, next } => read_fields(page, next, kind),
         page::Number::Bad => RecordField::Bad(page::Fault::BadField),
     }
 }

@@ -18,13 +18,18 @@ ghost use Rattle.record_lines.specs.Answers.{elementAt, readElement};
 // of a kind.
 pub enum Element {
     Label(Span),
-    Matcher(u64, Span, Span, Numbers),
+    Matcher {
+        op: u64,
+        name: Span,
+        value: Span,
+        mark: Numbers,
+    },
     Kind(u64),
 }
 
 // An element and the position after it.
 pub enum ElementField {
-    Got(Element, usize),
+    Got { element: Element, next: usize },
     Bad(Fault),
 }
 
@@ -32,7 +37,10 @@ fn read_label(page: &[u8], at: usize) -> ElementField
     ensures { λ r. ⌜ elementAt (now (page .entry)) r ≡ readLabelNumbers (now (page .entry)) (drop at (now (page .entry))) ⌝ }
 {
     match read_text(page, at, TextClass::Any) {
-        Text::Got(label) => ElementField::Got(Element::Label(label), label.end),
+        Text::Got(label) => ElementField::Got {
+            element: Element::Label(label),
+            next: label.end,
+        },
         Text::Bad(f) => ElementField::Bad(f),
     }
 }
@@ -41,9 +49,10 @@ fn read_kind(page: &[u8], at: usize) -> ElementField
     ensures { λ r. ⌜ elementAt (now (page .entry)) r ≡ readKindNumbers (drop at (now (page .entry))) ⌝ }
 {
     match records::read_kind(page, at) {
-        records::KindField::Got(k, next) => {
-            ElementField::Got(Element::Kind(kind_number(k)), next)
-        }
+        records::KindField::Got { kind: k, next } => ElementField::Got {
+            element: Element::Kind(kind_number(k)),
+            next,
+        },
         records::KindField::Bad => ElementField::Bad(Fault::BadField),
     }
 }
@@ -53,13 +62,29 @@ fn read_pattern_flag(page: &[u8], op: u64, name: Span, value: Span) -> ElementFi
     ensures { λ r. ⌜ elementAt (now (page .entry)) r ≡ andThen (readPatternFlagNumbers op (drop (value .end) (now (page .entry)))) (λ mark. return (op ∷ spanNumbers name ++ spanNumbers value ++ mark)) ⌝ }
 {
     if op < 2 {
-        let plain = Element::Matcher(op, name, value, Numbers::None);
-        return ElementField::Got(plain, value.end);
+        let plain = Element::Matcher {
+            op,
+            name,
+            value,
+            mark: Numbers::None,
+        };
+        return ElementField::Got {
+            element: plain,
+            next: value.end,
+        };
     }
     match records::read_flag(page, value.end) {
-        records::Flag::Got(mark, next) => {
+        records::Flag::Got { flag: mark, next } => {
             let flag = Numbers::One(flag_number(mark));
-            ElementField::Got(Element::Matcher(op, name, value, flag), next)
+            ElementField::Got {
+                element: Element::Matcher {
+                    op,
+                    name,
+                    value,
+                    mark: flag,
+                },
+                next,
+            }
         }
         records::Flag::Bad => ElementField::Bad(Fault::BadField),
     }
@@ -82,7 +107,7 @@ fn read_matcher(page: &[u8], at: usize) -> ElementField
     ensures { λ r. ⌜ elementAt (now (page .entry)) r ≡ readMatcherNumbers (now (page .entry)) (drop at (now (page .entry))) ⌝ }
 {
     match page::read_number(page, at) {
-        page::Number::Got(op, next) => {
+        page::Number::Got { number: op, next } => {
             if op <= 3 {
                 return read_texts(page, next, op);
             }

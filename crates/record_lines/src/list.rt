@@ -27,7 +27,12 @@ fn put_element(e: Element, line: &mut [u8], at: usize) -> usize
 {
     match e {
         Element::Label(label) => put_span(label, line, at),
-        Element::Matcher(op, name, value, mark) => put_matcher(op, name, value, mark, line, at),
+        Element::Matcher {
+            op,
+            name,
+            value,
+            mark,
+        } => put_matcher(op, name, value, mark, line, at),
         Element::Kind(kind) => put_spaced(kind, line, at),
     }
 }
@@ -48,7 +53,7 @@ pub fn put_list(
     let mut left = count;
     while 0 < left {
         match read_element(page, from, elements) {
-            ElementField::Got(e, next) => {
+            ElementField::Got { element: e, next } => {
                 end = put_element(e, line, end);
                 from = next;
                 left = left - 1;

@@ -31,7 +31,11 @@ fn put_fill(fill: Fill, line: &mut [u8], at: usize) -> usize
 // A form alone, or with a list of labels by its start and its count.
 pub enum Form {
     Plain(u64),
-    Labelled(u64, usize, usize),
+    Labelled {
+        number: u64,
+        start: usize,
+        count: usize,
+    },
 }
 
 fn put_form(page: &[u8], form: Form, line: &mut [u8], at: usize) -> usize
@@ -39,7 +43,11 @@ fn put_form(page: &[u8], form: Form, line: &mut [u8], at: usize) -> usize
 {
     match form {
         Form::Plain(n) => put_spaced(n, line, at),
-        Form::Labelled(n, start, count) => {
+        Form::Labelled {
+            number: n,
+            start,
+            count,
+        } => {
             let next = put_spaced(n, line, at);
             put_list(Elements::Labels, page, start, count, line, next)
         }
@@ -51,8 +59,16 @@ fn label_modifier_form(m: LabelModifier) -> Form
 {
     match m {
         LabelModifier::None => Form::Plain(0),
-        LabelModifier::Include(start, count) => Form::Labelled(1, start, count),
-        LabelModifier::Exclude(start, count) => Form::Labelled(2, start, count),
+        LabelModifier::Include(start, count) => Form::Labelled {
+            number: 1,
+            start,
+            count,
+        },
+        LabelModifier::Exclude(start, count) => Form::Labelled {
+            number: 2,
+            start,
+            count,
+        },
     }
 }
 
@@ -61,8 +77,16 @@ fn cardinality_form(c: Cardinality) -> Form
 {
     match c {
         Cardinality::OneToOne => Form::Plain(0),
-        Cardinality::ManyToOne(start, count) => Form::Labelled(1, start, count),
-        Cardinality::OneToMany(start, count) => Form::Labelled(2, start, count),
+        Cardinality::ManyToOne(start, count) => Form::Labelled {
+            number: 1,
+            start,
+            count,
+        },
+        Cardinality::OneToMany(start, count) => Form::Labelled {
+            number: 2,
+            start,
+            count,
+        },
         Cardinality::ManyToMany => Form::Plain(3),
     }
 }

@@ -94,14 +94,21 @@ fn put_fields(page: &[u8], r: Record, line: &mut [u8], at: usize) -> usize
         Record::String(text) => put_span(text, line, at),
         Record::Selector(s) => put_selector(page, s, line, at),
         Record::Range(n) => put_spaced(n, line, at),
-        Record::Subquery(n, s) => put_subquery(n, s, line, at),
+        Record::Subquery { range: n, step: s } => put_subquery(n, s, line, at),
         Record::At(a) => put_numbers(at_numbers(a), line, at),
         Record::Offset(o) => put_numbers(offset_numbers(o), line, at),
         Record::Unary => at,
         Record::Paren => at,
-        Record::Binary(code, m) => put_binary(page, code, m, line, at),
-        Record::Aggregate(code, m, n) => put_aggregate(page, code, m, n, line, at),
-        Record::Call(f, n) => put_call(page, f, n, line, at),
+        Record::Binary { code, modifier: m } => put_binary(page, code, m, line, at),
+        Record::Aggregate {
+            code,
+            grouping: m,
+            count: n,
+        } => put_aggregate(page, code, m, n, line, at),
+        Record::Call {
+            function: f,
+            count: n,
+        } => put_call(page, f, n, line, at),
     }
 }
 
@@ -113,14 +120,14 @@ fn record_kind(r: Record) -> u64
         Record::String(_) => 1,
         Record::Selector(_) => 2,
         Record::Range(_) => 3,
-        Record::Subquery(_, _) => 4,
+        Record::Subquery { .. } => 4,
         Record::At(_) => 5,
         Record::Offset(_) => 6,
         Record::Unary => 7,
         Record::Paren => 8,
-        Record::Binary(_, _) => 9,
-        Record::Aggregate(_, _, _) => 10,
-        Record::Call(_, _) => 11,
+        Record::Binary { .. } => 9,
+        Record::Aggregate { .. } => 10,
+        Record::Call { .. } => 11,
     }
 }
 

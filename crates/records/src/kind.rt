@@ -10,7 +10,7 @@ ghost use Rattle.records.specs.Answers.{kindOf, flagAt, kindAt};
 
 // 0 or 1, and the position after it.
 pub enum Flag {
-    Got(bool, usize),
+    Got { flag: bool, next: usize },
     Bad,
 }
 
@@ -18,9 +18,9 @@ pub fn read_flag(page: &[u8], at: usize) -> Flag
     ensures { λ r. ⌜ flagAt (now (page .entry)) r ≡ readFlag (drop at (now (page .entry))) ⌝ }
 {
     match page::read_number(page, at) {
-        page::Number::Got(n, next) => match n {
-            0 => Flag::Got(false, next),
-            1 => Flag::Got(true, next),
+        page::Number::Got { number: n, next } => match n {
+            0 => Flag::Got { flag: false, next },
+            1 => Flag::Got { flag: true, next },
             _ => Flag::Bad,
         },
         page::Number::Bad => Flag::Bad,
@@ -48,7 +48,7 @@ pub fn kind_number(kind: Kind) -> u64
 
 // A kind and the position after it.
 pub enum KindField {
-    Got(Kind, usize),
+    Got { kind: Kind, next: usize },
     Bad,
 }
 
@@ -56,11 +56,23 @@ pub fn read_kind(page: &[u8], at: usize) -> KindField
     ensures { λ r. ⌜ kindAt (now (page .entry)) r ≡ readKind (drop at (now (page .entry))) ⌝ }
 {
     match page::read_number(page, at) {
-        page::Number::Got(n, next) => match n {
-            0 => KindField::Got(Kind::Vector, next),
-            1 => KindField::Got(Kind::Scalar, next),
-            2 => KindField::Got(Kind::Matrix, next),
-            3 => KindField::Got(Kind::String, next),
+        page::Number::Got { number: n, next } => match n {
+            0 => KindField::Got {
+                kind: Kind::Vector,
+                next,
+            },
+            1 => KindField::Got {
+                kind: Kind::Scalar,
+                next,
+            },
+            2 => KindField::Got {
+                kind: Kind::Matrix,
+                next,
+            },
+            3 => KindField::Got {
+                kind: Kind::String,
+                next,
+            },
             _ => KindField::Bad,
         },
         page::Number::Bad => KindField::Bad,
@@ -76,7 +88,7 @@ pub fn kinds_from(page: &[u8], start: usize, count: usize) -> page::ListField
     let mut at = start;
     while 0 < left {
         match read_kind(page, at) {
-            KindField::Got(_, next) => {
+            KindField::Got { next, .. } => {
                 at = next;
                 left = left - 1;
             }
@@ -85,7 +97,11 @@ pub fn kinds_from(page: &[u8], start: usize, count: usize) -> page::ListField
             }
         }
     }
-    page::ListField::Got(start, count, at)
+    page::ListField::Got {
+        start,
+        count,
+        next: at,
+    }
 }
 
 // A count, and so many kinds.
@@ -94,7 +110,7 @@ pub fn read_kinds(page: &[u8], at: usize) -> page::ListField
     ensures stored { λ r. ⌜ listStored readKind (now (page .entry)) r ⌝ }
 {
     match page::read_count(page, at) {
-        page::Count::Got(count, start) => kinds_from(page, start, count),
+        page::Count::Got { count, next: start } => kinds_from(page, start, count),
         page::Count::Bad(f) => page::ListField::Bad(f),
     }
 }

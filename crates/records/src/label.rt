@@ -24,7 +24,11 @@ pub fn labels_from(page: &[u8], start: usize, count: usize) -> page::ListField
             }
         }
     }
-    page::ListField::Got(start, count, at)
+    page::ListField::Got {
+        start,
+        count,
+        next: at,
+    }
 }
 
 // A count, and so many labels.
@@ -33,7 +37,7 @@ pub fn read_labels(page: &[u8], at: usize) -> page::ListField
     ensures stored { λ r. ⌜ listStored readAnyText (now (page .entry)) r ⌝ }
 {
     match page::read_count(page, at) {
-        page::Count::Got(count, start) => labels_from(page, start, count),
+        page::Count::Got { count, next: start } => labels_from(page, start, count),
         page::Count::Bad(f) => page::ListField::Bad(f),
     }
 }

@@ -16,7 +16,7 @@ pub enum Literal {
 
 // A literal and the position after it.
 pub enum LiteralField {
-    Got(Literal, usize),
+    Got { literal: Literal, next: usize },
     Bad,
 }
 
@@ -24,18 +24,33 @@ pub fn read_literal(page: &[u8], at: usize) -> LiteralField
     ensures { λ r. ⌜ literalAt (now (page .entry)) r ≡ readLiteral (drop at (now (page .entry))) ⌝ }
 {
     match page::read_number(page, at) {
-        page::Number::Got(form, next) => match form {
+        page::Number::Got { number: form, next } => match form {
             0 => match page::read_number(page, next) {
-                page::Number::Got(n, end) => LiteralField::Got(Literal::Whole(n), end),
+                page::Number::Got { number: n, next } => LiteralField::Got {
+                    literal: Literal::Whole(n),
+                    next,
+                },
                 page::Number::Bad => LiteralField::Bad,
             },
             1 => match page::read_number(page, next) {
-                page::Number::Got(n, end) => LiteralField::Got(Literal::Negative(n), end),
+                page::Number::Got { number: n, next } => LiteralField::Got {
+                    literal: Literal::Negative(n),
+                    next,
+                },
                 page::Number::Bad => LiteralField::Bad,
             },
-            2 => LiteralField::Got(Literal::Nan, next),
-            3 => LiteralField::Got(Literal::Inf, next),
-            4 => LiteralField::Got(Literal::NegInf, next),
+            2 => LiteralField::Got {
+                literal: Literal::Nan,
+                next,
+            },
+            3 => LiteralField::Got {
+                literal: Literal::Inf,
+                next,
+            },
+            4 => LiteralField::Got {
+                literal: Literal::NegInf,
+                next,
+            },
             _ => LiteralField::Bad,
         },
         page::Number::Bad => LiteralField::Bad,
@@ -49,7 +64,7 @@ pub enum Fill {
 }
 
 pub enum FillField {
-    Got(Fill, usize),
+    Got { fill: Fill, next: usize },
     Bad,
 }
 
@@ -57,10 +72,16 @@ pub fn read_fill(page: &[u8], at: usize) -> FillField
     ensures { λ r. ⌜ fillAt (now (page .entry)) r ≡ readOption readLiteral (drop at (now (page .entry))) ⌝ }
 {
     match page::read_number(page, at) {
-        page::Number::Got(n, next) => match n {
-            0 => FillField::Got(Fill::None, next),
+        page::Number::Got { number: n, next } => match n {
+            0 => FillField::Got {
+                fill: Fill::None,
+                next,
+            },
             1 => match read_literal(page, next) {
-                LiteralField::Got(l, end) => FillField::Got(Fill::Some(l), end),
+                LiteralField::Got { literal: l, next } => FillField::Got {
+                    fill: Fill::Some(l),
+                    next,
+                },
                 LiteralField::Bad => FillField::Bad,
             },
             _ => FillField::Bad,

@@ -27,7 +27,11 @@ pub struct Matcher {
 
 // What the check asks of a matcher: whether it is named `__name__`, whether it accepts empty text, and the position after it.
 pub enum MatcherFacts {
-    Got(bool, bool, usize),
+    Got {
+        named: bool,
+        empty: bool,
+        next: usize,
+    },
     Bad(page::Fault),
 }
 
@@ -43,11 +47,19 @@ fn read_pattern_facts(page: &[u8], at: usize, op: u64, named: bool) -> MatcherFa
     ensures { λ r. ⌜ matcherFactsAt (now (page .entry)) r ≡ patternFacts op named (drop at (now (page .entry))) ⌝ }
 {
     match read_flag(page, at) {
-        Flag::Got(flag, next) => {
+        Flag::Got { flag: flag, next } => {
             if op == 2 {
-                return MatcherFacts::Got(named, flag, next);
+                return MatcherFacts::Got {
+                    named,
+                    empty: flag,
+                    next,
+                };
             }
-            MatcherFacts::Got(named, !flag, next)
+            MatcherFacts::Got {
+                named,
+                empty: !flag,
+                next,
+            }
         }
         Flag::Bad => MatcherFacts::Bad(page::Fault::BadField),
     }
@@ -61,10 +73,18 @@ fn read_value_facts(page: &[u8], at: usize, op: u64, named: bool) -> MatcherFact
     match page::read_text(page, at, page::TextClass::Any) {
         page::Text::Got(value) => {
             if op == 0 {
-                return MatcherFacts::Got(named, value.start == value.end, value.end);
+                return MatcherFacts::Got {
+                    named,
+                    empty: value.start == value.end,
+                    next: value.end,
+                };
             }
             if op == 1 {
-                return MatcherFacts::Got(named, value.start != value.end, value.end);
+                return MatcherFacts::Got {
+                    named,
+                    empty: value.start != value.end,
+                    next: value.end,
+                };
             }
             read_pattern_facts(page, value.end, op, named)
         }
@@ -77,7 +97,7 @@ pub fn read_matcher_facts(page: &[u8], at: usize) -> MatcherFacts
     ensures { λ r. ⌜ matcherFactsAt (now (page .entry)) r ≡ readMatcherFacts (drop at (now (page .entry))) ⌝ }
 {
     match page::read_number(page, at) {
-        page::Number::Got(op, next) => {
+        page::Number::Got { number: op, next } => {
             if 3 < op {
                 return MatcherFacts::Bad(page::Fault::BadField);
             }
@@ -95,7 +115,13 @@ pub fn read_matcher_facts(page: &[u8], at: usize) -> MatcherFacts
 // Where the first matcher starts and how many there are, whether one is named `__name__`, whether all accept empty text, and the
 // position after the last.
 pub enum Matchers {
-    Got(usize, usize, bool, bool, usize),
+    Got {
+        start: usize,
+        count: usize,
+        named: bool,
+        empty: bool,
+        next: usize,
+    },
     Bad(page::Fault),
 }
 
@@ -110,7 +136,11 @@ pub fn matchers_from(page: &[u8], start: usize, count: usize) -> Matchers
     let mut empty = true;
     while 0 < left {
         match read_matcher_facts(page, at) {
-            MatcherFacts::Got(name, accepts, next) => {
+            MatcherFacts::Got {
+                named: name,
+                empty: accepts,
+                next,
+            } => {
                 named = named | name;
                 empty = empty & accepts;
                 at = next;
@@ -121,7 +151,13 @@ pub fn matchers_from(page: &[u8], start: usize, count: usize) -> Matchers
             }
         }
     }
-    Matchers::Got(start, count, named, empty, at)
+    Matchers::Got {
+        start,
+        count,
+        named,
+        empty,
+        next: at,
+    }
 }
 
 // A count, and so many matchers.
@@ -130,7 +166,7 @@ pub fn read_matchers(page: &[u8], at: usize) -> Matchers
     ensures withFacts { λ r. ⌜ matchersStored (now (page .entry)) r ⌝ }
 {
     match page::read_count(page, at) {
-        page::Count::Got(count, start) => matchers_from(page, start, count),
+        page::Count::Got { count, next: start } => matchers_from(page, start, count),
         page::Count::Bad(f) => Matchers::Bad(f),
     }
 }

@@ -20,7 +20,10 @@ pub enum LabelModifier {
 }
 
 pub enum LabelModifierField {
-    Got(LabelModifier, usize),
+    Got {
+        modifier: LabelModifier,
+        next: usize,
+    },
     Bad(page::Fault),
 }
 
@@ -29,18 +32,23 @@ pub fn read_label_modifier(page: &[u8], at: usize) -> LabelModifierField
     ensures stored { λ r. ⌜ labelModifierStored (now (page .entry)) r ⌝ }
 {
     match page::read_number(page, at) {
-        page::Number::Got(n, next) => match n {
-            0 => LabelModifierField::Got(LabelModifier::None, next),
+        page::Number::Got { number: n, next } => match n {
+            0 => LabelModifierField::Got {
+                modifier: LabelModifier::None,
+                next,
+            },
             1 => match read_labels(page, next) {
-                page::ListField::Got(start, count, end) => {
-                    LabelModifierField::Got(LabelModifier::Include(start, count), end)
-                }
+                page::ListField::Got { start, count, next } => LabelModifierField::Got {
+                    modifier: LabelModifier::Include(start, count),
+                    next,
+                },
                 page::ListField::Bad(f) => LabelModifierField::Bad(f),
             },
             2 => match read_labels(page, next) {
-                page::ListField::Got(start, count, end) => {
-                    LabelModifierField::Got(LabelModifier::Exclude(start, count), end)
-                }
+                page::ListField::Got { start, count, next } => LabelModifierField::Got {
+                    modifier: LabelModifier::Exclude(start, count),
+                    next,
+                },
                 page::ListField::Bad(f) => LabelModifierField::Bad(f),
             },
             _ => LabelModifierField::Bad(page::Fault::BadField),
@@ -58,7 +66,7 @@ pub enum Cardinality {
 }
 
 pub enum CardinalityField {
-    Got(Cardinality, usize),
+    Got { card: Cardinality, next: usize },
     Bad(page::Fault),
 }
 
@@ -67,21 +75,29 @@ pub fn read_cardinality(page: &[u8], at: usize) -> CardinalityField
     ensures stored { λ r. ⌜ cardinalityStored (now (page .entry)) r ⌝ }
 {
     match page::read_number(page, at) {
-        page::Number::Got(n, next) => match n {
-            0 => CardinalityField::Got(Cardinality::OneToOne, next),
+        page::Number::Got { number: n, next } => match n {
+            0 => CardinalityField::Got {
+                card: Cardinality::OneToOne,
+                next,
+            },
             1 => match read_labels(page, next) {
-                page::ListField::Got(start, count, end) => {
-                    CardinalityField::Got(Cardinality::ManyToOne(start, count), end)
-                }
+                page::ListField::Got { start, count, next } => CardinalityField::Got {
+                    card: Cardinality::ManyToOne(start, count),
+                    next,
+                },
                 page::ListField::Bad(f) => CardinalityField::Bad(f),
             },
             2 => match read_labels(page, next) {
-                page::ListField::Got(start, count, end) => {
-                    CardinalityField::Got(Cardinality::OneToMany(start, count), end)
-                }
+                page::ListField::Got { start, count, next } => CardinalityField::Got {
+                    card: Cardinality::OneToMany(start, count),
+                    next,
+                },
                 page::ListField::Bad(f) => CardinalityField::Bad(f),
             },
-            3 => CardinalityField::Got(Cardinality::ManyToMany, next),
+            3 => CardinalityField::Got {
+                card: Cardinality::ManyToMany,
+                next,
+            },
             _ => CardinalityField::Bad(page::Fault::BadField),
         },
         page::Number::Bad => CardinalityField::Bad(page::Fault::BadField),
@@ -98,7 +114,7 @@ pub struct BinModifier {
 }
 
 pub enum BinModifierField {
-    Got(BinModifier, usize),
+    Got { modifier: BinModifier, next: usize },
     Bad(page::Fault),
 }
 
@@ -115,17 +131,17 @@ fn read_fills(
     ensures stored { λ r. ⌜ binModifierStored (now (page .entry)) r ⌝ }
 {
     match read_fill(page, at) {
-        FillField::Got(lhs, next) => match read_fill(page, next) {
-            FillField::Got(rhs, end) => BinModifierField::Got(
-                BinModifier {
+        FillField::Got { fill: lhs, next } => match read_fill(page, next) {
+            FillField::Got { fill: rhs, next } => BinModifierField::Got {
+                modifier: BinModifier {
                     returns_bool: flag,
                     matching: matching,
                     card: card,
                     lhs: lhs,
                     rhs: rhs,
                 },
-                end,
-            ),
+                next,
+            },
             FillField::Bad => BinModifierField::Bad(page::Fault::BadField),
         },
         FillField::Bad => BinModifierField::Bad(page::Fault::BadField),
@@ -137,9 +153,18 @@ pub fn read_bin_modifier(page: &[u8], at: usize) -> BinModifierField
     ensures stored { λ r. ⌜ binModifierStored (now (page .entry)) r ⌝ }
 {
     match read_flag(page, at) {
-        Flag::Got(flag, next) => match read_label_modifier(page, next) {
-            LabelModifierField::Got(matching, after) => match read_cardinality(page, after) {
-                CardinalityField::Got(card, end) => read_fills(page, end, flag, matching, card),
+        Flag::Got { flag, next } => match read_label_modifier(page, next) {
+            LabelModifierField::Got {
+                modifier: matching,
+                next,
+            } => match read_cardinality(page, next) {
+                CardinalityField::Got { card, next } => read_fills(
+                    page,
+                    next,
+                    flag,
+                    matching,
+                    card,
+                ),
                 CardinalityField::Bad(f) => BinModifierField::Bad(f),
             },
             LabelModifierField::Bad(f) => BinModifierField::Bad(f),
@@ -155,7 +180,7 @@ pub enum Modifier {
 }
 
 pub enum ModifierField {
-    Got(Modifier, usize),
+    Got { modifier: Modifier, next: usize },
     Bad(page::Fault),
 }
 
@@ -164,10 +189,16 @@ pub fn read_modifier(page: &[u8], at: usize) -> ModifierField
     ensures stored { λ r. ⌜ modifierStored (now (page .entry)) r ⌝ }
 {
     match page::read_number(page, at) {
-        page::Number::Got(n, next) => match n {
-            0 => ModifierField::Got(Modifier::None, next),
+        page::Number::Got { number: n, next } => match n {
+            0 => ModifierField::Got {
+                modifier: Modifier::None,
+                next,
+            },
             1 => match read_bin_modifier(page, next) {
-                BinModifierField::Got(m, end) => ModifierField::Got(Modifier::Some(m), end),
+                BinModifierField::Got { modifier: m, next } => ModifierField::Got {
+                    modifier: Modifier::Some(m),
+                    next,
+                },
                 BinModifierField::Bad(f) => ModifierField::Bad(f),
             },
             _ => ModifierField::Bad(page::Fault::BadField),

@@ -19,7 +19,7 @@ pub enum Variadic {
 }
 
 pub enum VariadicField {
-    Got(Variadic, usize),
+    Got { variadic: Variadic, next: usize },
     Bad(page::Fault),
 }
 
@@ -28,12 +28,12 @@ fn read_upper(page: &[u8], at: usize) -> Amount
     ensures { λ r. ⌜ amountAt (now (page .entry)) r ≡ readUpper (drop at (now (page .entry))) ⌝ }
 {
     match page::read_number(page, at) {
-        page::Number::Got(n, next) => {
+        page::Number::Got { number: n, next } => {
             if n == 0 {
                 return Amount::Bad(page::Fault::BadField);
             }
             if n <= 16 {
-                Amount::Got(n, next)
+                Amount::Got { amount: n, next }
             } else {
                 Amount::Bad(page::Fault::PastLimit)
             }
@@ -46,11 +46,20 @@ pub fn read_variadic(page: &[u8], at: usize) -> VariadicField
     ensures { λ r. ⌜ variadicAt (now (page .entry)) r ≡ readVariadic (drop at (now (page .entry))) ⌝ }
 {
     match page::read_number(page, at) {
-        page::Number::Got(form, next) => match form {
-            0 => VariadicField::Got(Variadic::Fixed, next),
-            1 => VariadicField::Got(Variadic::Unlimited, next),
+        page::Number::Got { number: form, next } => match form {
+            0 => VariadicField::Got {
+                variadic: Variadic::Fixed,
+                next,
+            },
+            1 => VariadicField::Got {
+                variadic: Variadic::Unlimited,
+                next,
+            },
             2 => match read_upper(page, next) {
-                Amount::Got(n, end) => VariadicField::Got(Variadic::UpTo(n), end),
+                Amount::Got { amount: n, next } => VariadicField::Got {
+                    variadic: Variadic::UpTo(n),
+                    next,
+                },
                 Amount::Bad(f) => VariadicField::Bad(f),
             },
             _ => VariadicField::Bad(page::Fault::BadField),
@@ -69,7 +78,7 @@ pub struct Function {
 }
 
 pub enum FunctionField {
-    Got(Function, usize),
+    Got { function: Function, next: usize },
     Bad(page::Fault),
 }
 
@@ -86,17 +95,17 @@ fn read_function_rest(
     ensures lies { λ r. ⌜ functionLies (now (page .entry)) r ⌝ }
 {
     match read_variadic(page, at) {
-        VariadicField::Got(variadic, next) => match read_kind(page, next) {
-            KindField::Got(result, end) => FunctionField::Got(
-                Function {
+        VariadicField::Got { variadic, next } => match read_kind(page, next) {
+            KindField::Got { kind: result, next } => FunctionField::Got {
+                function: Function {
                     name: name,
                     kinds: kinds,
                     declared: declared,
                     variadic: variadic,
                     result: result,
                 },
-                end,
-            ),
+                next,
+            },
             KindField::Bad => FunctionField::Bad(page::Fault::BadField),
         },
         VariadicField::Bad(f) => FunctionField::Bad(f),
@@ -109,9 +118,11 @@ pub fn read_function(page: &[u8], at: usize) -> FunctionField
 {
     match page::read_text(page, at, page::TextClass::FunctionName) {
         page::Text::Got(name) => match read_kinds(page, name.end) {
-            page::ListField::Got(kinds, declared, next) => {
-                read_function_rest(page, next, name, kinds, declared)
-            }
+            page::ListField::Got {
+                start: kinds,
+                count: declared,
+                next,
+            } => read_function_rest(page, next, name, kinds, declared),
             page::ListField::Bad(f) => FunctionField::Bad(f),
         },
         page::Text::Bad(f) => FunctionField::Bad(f),

@@ -8,7 +8,7 @@ ghost use Rattle.records.specs.Answers.{amountAt, atModifierAt, offsetAt
 
 // A number within a limit of its own, and the position after it.
 pub enum Amount {
-    Got(u64, usize),
+    Got { amount: u64, next: usize },
     Bad(page::Fault),
 }
 
@@ -20,9 +20,9 @@ fn read_time(page: &[u8], at: usize) -> Amount
     ensures { λ r. ⌜ amountAt (now (page .entry)) r ≡ readTime (drop at (now (page .entry))) ⌝ }
 {
     match page::read_number(page, at) {
-        page::Number::Got(n, next) => {
+        page::Number::Got { number: n, next } => {
             if n <= TIME_LIMIT {
-                Amount::Got(n, next)
+                Amount::Got { amount: n, next }
             } else {
                 Amount::Bad(page::Fault::PastLimit)
             }
@@ -36,12 +36,12 @@ fn read_negative_time(page: &[u8], at: usize) -> Amount
     ensures { λ r. ⌜ amountAt (now (page .entry)) r ≡ readNegativeTime (drop at (now (page .entry))) ⌝ }
 {
     match page::read_number(page, at) {
-        page::Number::Got(n, next) => {
+        page::Number::Got { number: n, next } => {
             if n == 0 {
                 return Amount::Bad(page::Fault::BadField);
             }
             if n <= TIME_LIMIT {
-                Amount::Got(n, next)
+                Amount::Got { amount: n, next }
             } else {
                 Amount::Bad(page::Fault::PastLimit)
             }
@@ -59,7 +59,7 @@ pub enum AtModifier {
 }
 
 pub enum AtField {
-    Got(AtModifier, usize),
+    Got { modifier: AtModifier, next: usize },
     Bad(page::Fault),
 }
 
@@ -67,15 +67,27 @@ pub fn read_at_modifier(page: &[u8], at: usize) -> AtField
     ensures { λ r. ⌜ atModifierAt (now (page .entry)) r ≡ readAtModifier (drop at (now (page .entry))) ⌝ }
 {
     match page::read_number(page, at) {
-        page::Number::Got(form, next) => match form {
-            0 => AtField::Got(AtModifier::Start, next),
-            1 => AtField::Got(AtModifier::End, next),
+        page::Number::Got { number: form, next } => match form {
+            0 => AtField::Got {
+                modifier: AtModifier::Start,
+                next,
+            },
+            1 => AtField::Got {
+                modifier: AtModifier::End,
+                next,
+            },
             2 => match read_time(page, next) {
-                Amount::Got(n, end) => AtField::Got(AtModifier::After(n), end),
+                Amount::Got { amount: n, next } => AtField::Got {
+                    modifier: AtModifier::After(n),
+                    next,
+                },
                 Amount::Bad(f) => AtField::Bad(f),
             },
             3 => match read_negative_time(page, next) {
-                Amount::Got(n, end) => AtField::Got(AtModifier::Before(n), end),
+                Amount::Got { amount: n, next } => AtField::Got {
+                    modifier: AtModifier::Before(n),
+                    next,
+                },
                 Amount::Bad(f) => AtField::Bad(f),
             },
             _ => AtField::Bad(page::Fault::BadField),
@@ -90,7 +102,7 @@ pub enum Offset {
 }
 
 pub enum OffsetField {
-    Got(Offset, usize),
+    Got { offset: Offset, next: usize },
     Bad,
 }
 
@@ -98,13 +110,19 @@ pub fn read_offset(page: &[u8], at: usize) -> OffsetField
     ensures { λ r. ⌜ offsetAt (now (page .entry)) r ≡ readOffset (drop at (now (page .entry))) ⌝ }
 {
     match page::read_number(page, at) {
-        page::Number::Got(sign, next) => match sign {
+        page::Number::Got { number: sign, next } => match sign {
             0 => match page::read_number(page, next) {
-                page::Number::Got(n, end) => OffsetField::Got(Offset::Pos(n), end),
+                page::Number::Got { number: n, next } => OffsetField::Got {
+                    offset: Offset::Pos(n),
+                    next,
+                },
                 page::Number::Bad => OffsetField::Bad,
             },
             1 => match page::read_number(page, next) {
-                page::Number::Got(n, end) => OffsetField::Got(Offset::Neg(n), end),
+                page::Number::Got { number: n, next } => OffsetField::Got {
+                    offset: Offset::Neg(n),
+                    next,
+                },
                 page::Number::Bad => OffsetField::Bad,
             },
             _ => OffsetField::Bad,
@@ -120,7 +138,7 @@ pub enum OptionalDuration {
 }
 
 pub enum OptionalDurationField {
-    Got(OptionalDuration, usize),
+    Got { step: OptionalDuration, next: usize },
     Bad,
 }
 
@@ -128,13 +146,19 @@ pub fn read_optional_duration(page: &[u8], at: usize) -> OptionalDurationField
     ensures { λ r. ⌜ optionalDurationAt (now (page .entry)) r ≡ readOption readNumber (drop at (now (page .entry))) ⌝ }
 {
     match page::read_number(page, at) {
-        page::Number::Got(present, next) => match present {
-            0 => OptionalDurationField::Got(OptionalDuration::None, next),
+        page::Number::Got {
+            number: present,
+            next,
+        } => match present {
+            0 => OptionalDurationField::Got {
+                step: OptionalDuration::None,
+                next,
+            },
             1 => match page::read_number(page, next) {
-                page::Number::Got(n, end) => OptionalDurationField::Got(
-                    OptionalDuration::Some(n),
-                    end,
-                ),
+                page::Number::Got { number: n, next } => OptionalDurationField::Got {
+                    step: OptionalDuration::Some(n),
+                    next,
+                },
                 page::Number::Bad => OptionalDurationField::Bad,
             },
             _ => OptionalDurationField::Bad,

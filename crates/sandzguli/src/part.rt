@@ -14,7 +14,7 @@ pub fn label_span(page: &[u8]) -> Span
     ensures { λ r. ⌜ IsPart (now (page .entry)) (labelPart (now (page .entry)) (check (now (page .entry)))) r ⌝ }
 {
     match check(page) {
-        Outcome::Accepted(_, _) => Span { start: 0, end: 0 },
+        Outcome::Accepted { .. } => Span { start: 0, end: 0 },
         Outcome::Refused(refusal, index) => {
             joint_label::joint_label(page, refusal_number(refusal), index)
         }

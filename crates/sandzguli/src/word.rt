@@ -12,7 +12,9 @@ pub fn outcome_word(outcome: Outcome) -> u64
     ensures { λ r. ⌜ r ≡ outcomeWord (outcomeMeant outcome) ⌝ }
 {
     match outcome {
-        Outcome::Accepted(kind, n) => n as u64 % 2305843009213693952 * 4 + kind_number(kind),
+        Outcome::Accepted { kind, written: n } => {
+            n as u64 % 2305843009213693952 * 4 + kind_number(kind)
+        }
         Outcome::Refused(refusal, index) => {
             9223372036854775808 + refusal_number(refusal) * 65536 + index as u64
         }

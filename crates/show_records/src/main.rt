@@ -39,7 +39,7 @@ fn show_page(page: &[u8], line: &mut [u8]) {
             return;
         }
         match read_record(page, at) {
-            RecordField::Got(r, next) => {
+            RecordField::Got { item: r, next } => {
                 let end = record_line(page, r, next, line);
                 write_line(line, end);
                 at = next;

@@ -77,7 +77,7 @@ fn is_too_short(page: &[u8], word: u64) -> bool {
     let mut starts = [0u16; 256];
     let mut firsts = [0u8; 256];
     match walk(page, &mut starts, &mut firsts) {
-        Walked::Accepted(_, count) => {
+        Walked::Accepted { count, .. } => {
             (word / 65536 == TOO_SHORT) & (word % 65536 == count as u64)
         }
         Walked::Refused(_, _) => false,

@@ -60,7 +60,7 @@ fn operands_at(page: &[u8], starts: &[u16], i: usize) -> usize
 {
     let start = starts[i] as usize;
     match reader::read_record(page, start) {
-        reader::RecordField::Got(item, _) => reader::operand_count(item),
+        reader::RecordField::Got { item, .. } => reader::operand_count(item),
         reader::RecordField::Bad(_) => 0,
     }
 }

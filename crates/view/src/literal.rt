@@ -34,7 +34,7 @@ fn literal_at(page: &[u8], starts: &[u16], i: usize) -> records::Literal
     ensures { λ r. ⌜ Reads (now (page .entry)) (now (starts .entry)) i (leaf (number (literalOf r))) ⌝ }
 {
     match records::read_literal(page, fields_start(starts, i)) {
-        records::LiteralField::Got(l, _) => l,
+        records::LiteralField::Got { literal: l, .. } => l,
         records::LiteralField::Bad => records::Literal::Nan,
     }
 }

@@ -9,7 +9,7 @@ ghost use Rattle.rules.specs.Answers.{refusalNumber};
 
 // The kind and how many bytes were written, or a refusal and the index of its record.
 pub enum Outcome {
-    Accepted(Kind, usize),
+    Accepted { kind: Kind, written: usize },
     Refused(Refusal, usize),
 }
 

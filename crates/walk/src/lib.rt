@@ -15,7 +15,7 @@ pub fn check(page: &[u8]) -> Outcome
     let mut starts = [0u16; 256];
     let mut firsts = [0u8; 256];
     match walk::walk(page, &mut starts, &mut firsts) {
-        Walked::Accepted(kind, _) => Outcome::Accepted(kind, 0),
+        Walked::Accepted { kind, .. } => Outcome::Accepted { kind, written: 0 },
         Walked::Refused(refusal, index) => Outcome::Refused(refusal, index),
     }
 }

@@ -26,7 +26,7 @@ ghost use Rattle.walk.specs.Walk.{RecordRead, firstOf};
 
 // The kind and the number of records, or a refusal and the index of its record.
 pub enum Walked {
-    Accepted(Kind, usize),
+    Accepted { kind: Kind, count: usize },
     Refused(Refusal, usize),
 }
 
@@ -81,7 +81,7 @@ pub fn walk(page: &[u8], starts: &mut [u16], firsts: &mut [u8]) -> Walked
         }
         match read_record(page, at) {
             RecordField::Bad(fault) => return Walked::Refused(field_refusal(fault), count),
-            RecordField::Got(item, next) => {
+            RecordField::Got { item, next } => {
                 let needed = operand_count(item);
                 match judge_next(page, item, needed, &tags, &values, top) {
                     Verdict::Refused(refusal) => return Walked::Refused(refusal, count),
@@ -103,5 +103,8 @@ pub fn walk(page: &[u8], starts: &mut [u16], firsts: &mut [u8]) -> Walked
     if top != 255 {
         return Walked::Refused(Refusal::OperandsMissing, count);
     }
-    Walked::Accepted(kind_of(operand_at(&tags, &values, 255)), count)
+    Walked::Accepted {
+        kind: kind_of(operand_at(&tags, &values, 255)),
+        count,
+    }
 }
