@@ -13,8 +13,8 @@ ghost use Rattle.outcomes.specs.Calls.{copy, canonicalText, splitText, Does};
 pub fn copy(page: &[u8], out: &mut [u8]) -> Outcome
     ensures { λ r. ⌜ Does (copy (now (page .entry)) (now (out .entry))) (outcomeMeant r) (now (out .exit)) ⌝ }
 {
-    let mut starts = [0u16; 256];
-    let mut firsts = [0u8; 256];
+    let mut starts = [0u16; page::RECORD_LIMIT];
+    let mut firsts = [0u8; page::RECORD_LIMIT];
     let walked = walk(page, &mut starts, &mut firsts);
     match walked {
         Walked::Accepted { kind, count: n } => {
@@ -32,8 +32,8 @@ pub fn copy(page: &[u8], out: &mut [u8]) -> Outcome
 pub fn canonical(page: &[u8], out: &mut [u8]) -> Outcome
     ensures { λ r. ⌜ Does (canonicalText (now (page .entry)) (now (out .entry))) (outcomeMeant r) (now (out .exit)) ⌝ }
 {
-    let mut starts = [0u16; 256];
-    let mut firsts = [0u8; 256];
+    let mut starts = [0u16; page::RECORD_LIMIT];
+    let mut firsts = [0u8; page::RECORD_LIMIT];
     let walked = walk(page, &mut starts, &mut firsts);
     match walked {
         Walked::Accepted { kind, count: n } => {
@@ -51,8 +51,8 @@ pub fn canonical(page: &[u8], out: &mut [u8]) -> Outcome
 pub fn split(page: &[u8], out: &mut [u8]) -> Outcome
     ensures { λ r. ⌜ Does (splitText (now (page .entry)) (now (out .entry))) (outcomeMeant r) (now (out .exit)) ⌝ }
 {
-    let mut starts = [0u16; 256];
-    let mut firsts = [0u8; 256];
+    let mut starts = [0u16; page::RECORD_LIMIT];
+    let mut firsts = [0u8; page::RECORD_LIMIT];
     let walked = walk(page, &mut starts, &mut firsts);
     match walked {
         Walked::Accepted { kind, count: n } => {

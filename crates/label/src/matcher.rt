@@ -135,7 +135,7 @@ pub fn put_matchers(page: &[u8], start: usize, count: usize, out: &mut [u8], at:
     requires room { ⌜ at + length (displayMatchers (matchersOn (now page) start count)) ≤ length (now out) ⌝ }
     ensures { λ r. ⌜ Wrote (now (out .entry)) (now (out .exit)) at (displayMatchers (matchersOn (now (page .entry)) start count)) r ⌝ }
 {
-    let mut keys = [0u64; 16];
+    let mut keys = [0u64; page::COUNT_LIMIT as usize];
     let n = collect(page, start, count, &mut keys);
     let order = &mut keys[..n];
     arrange(page, order);

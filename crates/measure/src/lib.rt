@@ -33,7 +33,7 @@ pub fn width(
     if known != 0 {
         return known;
     }
-    text_len(page, starts, firsts, i, numberless, 101)
+    text_len(page, starts, firsts, i, numberless, page::WIDTH_LIMIT)
 }
 
 // Measures the tree that record i ends and all trees below it, puts their widths into the table, and returns its own.
@@ -54,8 +54,8 @@ fn measure(
     let node = view::view_at(page, starts, i, numberless);
     let end = node.base;
     let count = node.count;
-    let front = front_len(page, starts, node, 101);
-    let left = 101 - front;
+    let front = front_len(page, starts, node, page::WIDTH_LIMIT);
+    let left = page::WIDTH_LIMIT - front;
     let gap = between_len(page, starts, node, left);
     let minus = view::is_minus(node);
     let inner = measure_operands(page, starts, firsts, end, count, minus, gap, left, widths);
@@ -117,11 +117,11 @@ fn measure_operands(
 }
 
 // The widths of the tree that record i ends and of all trees below it.
-pub fn widths_of(page: &[u8], starts: &[u16], firsts: &[u8], i: usize) -> [u8; 256]
+pub fn widths_of(page: &[u8], starts: &[u16], firsts: &[u8], i: usize) -> [u8; page::RECORD_LIMIT]
     requires { ⌜ Tables (now page) (now starts) (now firsts) (suc i) ⌝ }
     ensures { λ r. ⌜ Widths (now (page .entry)) r ⌝ }
 {
-    let mut widths = [0u8; 256];
+    let mut widths = [0u8; page::RECORD_LIMIT];
     measure(page, starts, firsts, i, false, &mut widths);
     widths
 }

@@ -1,5 +1,6 @@
 // The fields of a page (document 01, 'The page', house format): numbers, counts and texts, read at a position; bytes written into a buffer.
 pub mod fault;
+pub mod limit;
 pub mod list;
 pub mod name;
 pub mod number;
@@ -7,6 +8,16 @@ pub mod text;
 pub mod write;
 
 pub use fault::Fault;
+pub use limit::COUNT_LIMIT;
+pub use limit::FUNCTION_NAME_LIMIT;
+pub use limit::LINE_LIMIT;
+pub use limit::NUMBER_LIMIT;
+pub use limit::OUTPUT_LIMIT;
+pub use limit::PAGE_LIMIT;
+pub use limit::RECORD_LIMIT;
+pub use limit::TEXT_LIMIT;
+pub use limit::TIME_LIMIT;
+pub use limit::WIDTH_LIMIT;
 pub use list::ListField;
 pub use name::ByteClass;
 pub use name::all_in;

@@ -1,14 +1,13 @@
 // Numbers: groups of seven bits, lowest first, the high bit of each byte set except the last; shortest form, at most 2^53.
 use crate::fault::Fault;
+use crate::limit::COUNT_LIMIT;
+use crate::limit::NUMBER_LIMIT;
 ghost use mathlib.Core.Path.{_≡_};
 ghost use Prim.Native.Nat.{_≤_};
 ghost use lib.ListN.{length, drop};
 ghost use Rattle.page.specs.Number.{readNumber};
 ghost use Rattle.page.specs.Text.{readCount};
 ghost use Rattle.page.specs.Answers.{numberAt, numberEnd, readUpTo, countAt};
-
-// The highest number that a page may hold, 2^53.
-pub const LIMIT: u64 = 9007199254740992;
 
 // A number and the position after it. Whatever is wrong with a number is a bad field.
 pub enum Number {
@@ -65,7 +64,7 @@ pub fn read_number(page: &[u8], at: usize) -> Number
             next: at + 1,
         };
     }
-    read_up_to(page, at, LIMIT)
+    read_up_to(page, at, NUMBER_LIMIT)
 }
 
 // A count of labels, matchers, kinds or arguments, and the position after it.
@@ -79,7 +78,7 @@ pub fn read_count(page: &[u8], at: usize) -> Count
 {
     match read_number(page, at) {
         Number::Got { number: n, next } => {
-            if n <= 16 {
+            if n <= COUNT_LIMIT {
                 Count::Got {
                     count: n as usize,
                     next,

@@ -1,5 +1,7 @@
 // Texts: a length and bytes, one field. Cut short is a bad field, then too long, then not allowed.
 use crate::fault::Fault;
+use crate::limit::FUNCTION_NAME_LIMIT;
+use crate::limit::TEXT_LIMIT;
 use crate::name::is_label;
 use crate::name::is_metric_name;
 use crate::name::is_text;
@@ -40,9 +42,9 @@ pub fn text_limit(class: TextClass) -> usize
     ensures { λ r. ⌜ r ≡ limitOf class ⌝ }
 {
     match class {
-        TextClass::Any => 255,
-        TextClass::MetricName => 255,
-        TextClass::FunctionName => 64,
+        TextClass::Any => TEXT_LIMIT,
+        TextClass::MetricName => TEXT_LIMIT,
+        TextClass::FunctionName => FUNCTION_NAME_LIMIT,
     }
 }
 

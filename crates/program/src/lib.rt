@@ -27,14 +27,14 @@ fn put_line(page: &[u8], out: &mut [u8]) -> usize
     requires { ⌜ 65537 ≡ length (now out) ⌝ }
     ensures { λ r. ⌜ Wrote (now (out .entry)) (now (out .exit)) 0 (programOutput (now (page .entry))) r ⌝ }
 {
-    match split(page, &mut out[..65536]) {
+    match split(page, &mut out[..page::OUTPUT_LIMIT]) {
         Outcome::Accepted { written: n, .. } => put_byte(b'\n', out, n),
         Outcome::Refused(refusal, index) => { put_refused(refusal_number(refusal), index, out, 0) }
     }
 }
 
 // The program's output at the start of the buffer; the bytes after it stay.
-pub fn put_sheet(page: &[u8], out: &mut [u8; 65537]) -> usize
+pub fn put_sheet(page: &[u8], out: &mut [u8; page::OUTPUT_LIMIT + 1]) -> usize
     ensures wrote { λ r. ⌜ Wrote (now (out .entry)) (now (out .exit)) 0 (programOutput (now (page .entry))) r ⌝ }
     ensures fits { λ r. ⌜ r ≤ length (now (out .exit)) ⌝ }
 {

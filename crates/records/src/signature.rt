@@ -32,7 +32,7 @@ fn read_upper(page: &[u8], at: usize) -> Amount
             if n == 0 {
                 return Amount::Bad(page::Fault::BadField);
             }
-            if n <= 16 {
+            if n <= page::COUNT_LIMIT {
                 Amount::Got { amount: n, next }
             } else {
                 Amount::Bad(page::Fault::PastLimit)

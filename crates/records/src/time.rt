@@ -12,16 +12,13 @@ pub enum Amount {
     Bad(page::Fault),
 }
 
-// The latest @ time, 10^15.
-pub const TIME_LIMIT: u64 = 1000000000000000;
-
 // A time that is not negative.
 fn read_time(page: &[u8], at: usize) -> Amount
     ensures { λ r. ⌜ amountAt (now (page .entry)) r ≡ readTime (drop at (now (page .entry))) ⌝ }
 {
     match page::read_number(page, at) {
         page::Number::Got { number: n, next } => {
-            if n <= TIME_LIMIT {
+            if n <= page::TIME_LIMIT {
                 Amount::Got { amount: n, next }
             } else {
                 Amount::Bad(page::Fault::PastLimit)
@@ -40,7 +37,7 @@ fn read_negative_time(page: &[u8], at: usize) -> Amount
             if n == 0 {
                 return Amount::Bad(page::Fault::BadField);
             }
-            if n <= TIME_LIMIT {
+            if n <= page::TIME_LIMIT {
                 Amount::Got { amount: n, next }
             } else {
                 Amount::Bad(page::Fault::PastLimit)

@@ -41,7 +41,7 @@ pub extern "C" fn sandzguli_copy(page: &[u8], out: &mut [u8]) -> u64
 pub extern "C" fn sandzguli_joint_label(page: &[u8]) -> u64
     ensures { λ r. ⌜ r ≡ labelWord (labelPart (now (page .entry)) (check (now (page .entry)))) ⌝ }
 {
-    if 8192 < page.len() {
+    if page::PAGE_LIMIT < page.len() {
         return 0;
     }
     let label = label_span(page);

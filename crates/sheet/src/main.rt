@@ -11,15 +11,15 @@ fn input_failed() -> bool {
 }
 
 fn main() {
-    let mut page = [0u8; 8193];
+    let mut page = [0u8; page::PAGE_LIMIT + 1];
     let n = io::read_full(0, &mut page);
-    if n < 8193 {
+    if n <= page::PAGE_LIMIT {
         if input_failed() {
             io::write_all(2, b"sheet: the input cannot be read\n");
             return;
         }
     }
-    let mut out = [0u8; 65537];
+    let mut out = [0u8; page::OUTPUT_LIMIT + 1];
     let end = put_sheet(&page[..n], &mut out);
     if !io::write_all(1, &out[..end]) {
         io::write_all(2, b"sheet: the output cannot be written\n");

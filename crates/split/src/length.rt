@@ -40,7 +40,7 @@ pub fn split_len(
     }
     let level = place.level;
     let line = width(page, starts, firsts, widths, i, place.numberless);
-    if line <= 100 {
+    if line <= page::LINE_LIMIT {
         let lead = indent_len(place.indents, level, cap);
         return leaves::capped_add(lead, line, cap);
     }

@@ -37,7 +37,7 @@ pub fn write_split(
     ensures { λ r. ⌜ Wrote (now (out .entry)) (now (out .exit)) at (prettyIndented (place .indents) (place .level) (treeAt (now (page .entry)) i)) r ⌝ }
 {
     let line = width(page, starts, firsts, widths, i, place.numberless);
-    if line <= 100 {
+    if line <= page::LINE_LIMIT {
         let text = put_indent(place.indents, place.level, out, at);
         return write_text(page, starts, firsts, i, place.numberless, out, text);
     }

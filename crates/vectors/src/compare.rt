@@ -74,8 +74,8 @@ fn other_byte(text: &[u8]) -> u8 {
 
 // Whether a word is 5 with the number of records.
 fn is_too_short(page: &[u8], word: u64) -> bool {
-    let mut starts = [0u16; 256];
-    let mut firsts = [0u8; 256];
+    let mut starts = [0u16; page::RECORD_LIMIT];
+    let mut firsts = [0u8; page::RECORD_LIMIT];
     match walk(page, &mut starts, &mut firsts) {
         Walked::Accepted { count, .. } => {
             (word / 65536 == TOO_SHORT) & (word % 65536 == count as u64)

@@ -12,8 +12,8 @@ ghost use Rattle.walk.specs.Answers.{outcomeMeant};
 pub fn check(page: &[u8]) -> Outcome
     ensures { λ r. ⌜ CheckContract (now (page .entry)) (outcomeMeant r) ⌝ }
 {
-    let mut starts = [0u16; 256];
-    let mut firsts = [0u8; 256];
+    let mut starts = [0u16; page::RECORD_LIMIT];
+    let mut firsts = [0u8; page::RECORD_LIMIT];
     match walk::walk(page, &mut starts, &mut firsts) {
         Walked::Accepted { kind, .. } => Outcome::Accepted { kind, written: 0 },
         Walked::Refused(refusal, index) => Outcome::Refused(refusal, index),

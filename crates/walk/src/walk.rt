@@ -3,6 +3,7 @@
 // the record ends.
 use crate::answer::field_refusal;
 use judge::record::judge_record;
+use page::RECORD_LIMIT;
 use reader::Record;
 use reader::RecordField;
 use reader::operand_count;
@@ -24,6 +25,9 @@ ghost use Rattle.rules.specs.Stack.{heldOperands, Sized};
 ghost use Rattle.walk.specs.Answers.{Walks};
 ghost use Rattle.walk.specs.Walk.{RecordRead, firstOf};
 
+// Where the stack's first entry lies.
+const LAST: usize = RECORD_LIMIT - 1;
+
 // The kind and the number of records, or a refusal and the index of its record.
 pub enum Walked {
     Accepted { kind: Kind, count: usize },
@@ -44,7 +48,7 @@ fn judge_next(
     requires inside { ⌜ top ≤ 256 ⌝ }
     ensures { λ r. ⌜ verdictMeant r ≡ judgement (recordOn (now (page .entry)) item) (drop top (heldOperands (now (tags .entry)) (now (values .entry)))) ⌝ }
 {
-    if 256 - top < needed {
+    if RECORD_LIMIT - top < needed {
         return Verdict::Refused(Refusal::OperandsMissing);
     }
     judge_record(page, item, tags, values, top)
@@ -66,17 +70,17 @@ pub fn walk(page: &[u8], starts: &mut [u16], firsts: &mut [u8]) -> Walked
     requires { ⌜ (length (now starts) ≡ 256) × (length (now firsts) ≡ 256) ⌝ }
     ensures { λ r. ⌜ Walks (now (page .entry)) (now (starts .entry)) (now (firsts .entry)) (now (starts .exit)) (now (firsts .exit)) r ⌝ }
 {
-    if 8192 < page.len() {
+    if page::PAGE_LIMIT < page.len() {
         return Walked::Refused(Refusal::PastLimit, 0);
     }
-    let mut tags = [0u8; 256];
-    let mut values = [0.0f64; 256];
-    let mut bases = [0u8; 256];
-    let mut top: usize = 256;
+    let mut tags = [0u8; RECORD_LIMIT];
+    let mut values = [0.0f64; RECORD_LIMIT];
+    let mut bases = [0u8; RECORD_LIMIT];
+    let mut top = RECORD_LIMIT;
     let mut at: usize = 0;
     let mut count: usize = 0;
     while at < page.len() {
-        if count == 256 {
+        if count == RECORD_LIMIT {
             return Walked::Refused(Refusal::PastLimit, count);
         }
         match read_record(page, at) {
@@ -100,11 +104,11 @@ pub fn walk(page: &[u8], starts: &mut [u16], firsts: &mut [u8]) -> Walked
             }
         }
     }
-    if top != 255 {
+    if top != LAST {
         return Walked::Refused(Refusal::OperandsMissing, count);
     }
     Walked::Accepted {
-        kind: kind_of(operand_at(&tags, &values, 255)),
+        kind: kind_of(operand_at(&tags, &values, LAST)),
         count,
     }
 }
