@@ -2,7 +2,7 @@
 use Prim.Native.Nat.{ℕ, _-_}
 use mathlib.Core.List.{List, [], _∷_}
 use mathlib.Core.Path.{_≡_}
-use lib.ListN.{length, drop}
+use lib.ListN.{length}
 use Rattle.page.specs.Read.{Read, Reader, andThen, _>>=_, return}
 use Rattle.page.specs.Number.{readChoice}
 use Rattle.page.specs.Answers.{Lies}
