@@ -1,1 +1,1 @@
-// Laws only, for any element: writing into a lent buffer, a rule of a table, proof by a test. They stand in specs/.
+// Writing into a lent buffer, for any element: the definitions stand in specs/. In proofs/ their laws, a rule of a table, proof by a test.

@@ -6,7 +6,8 @@ use mathlib.Core.List.{List}
 use native.Mathlib.Nat.{zero-add}
 use lib.ListN.{length}
 use lib.Dec.{leb}
-use Rattle.base.specs.Splice.{Wrote, splice-start}
+use Rattle.base.specs.Splice.{Wrote}
+use Rattle.base.proofs.SpliceLaws.{splice-start}
 use Rattle.records.specs.Kind.{Kind}
 use Rattle.records.specs.Outcome.{answer, refusal}
 use Rattle.ast.specs.Expr.{Expr, valueType}

@@ -9,7 +9,7 @@ use mir.Val.{Fits}
 use borrow.Author.Tests.{le-leb, lt-leb}
 use lib.ListN.{length, getD}
 use lib.Dec.{leb}
-use Rattle.base.specs.Cases.{by-lt}
+use Rattle.base.proofs.Cases.{by-lt}
 use Rattle.page.proofs.NumberLaws.{known-bytes}
 use Rattle.ast.specs.Tables.{treeAt}
 use Rattle.text.specs.Display.{display}

@@ -5,7 +5,7 @@ use native.Mathlib.Omega.{arith}
 use mathlib.Core.List.{List, [], _∷_, _++_}
 use lib.ListN.{length, length-append}
 use Rattle.page.specs.Bytes.{bytes}
-use Rattle.base.specs.Splice.{Run}
+use Rattle.base.proofs.SpliceLaws.{Run}
 use Rattle.records.specs.Stack.{operandsOf}
 use Rattle.ast.specs.Tables.{stackAt, treeAt}
 use Rattle.text.specs.Display.{display}

@@ -7,7 +7,7 @@ use native.Mathlib.Omega.{arith}
 use lib.ListN.{length, take, drop, getD}
 use lib.Seq.{drop-drop, getD-drop}
 use lib.Dec.{eqb}
-use Rattle.base.specs.Cases.{by-eq}
+use Rattle.base.proofs.Cases.{by-eq}
 use Rattle.base.specs.Splice.{join}
 use Rattle.page.specs.Bytes.{pick}
 use Rattle.page.specs.Number.{writeNumber}

@@ -10,8 +10,8 @@ use lib.ListN.{length, drop, getD, drop-of-length-le, length-drop}
 use lib.Seq.{drop-drop, drop-length}
 use lib.Dec.{T, leb}
 use borrow.Author.Tests.{leb-true, le-leb, lt-leb}
-use Rattle.base.specs.Splice.{Cut, cut-length}
-use Rattle.base.specs.Cases.{by-lt}
+use Rattle.base.proofs.SpliceLaws.{Cut, cut-length}
+use Rattle.base.proofs.Cases.{by-lt}
 use Rattle.page.specs.Bytes.{pick, all}
 use Rattle.page.specs.Limits.{pageLimit, recordLimit}
 use Rattle.page.specs.Read.{Read, got, pastLimit}

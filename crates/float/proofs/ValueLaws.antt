@@ -8,7 +8,7 @@ use lib.IntN.{pos}
 use lib.Ieee as Ieee
 use lib.Ieee.{Float, nan, inf, fin, binary64}
 use lib.Ieee.Compare.{differs-from-itself}
-use Rattle.base.specs.Cases.{by-flag}
+use Rattle.base.proofs.Cases.{by-flag}
 use Rattle.records.specs.Float.{zeroFloat, isInfiniteFloat}
 
 -- ## Constants

@@ -6,7 +6,8 @@ use mathlib.Core.List.{List, [], _∷_, _++_, append-nil}
 use mathlib.Core.Option.{Option}
 use mathlib.Core.Path.{_≡_, refl, sym, ap, _∙_, subst}
 use lib.ListN.{length, length-append}
-use Rattle.base.specs.Splice.{Cut, join}
+use Rattle.base.specs.Splice.{join}
+use Rattle.base.proofs.SpliceLaws.{Cut}
 use Rattle.page.specs.Bytes.{isEmpty}
 use Rattle.page.specs.Listed.{listed, AllRead}
 use Rattle.records.specs.Code.{token}

@@ -7,7 +7,8 @@ use mathlib.Core.Path.{_≡_, refl, sym, ap, _∙_}
 use mathlib.Core.Bool.{Bool, true}
 use mathlib.Core.List.{List, [], _∷_, _++_, append-assoc, append-nil}
 use lib.ListN.{length, length-append}
-use Rattle.base.specs.Splice.{Run, start, join}
+use Rattle.base.specs.Splice.{join}
+use Rattle.base.proofs.SpliceLaws.{Run, start}
 use Rattle.page.specs.Bytes.{bytes}
 use Rattle.text.specs.Pretty.{indent}
 use Rattle.text.specs.Layout.{indentIf}

@@ -7,8 +7,9 @@ use mathlib.Core.List.{List, [], _∷_, _++_, map}
 use mathlib.Core.Path.{_≡_, refl, sym, ap, _∙_}
 use lib.ListN.{length, getD, take, drop, drop-of-length-le, length-append}
 use lib.Seq.{drop-cons}
-use Rattle.base.specs.Cases.{by-flag}
-use Rattle.base.specs.Splice.{Cut, Wrote}
+use Rattle.base.proofs.Cases.{by-flag}
+use Rattle.base.specs.Splice.{Wrote}
+use Rattle.base.proofs.SpliceLaws.{Cut}
 use Rattle.page.specs.Read.{got}
 use Rattle.page.specs.Text.{Text}
 use Rattle.page.specs.Listed.{listed}

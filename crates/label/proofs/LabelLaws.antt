@@ -5,7 +5,7 @@ use mathlib.Core.Bool.{Bool, true, false}
 use mathlib.Core.List.{List, [], _∷_, _++_}
 use mathlib.Core.Path.{_≡_, refl, ap, _∙_}
 use lib.ListN.{length, length-append}
-use Rattle.base.specs.Splice.{Cut, cut-length}
+use Rattle.base.proofs.SpliceLaws.{Cut, cut-length}
 use Rattle.page.specs.Read.{got}
 use Rattle.page.specs.Text.{Text, isLabel, readAnyText}
 use Rattle.page.specs.Listed.{listed}

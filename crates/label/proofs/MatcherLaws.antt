@@ -8,7 +8,7 @@ use mathlib.Core.Path.{_≡_, refl, sym, ap, _∙_, subst}
 use borrow.Author.Tests.{ne-eqb}
 use lib.ListN.{List·getD-append, length, getD, length-append, length-map}
 use lib.Seq.{getD-append-add}
-use Rattle.base.specs.Cases.{by-flag, by-eq}
+use Rattle.base.proofs.Cases.{by-flag, by-eq}
 use Rattle.page.specs.Bytes.{pick, all}
 use Rattle.page.specs.Text.{isAlpha, isAlphaNumeric, isLabel}
 use Rattle.leaves.specs.Escape.{escapeByte, escape}

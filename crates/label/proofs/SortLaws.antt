@@ -8,7 +8,7 @@ use mathlib.Core.List.{List, [], _∷_, _++_, append-assoc}
 use mathlib.Core.Path.{_≡_, refl, sym, ap, _∙_, subst}
 use lib.ListN.{length, getD, take, drop, set, drop-of-length-le, length-set}
 use lib.Seq.{getD-take, take-take, drop-cons, drop-at, take-at, drop-set-lt, take-suc-set, set-split, length-take-le}
-use Rattle.base.specs.Cases.{by-flag}
+use Rattle.base.proofs.Cases.{by-flag}
 use Rattle.label.specs.Label.{atMost, insert, sort}
 use Rattle.label.specs.Symbols.{placed}
 use Rattle.label.specs.Key.{keyText, IsKey, AreKeys, keyTexts, Sorts}

@@ -8,7 +8,7 @@ use mathlib.Core.Path.{_≡_, refl, sym, ap, _∙_}
 use borrow.Author.Tests.{lt-ltb, le-ltb, eq-eqb, ne-eqb}
 use lib.Dec.{eqb}
 use lib.ListN.{length, getD, length-append, length-map}
-use Rattle.base.specs.Cases.{by-lt, by-eq}
+use Rattle.base.proofs.Cases.{by-lt, by-eq}
 use Rattle.page.specs.Bytes.{pick}
 use Rattle.leaves.specs.Escape.{escapeByte, escapeWith, escape, quote}
 use Rattle.leaves.proofs.EscapeLaws.{escapeByte-stands, escapeByte-letter}

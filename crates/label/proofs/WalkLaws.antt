@@ -9,7 +9,7 @@ use borrow.Author.Tests.{lt-ltb, le-ltb}
 use lib.Dec.{ltb}
 use lib.ListN.{length, getD, drop, drop-of-length-le}
 use lib.Seq.{drop-cons}
-use Rattle.base.specs.Cases.{by-lt}
+use Rattle.base.proofs.Cases.{by-lt}
 use Rattle.label.specs.Label.{atMost}
 use Rattle.label.proofs.SymbolLaws.{at-most-less, at-most-more, at-most-same, nothing, some-more}
 

@@ -7,8 +7,8 @@ use mathlib.Core.Path.{_≡_, refl, ap, _∙_}
 use borrow.Author.Tests.{lt-ltb, le-ltb}
 use lib.Dec.{ltb}
 use lib.ListN.{length, length-append}
-use Rattle.base.specs.Cases.{by-lt}
-use Rattle.base.specs.Splice.{Cut}
+use Rattle.base.proofs.Cases.{by-lt}
+use Rattle.base.proofs.SpliceLaws.{Cut}
 use Rattle.page.specs.Bytes.{pick}
 use Rattle.leaves.specs.Decimal.{digits, decimal}
 

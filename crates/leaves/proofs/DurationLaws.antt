@@ -10,8 +10,8 @@ use borrow.Author.Tests.{eq-eqb, ne-eqb}
 use lib.Dec.{ltb, eqb}
 use lib.ListN.{length, getD, take, drop, set, length-append, drop-of-length-le}
 use lib.Seq.{drop-cons, append-snoc, take-suc-set, take-all}
-use Rattle.base.specs.Cases.{by-flag}
-use Rattle.base.specs.Splice.{Cut}
+use Rattle.base.proofs.Cases.{by-flag}
+use Rattle.base.proofs.SpliceLaws.{Cut}
 use Rattle.page.specs.Bytes.{pick}
 use Rattle.leaves.specs.Decimal.{decimal}
 use Rattle.leaves.specs.Duration.{timeUnit, units, unitAt, unitName, countOf, countsOf, durationCounts, displayCount, displayCounts, displayDuration}

@@ -6,7 +6,7 @@ use mathlib.Core.List.{List, [], _∷_}
 use mathlib.Core.Path.{_≡_, refl, sym, ap, _∙_}
 use lib.ListN.{length, getD, drop, drop-of-length-le, length-append}
 use lib.Seq.{drop-cons}
-use Rattle.base.specs.Splice.{Cut}
+use Rattle.base.proofs.SpliceLaws.{Cut}
 use Rattle.leaves.specs.Escape.{escapeByte, escapeWith, escape, quote}
 
 -- ## escapeByte: r is what `escape_letter` answered

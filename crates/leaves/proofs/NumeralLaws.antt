@@ -5,7 +5,7 @@ use native.Mathlib.Omega.{arith}
 use mathlib.Core.List.{[], _∷_}
 use mathlib.Core.Path.{_≡_}
 use lib.ListN.{length}
-use Rattle.base.specs.Splice.{Cut}
+use Rattle.base.proofs.SpliceLaws.{Cut}
 use Rattle.page.specs.Bytes.{bytes}
 use Rattle.records.specs.Answers.{literalOf}
 use Rattle.records.specs.declared.literal.Literal.{Literal}

@@ -4,7 +4,8 @@ use native.Mathlib.Omega.{arith}
 use mathlib.Core.List.{List, [], _∷_, append-assoc}
 use mathlib.Core.Path.{_≡_, ap, _∙_}
 use lib.ListN.{length, length-append}
-use Rattle.base.specs.Splice.{Cut, join}
+use Rattle.base.specs.Splice.{join}
+use Rattle.base.proofs.SpliceLaws.{Cut}
 use Rattle.records.specs.Answers.{atModifierOf, offsetOf}
 use Rattle.records.specs.declared.time.AtModifier.{AtModifier}
 use Rattle.records.specs.declared.time.AtModifier.the-variants.{Start, End, After, Before}

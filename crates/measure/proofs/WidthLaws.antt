@@ -6,7 +6,7 @@ use mathlib.Core.List.{List}
 use native.Mathlib.Omega.{arith}
 use lib.ListN.{length, getD, set, replicate, length-set}
 use lib.Seq.{getD-set-same, getD-set-other}
-use Rattle.base.specs.Cases.{by-eq}
+use Rattle.base.proofs.Cases.{by-eq}
 use Rattle.ast.specs.Tables.{treeAt}
 use Rattle.text.specs.Display.{display}
 use Rattle.measure.specs.Widths.{Widths}

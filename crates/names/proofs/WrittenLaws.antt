@@ -6,7 +6,8 @@ use native.Mathlib.Nat.{zero-add}
 use native.Mathlib.Omega.{arith}
 use borrow.Author.Tests.{le-leb, lt-leb}
 use lib.ListN.{length}
-use Rattle.base.specs.Splice.{Wrote, splice-start}
+use Rattle.base.specs.Splice.{Wrote}
+use Rattle.base.proofs.SpliceLaws.{splice-start}
 use Rattle.names.specs.Written.{nameWritten, DoesName}
 
 -- the same name in other words

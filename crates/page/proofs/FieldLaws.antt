@@ -10,7 +10,7 @@ use lib.ListN.{length, drop, getD, drop-of-length-le}
 use lib.Seq.{drop-cons}
 use lib.Dec.{leb, ltb}
 use borrow.Author.Tests.{lt-ltb, le-ltb, le-leb, lt-leb, leb-true, leb-false}
-use Rattle.base.specs.Cases.{by-lt}
+use Rattle.base.proofs.Cases.{by-lt}
 use Rattle.page.specs.Bytes.{pick}
 use Rattle.page.specs.Read.{FieldFault, Read, refused, got, Reader, andThen, ensure, readerAt, badField}
 use Rattle.page.specs.Number.{withGroup, readGroups}

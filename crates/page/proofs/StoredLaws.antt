@@ -10,7 +10,7 @@ use lib.ListN.{length, take, drop, getD, length-drop}
 use lib.Seq.{drop-drop}
 use lib.Dec.{leb}
 use borrow.Author.Tests.{leb-true}
-use Rattle.base.specs.Cases.{by-lt}
+use Rattle.base.proofs.Cases.{by-lt}
 use Rattle.page.specs.Bytes.{pick}
 use Rattle.page.specs.Limits.{numberLimit}
 use Rattle.page.specs.Read.{FieldFault, badField, pastLimit, badText, Read, refused, got, Reader, andThen, _>>=_, ensure, readerAt}

@@ -4,7 +4,8 @@ use native.Mathlib.Omega.{arith}
 use mathlib.Core.Path.{_≡_}
 use mathlib.Core.List.{List, [], _∷_, _++_, append-assoc, append-nil}
 use lib.ListN.{length, length-append}
-use Rattle.base.specs.Splice.{Run, start, join}
+use Rattle.base.specs.Splice.{join}
+use Rattle.base.proofs.SpliceLaws.{Run, start}
 use Rattle.page.specs.Bytes.{bytes}
 
 pub sum-three : (a b c : List ℕ) (cap x y z r : ℕ) → x ≡ min (length a) cap → y ≡ length b → z ≡ length c → r ≡ min (x + (y + z)) cap → r ≡ min (length (a ++ (b ++ c))) cap

@@ -10,8 +10,9 @@ use mathlib.Core.List.{List, [], _∷_, _++_, append-assoc}
 use lib.ListN.{length, take, drop, length-append, length-drop, length-replicate, take-append-drop}
 use lib.Seq.{take-append-seam, take-all, drop-append-le, length-take-le}
 use lib.Dec.{leb}
-use Rattle.base.specs.Cases.{by-lt}
-use Rattle.base.specs.Splice.{Wrote, wrote-length, splice-start, join, cut, cut-last, begin, step, finish}
+use Rattle.base.proofs.Cases.{by-lt}
+use Rattle.base.specs.Splice.{Wrote, join}
+use Rattle.base.proofs.SpliceLaws.{wrote-length, splice-start, cut, cut-last, begin, step, finish}
 use Rattle.page.specs.Bytes.{pick, bytes}
 use Rattle.page.specs.Limits.{recordLimit}
 use Rattle.records.specs.Kind.{Kind}

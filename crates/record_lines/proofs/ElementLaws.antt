@@ -7,7 +7,8 @@ use mathlib.Core.Path.{_≡_, ap}
 use borrow.Author.Tests.{le-leb, lt-leb}
 use lib.ListN.{length, drop, length-drop}
 use lib.Seq.{length-take-le}
-use Rattle.base.specs.Splice.{Cut, join}
+use Rattle.base.specs.Splice.{join}
+use Rattle.base.proofs.SpliceLaws.{Cut}
 use Rattle.page.specs.Read.{FieldFault, badField, refused, got, Reader, andThen, return}
 use Rattle.page.specs.Number.{readNumber}
 use Rattle.page.specs.Text.{readAnyText}

@@ -7,7 +7,8 @@ use mathlib.Core.List.{List, [], _∷_, _++_}
 use mathlib.Core.Path.{_≡_, refl, sym, ap, _∙_}
 use borrow.Author.Tests.{le-leb, lt-leb}
 use lib.ListN.{length, length-append}
-use Rattle.base.specs.Splice.{splice, Wrote, Cut, join, splice-nil, splice-splice, length-splice}
+use Rattle.base.specs.Splice.{splice, Wrote, join}
+use Rattle.base.proofs.SpliceLaws.{Cut, splice-nil, splice-splice, length-splice}
 use Rattle.leaves.specs.Decimal.{decimal}
 use Rattle.record_lines.specs.Line.{Line, lineAt, put, putAll, Puts, spaced, Shows}
 

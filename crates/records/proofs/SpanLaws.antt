@@ -8,7 +8,7 @@ use borrow.Author.Tests.{eq-eqb, ne-eqb}
 use lib.Dec.{eqb}
 use lib.ListN.{length, drop, length-drop}
 use lib.Seq.{length-take-le}
-use Rattle.base.specs.Cases.{by-eq}
+use Rattle.base.proofs.Cases.{by-eq}
 use Rattle.page.specs.Bytes.{isEmpty}
 use Rattle.page.specs.Answers.{spanOn, Lies}
 use Rattle.page.specs.declared.text.Span.{Span}

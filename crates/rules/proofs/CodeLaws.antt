@@ -8,8 +8,8 @@ use native.Mathlib.Omega.{arith}
 use borrow.Author.Tests.{ne-eqb}
 use lib.Dec.{T, eqb}
 use lib.ListN.{replicate}
-use Rattle.base.specs.Cases.{by-lt}
-use Rattle.base.specs.Table.{every, at}
+use Rattle.base.proofs.Cases.{by-lt}
+use Rattle.base.proofs.Table.{every, at}
 use Rattle.page.specs.Bytes.{bytes, any, equal}
 use Rattle.records.specs.Code.{tokens, isOneOf}
 use Rattle.rules.proofs.StackLaws.{getD-past}

@@ -5,7 +5,8 @@ use mathlib.Core.Path.{_≡_, sym, ap, _∙_}
 use mathlib.Core.Bool.{Bool, true}
 use mathlib.Core.List.{List, [], _∷_, _++_, append-nil}
 use lib.ListN.{length, length-append}
-use Rattle.base.specs.Splice.{Run, start, join}
+use Rattle.base.specs.Splice.{join}
+use Rattle.base.proofs.SpliceLaws.{Run, start}
 use Rattle.records.specs.Stack.{operandsOf}
 use Rattle.ast.specs.Tables.{Tables, stackAt, treeAt}
 use Rattle.text.specs.Display.{display}

@@ -8,7 +8,7 @@ use mathlib.Core.Option.{Option, none, some}
 use lib.ListN.{length, getD}
 use lib.Dec.{leb}
 use borrow.Author.Tests.{leb-true}
-use Rattle.base.specs.Cases.{by-flag}
+use Rattle.base.proofs.Cases.{by-flag}
 use Rattle.page.specs.Limits.{pageLimit}
 use Rattle.page.specs.Read.{got}
 use Rattle.records.specs.Literal.{Literal, negate}

@@ -8,7 +8,7 @@ use mathlib.Core.List.{List, [], _∷_}
 use mathlib.Core.Option.{Option, none, some}
 use lib.ListN.{length, drop, getD, replicate}
 use lib.Dec.{T, leb, ltb, eqb, leb→le, ltb→lt, eqb→eq}
-use Rattle.base.specs.Table.{at}
+use Rattle.base.proofs.Table.{at}
 use Rattle.page.specs.Bytes.{bytes, all, between}
 use Rattle.page.specs.Read.{got}
 use Rattle.page.specs.Text.{Text, isAlpha, isAlphaNumeric, isLabel, isMetricName, isSelectorName}

@@ -4,7 +4,8 @@ use mathlib.Core.Path.{_≡_, sym, ap, _∙_}
 use mathlib.Core.List.{List, [], _∷_, _++_, append-nil}
 use native.Mathlib.Nat.{add-zero}
 use lib.ListN.{length, getD}
-use Rattle.base.specs.Splice.{Wrote, Run, start, join, splice-nil}
+use Rattle.base.specs.Splice.{Wrote, join}
+use Rattle.base.proofs.SpliceLaws.{Run, start, splice-nil}
 use Rattle.records.specs.Stack.{operandsOf}
 use Rattle.ast.specs.Expr.{Expr}
 use Rattle.ast.specs.Tables.{Tables, stackAt, treeAt}

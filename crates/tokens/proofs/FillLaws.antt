@@ -10,8 +10,9 @@ use mathlib.Core.Path.{_≡_, refl, sym, ap, _∙_}
 use borrow.Author.Tests.{eq-eqb, ne-eqb}
 use lib.Dec.{eqb}
 use lib.ListN.{length, length-append}
-use Rattle.base.specs.Cases.{by-eq}
-use Rattle.base.specs.Splice.{Cut, join}
+use Rattle.base.proofs.Cases.{by-eq}
+use Rattle.base.specs.Splice.{join}
+use Rattle.base.proofs.SpliceLaws.{Cut}
 use Rattle.page.specs.Bytes.{bytes}
 use Rattle.records.specs.Literal.{Magnitude, whole, infinite, Literal, plus, minus, nan, isZero, equalMagnitude, equalAsFloats}
 use Rattle.records.proofs.FloatLaws.{float-equal}

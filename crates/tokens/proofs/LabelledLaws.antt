@@ -7,7 +7,8 @@ use mathlib.Core.List.{List, [], _∷_, _++_, append-assoc}
 use mathlib.Core.Option.{some}
 use mathlib.Core.Path.{_≡_, refl, sym, ap, _∙_}
 use lib.ListN.{length, length-append, drop}
-use Rattle.base.specs.Splice.{Cut, cut-length, join}
+use Rattle.base.specs.Splice.{join}
+use Rattle.base.proofs.SpliceLaws.{Cut, cut-length}
 use Rattle.page.specs.Bytes.{pick, bytes, isEmpty}
 use Rattle.page.specs.Read.{Reader}
 use Rattle.page.specs.Text.{readAnyText}

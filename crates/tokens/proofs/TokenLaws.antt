@@ -8,8 +8,8 @@ use mathlib.Core.Path.{_≡_, refl, sym, ap, _∙_}
 use lib.Dec.{T, leb, eqb, eqb→eq, leb→le}
 use lib.ListN.{length, getD, take, drop, length-drop, List·getD-eq-default}
 use lib.Seq.{getD-take, drop-cons, length-take-le}
-use Rattle.base.specs.Splice.{Cut}
-use Rattle.base.specs.Table.{at}
+use Rattle.base.proofs.SpliceLaws.{Cut}
+use Rattle.base.proofs.Table.{at}
 use Rattle.page.specs.Bytes.{equal, bytes}
 use Rattle.page.proofs.NumberLaws.{left-of, right-of}
 use Rattle.records.specs.Code.{tokens, token}

@@ -8,7 +8,7 @@ use lib.ListN.{length, drop, getD}
 use lib.Seq.{drop-cons}
 use lib.Dec.{leb}
 use borrow.Author.Tests.{le-ltb}
-use Rattle.base.specs.Cases.{by-lt}
+use Rattle.base.proofs.Cases.{by-lt}
 use Rattle.page.specs.Limits.{numberLimit}
 use Rattle.page.specs.Read.{FieldFault, badField, Read, refused, got, Reader, andThen, return, ensure, readerAt}
 use Rattle.page.specs.Number.{withGroup, readGroups, readNumber}

@@ -7,7 +7,7 @@ use mathlib.Core.Bool.{false, false≢true}
 use mathlib.Core.List.{List, [], _∷_}
 use mathlib.Core.Option.{Option, none, some}
 use lib.ListN.{length, take, getD, length-take, length-reverse}
-use Rattle.base.specs.Cases.{by-lt}
+use Rattle.base.proofs.Cases.{by-lt}
 use Rattle.records.specs.Literal.{Literal}
 use Rattle.records.specs.Record.{Record}
 use Rattle.ast.specs.Expr.{scalarValue}

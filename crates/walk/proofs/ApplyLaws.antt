@@ -6,7 +6,7 @@ use mathlib.Core.List.{List, [], _∷_, map}
 use native.Mathlib.Omega.{arith}
 use lib.Dec.{leb}
 use lib.ListN.{length, drop}
-use Rattle.base.specs.Cases.{by-lt}
+use Rattle.base.proofs.Cases.{by-lt}
 use Rattle.page.specs.Bytes.{pick}
 use Rattle.records.specs.Stack.{operandsOf}
 use Rattle.records.specs.Record.{Record, leaf, wrapper, binary, aggregate, call, operands}

@@ -5,7 +5,7 @@ use mathlib.Core.List.{List, _∷_}
 use native.Mathlib.Omega.{arith}
 use lib.ListN.{length, getD, set, drop, length-set}
 use lib.Seq.{getD-set-same, getD-set-other}
-use Rattle.base.specs.Cases.{by-eq}
+use Rattle.base.proofs.Cases.{by-eq}
 use Rattle.page.specs.Read.{got}
 use Rattle.records.specs.Record.{Record, operands, readRecord}
 use Rattle.ast.specs.Refusal.{ok}

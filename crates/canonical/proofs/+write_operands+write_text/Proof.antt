@@ -7,7 +7,7 @@ use Rattle.text.proofs.LengthLaws.{last-operand, fewer-operands}
 use Rattle.text.specs.Display.{display}
 use Rattle.view.proofs.NodeLaws.{minus-numberless}
 use Rattle.text.proofs.OperandLaws.{fewer}
-use Rattle.base.specs.Splice.{fits, next, end}
+use Rattle.base.proofs.SpliceLaws.{fits, next, end}
 use Rattle.view.specs.View.{layoutAt}
 use Rattle.text.specs.Layout.{between}
 use lib.ListN.{length}

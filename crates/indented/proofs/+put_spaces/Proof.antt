@@ -3,7 +3,7 @@ use Rattle.indented.proofs.IndentLaws.{indent-none, indent-more}
 use Rattle.text.proofs.WriteLaws.{wrote-nothing, run-two}
 use Rattle.text.specs.Pretty.{indent}
 use Rattle.page.specs.Bytes.{bytes}
-use Rattle.base.specs.Splice.{fits, next, end}
+use Rattle.base.proofs.SpliceLaws.{fits, next, end}
 use Prim.Native.Nat.{_-_}
 use mathlib.Core.Path.{_∙_}
 use native.Mathlib.Omega.{arith}

@@ -4,7 +4,7 @@ use Rattle.view.proofs.NodeLaws.{layout-shaped}
 use Rattle.view.specs.View.{layoutAt}
 use Rattle.text.proofs.WriteLaws.{wrote-nothing, wrote-as, room-as}
 use Rattle.text.specs.Layout.{operator, betweenAt}
-use Rattle.base.specs.Splice.{fits, next, end}
+use Rattle.base.proofs.SpliceLaws.{fits, next, end}
 use mathlib.Core.Path.{sym, ap, _∙_}
 use borrow.Author.Needs.{needs}
 use Rattle.indented.proofs.put_between_at.Statement.{statement}

@@ -4,7 +4,7 @@ use Rattle.view.specs.View.{layoutAt}
 use Rattle.text.proofs.WriteLaws.{wrote-nothing, wrote-as, room-as, run-two}
 use Rattle.text.specs.Layout.{Layout, head, indentIf, frontAt}
 use Rattle.page.specs.Bytes.{bytes}
-use Rattle.base.specs.Splice.{fits, next, end}
+use Rattle.base.proofs.SpliceLaws.{fits, next, end}
 use mathlib.Core.List.{_++_}
 use mathlib.Core.Path.{sym, ap, _∙_}
 use borrow.Author.Needs.{needs}

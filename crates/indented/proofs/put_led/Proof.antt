@@ -2,7 +2,7 @@
 use Rattle.view.specs.View.{layoutAt}
 use Rattle.text.proofs.WriteLaws.{run-two}
 use Rattle.text.specs.Layout.{head, indentIf}
-use Rattle.base.specs.Splice.{fits, next, end}
+use Rattle.base.proofs.SpliceLaws.{fits, next, end}
 use mathlib.Core.Path.{refl, _∙_}
 use Rattle.indented.proofs.put_led.Statement.{statement}
 use Rattle.indented.proofs.put_led.Tie as tie

@@ -3,7 +3,7 @@ use Rattle.indented.proofs.IndentLaws.{run-closed}
 use Rattle.view.proofs.NodeLaws.{layout-shaped}
 use Rattle.text.proofs.WriteLaws.{wrote-nothing, wrote-as, room-as}
 use Rattle.text.specs.Layout.{rearAt}
-use Rattle.base.specs.Splice.{fits, next, end}
+use Rattle.base.proofs.SpliceLaws.{fits, next, end}
 use mathlib.Core.Path.{sym, ap, _∙_}
 use borrow.Author.Needs.{needs}
 use Rattle.indented.proofs.put_rear_at.Statement.{statement}

@@ -5,7 +5,7 @@ use Rattle.text.specs.Layout.{displayRange}
 use Rattle.text.specs.Display.{displaySelector, displayTimes}
 use Rattle.reader.specs.Answers.{selectorOn}
 use Rattle.records.specs.Answers.{optionalDurationOf}
-use Rattle.base.specs.Splice.{fits, next, end}
+use Rattle.base.proofs.SpliceLaws.{fits, next, end}
 use mathlib.Core.Path.{refl}
 use borrow.Author.Needs.{needs}
 use Rattle.pieces.proofs.put_selector.Statement.{statement}

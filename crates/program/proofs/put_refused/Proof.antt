@@ -1,7 +1,7 @@
 -- `program::put_refused` meets its contract: the pieces of its line, one after the other. Assumes nothing.
 use denote.Ref.{now}
 use mathlib.Core.List.{[], _∷_}
-use Rattle.base.specs.Splice.{Run, start, fits, next, end}
+use Rattle.base.proofs.SpliceLaws.{Run, start, fits, next, end}
 use Rattle.page.specs.Bytes.{bytes}
 use Rattle.leaves.specs.Decimal.{decimal}
 use Rattle.outcomes.specs.Output.{refusedLine}

@@ -6,7 +6,7 @@ use native.Mathlib.Omega.{arith}
 use denote.Ref.{now}
 use lib.ListN.{take, drop, getD}
 use borrow.Author.Needs.{needs}
-use Rattle.base.specs.Splice.{Run, start, fits, next, next-as, end}
+use Rattle.base.proofs.SpliceLaws.{Run, start, fits, next, next-as, end}
 use Rattle.copy.specs.RecordCopy.{formAfter, recordCopy}
 use Rattle.copy.proofs.NumberCopyLaws.{number-wide, number-piece}
 use Rattle.copy.proofs.number.put_number.Statement.{statement}

@@ -5,7 +5,7 @@ use native.Mathlib.Omega.{arith}
 use denote.Ref.{now}
 use lib.ListN.{take, drop}
 use borrow.Author.Needs.{needs}
-use Rattle.base.specs.Splice.{Run, start, fits, next, end}
+use Rattle.base.proofs.SpliceLaws.{Run, start, fits, next, end}
 use Rattle.copy.specs.RecordCopy.{setModifier, recordCopy}
 use Rattle.copy.proofs.OperatorLaws.{operator-wide, absent-piece}
 use Rattle.copy.proofs.operator.put_absent.Statement.{statement}

@@ -5,7 +5,7 @@ use mathlib.Core.List.{[], _∷_}
 use denote.Ref.{now}
 use lib.ListN.{take, drop, getD}
 use borrow.Author.Needs.{needs}
-use Rattle.base.specs.Splice.{Run, start, fits, next, next-as, end}
+use Rattle.base.proofs.SpliceLaws.{Run, start, fits, next, next-as, end}
 use Rattle.copy.specs.RecordCopy.{setCardinality, recordCopy}
 use Rattle.copy.proofs.operator.put_present.Statement.{statement}
 use Rattle.copy.proofs.operator.put_present.Tie as tie

@@ -3,7 +3,7 @@
 use Prim.Native.Nat.{_-_}
 use mathlib.Core.Path.{sym}
 use native.Mathlib.Omega.{arith}
-use Rattle.base.specs.Splice.{Writing, begin-as, room, step, finish}
+use Rattle.base.proofs.SpliceLaws.{Writing, begin-as, room, step, finish}
 use Rattle.copy.specs.Starts.{copyFrom}
 use Rattle.copy.specs.Copy.{copyPage}
 use Rattle.copy.proofs.StartsLaws.{copyFrom-start, copyFrom-cut, copyFrom-next, copyFrom-end, starts-few, starts-page}

@@ -4,7 +4,7 @@ use denote.Ref.{now}
 use native.Mathlib.Omega.{arith}
 use mathlib.Core.Path.{ap}
 use lib.ListN.{length}
-use Rattle.base.specs.Splice.{cut-length}
+use Rattle.base.proofs.SpliceLaws.{cut-length}
 use Rattle.heads.proofs.HeadLaws.{operator-plain, operator-modified, operator-exact}
 use Rattle.heads.proofs.head.operator_len.Statement.{statement}
 use Rattle.heads.proofs.head.operator_len.Tie as tie

@@ -2,7 +2,7 @@
 use borrow.Author.Needs.{needs}
 use denote.Ref.{now}
 use mathlib.Core.Path.{refl}
-use Rattle.base.specs.Splice.{begin, first, room, step, finish, cut-last}
+use Rattle.base.proofs.SpliceLaws.{begin, first, room, step, finish, cut-last}
 use Rattle.records.specs.Answers.{labelModifierOn}
 use Rattle.heads.proofs.HeadLaws.{aggregator-cut}
 use Rattle.heads.proofs.head.put_aggregator.Statement.{statement}

@@ -1,6 +1,6 @@
 -- `heads::head::put_bool` meets its contract. Assumes nothing.
 use borrow.Author.Needs.{needs}
-use Rattle.base.specs.Splice.{begin, finish}
+use Rattle.base.proofs.SpliceLaws.{begin, finish}
 use Rattle.heads.proofs.head.put_bool.Statement.{statement}
 use Rattle.heads.proofs.head.put_bool.Tie as tie
 

@@ -1,7 +1,7 @@
 -- `heads::head::put_modifier` meets its contract: the pieces of its text, one after the other. Assumes nothing.
 use borrow.Author.Needs.{needs}
 use denote.Ref.{now}
-use Rattle.base.specs.Splice.{start, fits, next, end}
+use Rattle.base.proofs.SpliceLaws.{start, fits, next, end}
 use Rattle.records.specs.Answers.{binModifierOn}
 use Rattle.heads.proofs.HeadLaws.{modifier-pieces}
 use Rattle.heads.proofs.head.put_modifier.Statement.{statement}

@@ -2,7 +2,7 @@
 use borrow.Author.Needs.{needs}
 use denote.Ref.{now}
 use mathlib.Core.Path.{refl}
-use Rattle.base.specs.Splice.{begin, first, room, step, finish, cut-last}
+use Rattle.base.proofs.SpliceLaws.{begin, first, room, step, finish, cut-last}
 use Rattle.heads.proofs.HeadLaws.{operator-plain, operator-modified, operator-exact}
 use Rattle.heads.proofs.head.put_operator.Statement.{statement}
 use Rattle.heads.proofs.head.put_operator.Tie as tie

@@ -2,7 +2,7 @@
 use borrow.Author.Needs.{needs}
 use denote.Ref.{now}
 use lib.ListN.{drop}
-use Rattle.base.specs.Splice.{begin, finish, start, fits, next, end}
+use Rattle.base.proofs.SpliceLaws.{begin, finish, start, fits, next, end}
 use Rattle.heads.proofs.HeadLaws.{braces-none, braces-some}
 use Rattle.heads.proofs.selector.put_braces.Statement.{statement}
 use Rattle.heads.proofs.selector.put_braces.Tie as tie

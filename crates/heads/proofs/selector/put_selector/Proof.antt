@@ -4,7 +4,7 @@ use denote.Ref.{now}
 use Prim.Native.Nat.{ℕ}
 use mathlib.Core.Path.{refl}
 use mathlib.Core.List.{List}
-use Rattle.base.specs.Splice.{begin, first, room, step, finish, cut-last}
+use Rattle.base.proofs.SpliceLaws.{begin, first, room, step, finish, cut-last}
 use Rattle.reader.specs.Answers.{selectorOn}
 use Rattle.leaves.proofs.PartLaws.{part-fits, part-wrote}
 use Rattle.heads.proofs.HeadLaws.{selector-cut}

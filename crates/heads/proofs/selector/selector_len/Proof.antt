@@ -4,7 +4,7 @@ use denote.Ref.{now}
 use native.Mathlib.Omega.{arith}
 use mathlib.Core.Path.{ap}
 use lib.ListN.{length}
-use Rattle.base.specs.Splice.{cut-length}
+use Rattle.base.proofs.SpliceLaws.{cut-length}
 use Rattle.reader.specs.Answers.{selectorOn}
 use Rattle.heads.proofs.HeadLaws.{selector-cut}
 use Rattle.heads.proofs.selector.selector_len.Statement.{statement}

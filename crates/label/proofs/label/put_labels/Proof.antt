@@ -3,7 +3,7 @@ use borrow.Author.Needs.{needs}
 use denote.Ref.{now}
 use mathlib.Core.Path.{refl}
 use lib.ListN.{drop}
-use Rattle.base.specs.Splice.{begin, first, room, step, finish, cut-last}
+use Rattle.base.proofs.SpliceLaws.{begin, first, room, step, finish, cut-last}
 use Rattle.page.specs.Text.{readAnyText}
 use Rattle.page.proofs.ListLaws.{first-read, others-read}
 use Rattle.leaves.proofs.PartLaws.{part-fits, part-wrote}

@@ -3,7 +3,7 @@
 use borrow.Author.Needs.{needs}
 use denote.Ref.{now}
 use lib.ListN.{drop}
-use Rattle.base.specs.Splice.{Writing, begin, room, step, finish}
+use Rattle.base.proofs.SpliceLaws.{Writing, begin, room, step, finish}
 use Rattle.page.specs.Listed.{listed, AllRead}
 use Rattle.page.specs.Text.{readAnyText}
 use Rattle.page.proofs.ListLaws.{first-read, others-read}

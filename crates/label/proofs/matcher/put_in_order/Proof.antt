@@ -5,7 +5,7 @@ use Prim.Native.Nat.{_-_, _≤_}
 use native.Mathlib.Omega.{arith}
 use mathlib.Core.Path.{refl}
 use lib.ListN.{length, drop}
-use Rattle.base.specs.Splice.{Writing, begin, first, room, step, finish, cut-last}
+use Rattle.base.proofs.SpliceLaws.{Writing, begin, first, room, step, finish, cut-last}
 use Rattle.label.specs.Key.{keyTexts}
 use Rattle.label.specs.Label.{moreByCommas}
 use Rattle.label.proofs.JoinLaws.{joined-first, joined-none, comma-next, text-next, more-end}

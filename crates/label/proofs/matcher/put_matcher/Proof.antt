@@ -1,7 +1,7 @@
 -- `label::matcher::put_matcher` meets its contract: name, operator and value, one after the other. Assumes nothing.
 use borrow.Author.Needs.{needs}
 use denote.Ref.{now}
-use Rattle.base.specs.Splice.{start, fits, next, end}
+use Rattle.base.proofs.SpliceLaws.{start, fits, next, end}
 use Rattle.leaves.proofs.PartLaws.{part-fits, part-wrote}
 use Rattle.leaves.specs.Escape.{quote}
 use Rattle.label.specs.Label.{displayLabel}

@@ -7,7 +7,7 @@ use Prim.Native.Nat.{ℕ, _<_}
 use native.Mathlib.Omega.{arith}
 use mathlib.Core.Path.{refl, ap}
 use lib.ListN.{length}
-use Rattle.base.specs.Splice.{begin, first, room, step, finish, cut-last}
+use Rattle.base.proofs.SpliceLaws.{begin, first, room, step, finish, cut-last}
 use Rattle.page.proofs.write.put_byte.Reads as put-byte-reads
 use Rattle.leaves.proofs.DecimalLaws.{decimal-last, decimal-more}
 use Rattle.leaves.proofs.decimal.put_decimal.Reads as put-decimal

@@ -4,7 +4,8 @@ use denote.Ref.{now}
 use Prim.Native.Nat.{_+_, _/_, _%_}
 use mathlib.Core.List.{[], _∷_}
 use mathlib.Core.Path.{refl}
-use Rattle.base.specs.Splice.{join, Run, start, fits, next, end}
+use Rattle.base.specs.Splice.{join}
+use Rattle.base.proofs.SpliceLaws.{Run, start, fits, next, end}
 use Rattle.leaves.specs.Decimal.{threeDigits}
 use Rattle.leaves.proofs.decimal.put_three_digits.Statement.{statement}
 use Rattle.leaves.proofs.decimal.put_three_digits.Tie as tie

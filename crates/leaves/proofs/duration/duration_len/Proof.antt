@@ -4,7 +4,7 @@ use Prim.Native.Nat.{_+_, _-_, _*_, _≤_}
 use native.Mathlib.Omega.{arith}
 use mathlib.Core.Path.{_≡_, sym, ap}
 use lib.ListN.{length, drop}
-use Rattle.base.specs.Splice.{cut-length}
+use Rattle.base.proofs.SpliceLaws.{cut-length}
 use Rattle.leaves.specs.Duration.{units, displayCounts, displayDuration}
 use Rattle.leaves.proofs.DurationLaws.{displayCounts-next, displayCounts-end, durationCounts-seven, displayDuration-zero, displayDuration-counts}
 use Rattle.leaves.proofs.duration.duration_len.Statement.{statement}

@@ -1,7 +1,7 @@
 -- `leaves::duration::put_count` meets its contract. Assumes nothing.
 use borrow.Author.Needs.{needs}
 use mathlib.Core.Path.{refl}
-use Rattle.base.specs.Splice.{begin, first, room, step, finish, cut-last}
+use Rattle.base.proofs.SpliceLaws.{begin, first, room, step, finish, cut-last}
 use Rattle.leaves.proofs.DurationLaws.{displayCount-none, displayCount-some}
 use Rattle.leaves.proofs.duration.put_count.Statement.{statement}
 use Rattle.leaves.proofs.duration.put_count.Tie as tie

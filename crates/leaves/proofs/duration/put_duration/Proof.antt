@@ -4,7 +4,7 @@ use Prim.Native.Nat.{_+_, _-_, _≤_}
 use native.Mathlib.Omega.{arith}
 use mathlib.Core.Path.{ap}
 use lib.ListN.{length, getD, drop}
-use Rattle.base.specs.Splice.{Writing, Cut, begin-as, room, step, finish}
+use Rattle.base.proofs.SpliceLaws.{Writing, Cut, begin-as, room, step, finish}
 use Rattle.leaves.specs.Duration.{units, unitAt, displayCount, displayCounts, displayDuration}
 use Rattle.leaves.proofs.DurationLaws.{displayCounts-next, displayCounts-end, durationCounts-seven, displayDuration-zero, displayDuration-counts}
 use Rattle.leaves.proofs.duration.put_duration.Statement.{statement}

@@ -1,7 +1,7 @@
 -- `leaves::duration::put_unit` meets its contract. Assumes nothing.
 use borrow.Author.Needs.{needs}
 use mathlib.Core.Path.{refl}
-use Rattle.base.specs.Splice.{begin, first, room, step, finish}
+use Rattle.base.proofs.SpliceLaws.{begin, first, room, step, finish}
 use Rattle.leaves.proofs.DurationLaws.{tabled, behindLetter-ms, behindLetter-none}
 use Rattle.leaves.proofs.duration.put_unit.Statement.{statement}
 use Rattle.leaves.proofs.duration.put_unit.Tie as tie

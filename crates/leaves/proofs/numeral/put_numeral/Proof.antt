@@ -1,7 +1,7 @@
 -- `leaves::numeral::put_numeral` meets its contract, form by form. Assumes nothing.
 use borrow.Author.Needs.{needs}
 use mathlib.Core.Path.{refl}
-use Rattle.base.specs.Splice.{begin, first, room, step, finish, cut-last}
+use Rattle.base.proofs.SpliceLaws.{begin, first, room, step, finish, cut-last}
 use Rattle.leaves.proofs.NumeralLaws.{displayNumber-whole, displayNumber-negative, displayNumber-nan, displayNumber-inf, displayNumber-neg-inf}
 use Rattle.leaves.proofs.numeral.put_numeral.Statement.{statement}
 use Rattle.leaves.proofs.numeral.put_numeral.Tie as tie

@@ -2,7 +2,7 @@
 use borrow.Author.Needs.{needs}
 use Prim.Native.Nat.{_-_}
 use lib.ListN.{length, drop}
-use Rattle.base.specs.Splice.{Writing, begin, room, step, finish}
+use Rattle.base.proofs.SpliceLaws.{Writing, begin, room, step, finish}
 use Rattle.leaves.specs.Escape.{escape}
 use Rattle.leaves.proofs.EscapeLaws.{escape-next, escape-end}
 use Rattle.leaves.proofs.string.put_escaped.Statement.{statement}

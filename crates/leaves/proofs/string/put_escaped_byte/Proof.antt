@@ -3,7 +3,7 @@ use borrow.Author.Needs.{needs}
 use native.Mathlib.Omega.{arith}
 use mathlib.Core.Path.{refl, ap}
 use lib.ListN.{length}
-use Rattle.base.specs.Splice.{begin, first, room, step, finish, cut-last}
+use Rattle.base.proofs.SpliceLaws.{begin, first, room, step, finish, cut-last}
 use Rattle.leaves.proofs.EscapeLaws.{escapeByte-stands, escapeByte-letter}
 use Rattle.leaves.proofs.string.put_escaped_byte.Statement.{statement}
 use Rattle.leaves.proofs.string.put_escaped_byte.Tie as tie

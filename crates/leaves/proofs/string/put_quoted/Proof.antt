@@ -3,7 +3,8 @@ use borrow.Author.Needs.{needs}
 use denote.Ref.{now}
 use mathlib.Core.Path.{refl}
 use mathlib.Core.List.{[], _∷_}
-use Rattle.base.specs.Splice.{join, start, fits, next, end, Run}
+use Rattle.base.specs.Splice.{join}
+use Rattle.base.proofs.SpliceLaws.{start, fits, next, end, Run}
 use Rattle.leaves.specs.Escape.{escape, quote}
 use Rattle.leaves.proofs.string.put_quoted.Statement.{statement}
 use Rattle.leaves.proofs.string.put_quoted.Tie as tie

@@ -1,7 +1,7 @@
 -- `leaves::time::put_offset` meets its contract, form by form. Assumes nothing.
 use borrow.Author.Needs.{needs}
 use mathlib.Core.Path.{refl}
-use Rattle.base.specs.Splice.{begin, first, room, step, finish, cut-last}
+use Rattle.base.proofs.SpliceLaws.{begin, first, room, step, finish, cut-last}
 use Rattle.leaves.proofs.TimeLaws.{displayOffset-pos, displayOffset-neg}
 use Rattle.leaves.proofs.time.put_offset.Statement.{statement}
 use Rattle.leaves.proofs.time.put_offset.Tie as tie

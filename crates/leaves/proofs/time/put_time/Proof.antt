@@ -4,7 +4,7 @@ use denote.Ref.{now}
 use Prim.Native.Nat.{_/_, _%_}
 use native.Mathlib.Omega.{arith}
 use mathlib.Core.List.{[], _∷_}
-use Rattle.base.specs.Splice.{start, fits, next, end, Run}
+use Rattle.base.proofs.SpliceLaws.{start, fits, next, end, Run}
 use Rattle.leaves.specs.Time.{displayTime}
 use Rattle.leaves.specs.Decimal.{decimal, threeDigits}
 use Rattle.leaves.proofs.TimeLaws.{displayTime-pieces}

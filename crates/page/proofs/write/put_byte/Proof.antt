@@ -1,7 +1,7 @@
 -- `page::write::put_byte` meets its contract. Assumes nothing.
 use borrow.Author.Needs.{needs}
 use native.Mathlib.Omega.{arith}
-use Rattle.base.specs.Splice.{wrote-set}
+use Rattle.base.proofs.SpliceLaws.{wrote-set}
 use Rattle.page.proofs.write.put_byte.Statement.{statement}
 use Rattle.page.proofs.write.put_byte.Tie as tie
 

@@ -2,7 +2,7 @@
 use borrow.Author.Needs.{needs}
 use Prim.Native.Nat.{_-_}
 use lib.ListN.{length, drop, drop-of-length-le}
-use Rattle.base.specs.Splice.{Writing, begin, room, step, finish, drop-next}
+use Rattle.base.proofs.SpliceLaws.{Writing, begin, room, step, finish, drop-next}
 use Rattle.page.proofs.write.put_bytes.Statement.{statement}
 use Rattle.page.proofs.write.put_bytes.Tie as tie
 

@@ -2,7 +2,7 @@
 use Rattle.text.proofs.WriteLaws.{wrote-nothing, run-three}
 use Rattle.leaves.specs.Duration.{displayDuration}
 use Rattle.page.specs.Bytes.{bytes}
-use Rattle.base.specs.Splice.{fits, next, end}
+use Rattle.base.proofs.SpliceLaws.{fits, next, end}
 use mathlib.Core.List.{append-assoc}
 use mathlib.Core.Path.{refl}
 use borrow.Author.Needs.{needs}

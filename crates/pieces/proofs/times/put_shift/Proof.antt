@@ -3,7 +3,7 @@ use Rattle.text.proofs.WriteLaws.{wrote-nothing, run-two}
 use Rattle.leaves.specs.Time.{displayOffset}
 use Rattle.records.specs.Answers.{offsetOf}
 use Rattle.page.specs.Bytes.{bytes}
-use Rattle.base.specs.Splice.{fits, next, end}
+use Rattle.base.proofs.SpliceLaws.{fits, next, end}
 use mathlib.Core.Path.{refl}
 use borrow.Author.Needs.{needs}
 use Rattle.pieces.proofs.times.put_shift.Statement.{statement}

@@ -4,7 +4,7 @@ use Rattle.text.specs.Answers.{timesOf}
 use Rattle.text.specs.Display.{optional, displayTimes}
 use Rattle.leaves.specs.Duration.{displayDuration}
 use Rattle.records.specs.Answers.{optionalDurationOf}
-use Rattle.base.specs.Splice.{fits, next, end}
+use Rattle.base.proofs.SpliceLaws.{fits, next, end}
 use borrow.Author.Needs.{needs}
 use Rattle.pieces.proofs.times.put_subquery.Statement.{statement}
 use Rattle.pieces.proofs.times.put_subquery.Tie as tie

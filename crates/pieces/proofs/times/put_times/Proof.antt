@@ -3,7 +3,7 @@ use Rattle.pieces.specs.Times.{spacedAt, spacedOffset}
 use Rattle.text.proofs.WriteLaws.{run-two}
 use Rattle.text.specs.Answers.{atOf, shiftOf}
 use Rattle.text.specs.Display.{optional}
-use Rattle.base.specs.Splice.{fits, next, end}
+use Rattle.base.proofs.SpliceLaws.{fits, next, end}
 use mathlib.Core.Path.{refl}
 use borrow.Author.Needs.{needs}
 use Rattle.pieces.proofs.times.put_times.Statement.{statement}

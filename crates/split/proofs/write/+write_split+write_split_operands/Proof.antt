@@ -8,7 +8,7 @@ use Rattle.text.proofs.WriteLaws.{wrote-nothing, wrote-as, text-none, text-one,
 use Rattle.text.proofs.LengthLaws.{last-operand, fewer-operands}
 use Rattle.text.proofs.OperandLaws.{fewer}
 use Rattle.text.specs.Layout.{betweenAt, innerIndents, innerLevel, prettyIndented}
-use Rattle.base.specs.Splice.{fits, next, end}
+use Rattle.base.proofs.SpliceLaws.{fits, next, end}
 use lib.ListN.{length}
 use Prim.Native.Nat.{_+_, _-_}
 use mathlib.Core.Bool.{true}

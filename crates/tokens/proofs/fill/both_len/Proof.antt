@@ -3,7 +3,7 @@ use borrow.Author.Needs.{needs}
 use native.Mathlib.Omega.{arith}
 use mathlib.Core.Path.{ap}
 use lib.ListN.{length}
-use Rattle.base.specs.Splice.{cut-length}
+use Rattle.base.proofs.SpliceLaws.{cut-length}
 use Rattle.records.specs.Answers.{literalOf}
 use Rattle.tokens.proofs.FillLaws.{length-filledBytes, fillWord, leftWord, rightWord, both-one, both-each}
 use Rattle.tokens.proofs.fill.both_len.Statement.{statement}

@@ -1,7 +1,7 @@
 -- `tokens::fill::put_both` meets its contract: one fill, or each. Assumes nothing.
 use borrow.Author.Needs.{needs}
 use mathlib.Core.Path.{refl}
-use Rattle.base.specs.Splice.{begin, first, room, step, finish, cut-last}
+use Rattle.base.proofs.SpliceLaws.{begin, first, room, step, finish, cut-last}
 use Rattle.tokens.proofs.FillLaws.{both-one, both-each}
 use Rattle.tokens.proofs.fill.put_both.Statement.{statement}
 use Rattle.tokens.proofs.fill.put_both.Tie as tie

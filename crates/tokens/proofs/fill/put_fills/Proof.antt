@@ -1,6 +1,6 @@
 -- `tokens::fill::put_fills` meets its contract: the marks of the values say which fills are there. Assumes nothing.
 use borrow.Author.Needs.{needs}
-use Rattle.base.specs.Splice.{begin, finish}
+use Rattle.base.proofs.SpliceLaws.{begin, finish}
 use Rattle.records.specs.Answers.{fillOf}
 use Rattle.tokens.proofs.FillLaws.{fills-none, fills-right, fills-left, fills-both}
 use Rattle.tokens.proofs.fill.put_fills.Statement.{statement}

@@ -3,7 +3,8 @@ use borrow.Author.Needs.{needs}
 use denote.Ref.{now}
 use mathlib.Core.Path.{refl}
 use mathlib.Core.List.{[], _∷_}
-use Rattle.base.specs.Splice.{join, start, fits, next, end, Run}
+use Rattle.base.specs.Splice.{join}
+use Rattle.base.proofs.SpliceLaws.{start, fits, next, end, Run}
 use Rattle.records.specs.Answers.{labelsOn}
 use Rattle.label.specs.Label.{displayLabels}
 use Rattle.tokens.specs.Labelled.{labelledBytes}

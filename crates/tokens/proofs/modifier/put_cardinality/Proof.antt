@@ -1,6 +1,6 @@
 -- `tokens::modifier::put_cardinality` meets its contract, form by form. Assumes nothing.
 use borrow.Author.Needs.{needs}
-use Rattle.base.specs.Splice.{begin, finish}
+use Rattle.base.proofs.SpliceLaws.{begin, finish}
 use Rattle.tokens.proofs.LabelledLaws.{cardinality-one, cardinality-many, cardinality-left, cardinality-right}
 use Rattle.tokens.proofs.modifier.put_cardinality.Statement.{statement}
 use Rattle.tokens.proofs.modifier.put_cardinality.Tie as tie

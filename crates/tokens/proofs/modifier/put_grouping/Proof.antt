@@ -1,7 +1,7 @@
 -- `tokens::modifier::put_grouping` meets its contract, form by form. Assumes nothing.
 use borrow.Author.Needs.{needs}
 use mathlib.Core.Path.{refl}
-use Rattle.base.specs.Splice.{begin, first, room, step, finish, cut-last}
+use Rattle.base.proofs.SpliceLaws.{begin, first, room, step, finish, cut-last}
 use Rattle.tokens.proofs.LabelledLaws.{grouping-none, grouping-without, grouping-vanishes, grouping-by}
 use Rattle.tokens.proofs.modifier.put_grouping.Statement.{statement}
 use Rattle.tokens.proofs.modifier.put_grouping.Tie as tie

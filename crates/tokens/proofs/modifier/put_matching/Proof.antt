@@ -1,6 +1,6 @@
 -- `tokens::modifier::put_matching` meets its contract, form by form. Assumes nothing.
 use borrow.Author.Needs.{needs}
-use Rattle.base.specs.Splice.{begin, finish}
+use Rattle.base.proofs.SpliceLaws.{begin, finish}
 use Rattle.tokens.proofs.LabelledLaws.{matching-none, matching-on, matching-vanishes, matching-ignoring}
 use Rattle.tokens.proofs.modifier.put_matching.Statement.{statement}
 use Rattle.tokens.proofs.modifier.put_matching.Tie as tie

@@ -3,7 +3,7 @@
 use borrow.Author.Needs.{needs}
 use Prim.Native.Nat.{_-_}
 use native.Mathlib.Omega.{arith}
-use Rattle.base.specs.Splice.{Writing, begin-as, room, step, finish}
+use Rattle.base.proofs.SpliceLaws.{Writing, begin-as, room, step, finish}
 use Rattle.records.specs.Code.{token}
 use Rattle.tokens.proofs.TokenLaws.{placed, lettersTo, token-starts, token-letter, token-ends}
 use Rattle.tokens.proofs.token.put_token.Statement.{statement}
