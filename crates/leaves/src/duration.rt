@@ -42,7 +42,7 @@ pub fn breakdown(ms: u64) -> [u64; 7]
 }
 
 // The letters that units begin with; the last unit, `ms`, has an `s` after it.
-const LETTERS: [u8; 7] = [b'y', b'w', b'd', b'h', b'm', b's', b'm'];
+const LETTERS: [u8; 7] = *b"ywdhmsm";
 
 fn put_unit(unit: usize, out: &mut [u8], at: usize) -> usize
     requires { ⌜ (unit < 7) × (at + length (unitName unit) ≤ length (now out)) ⌝ }
