@@ -28,7 +28,7 @@ fn told() -> Vec<Row> {
     DOCUMENT.lines().filter_map(row).collect()
 }
 
-/// The rows of the definitions' table: `row 6 1 (text ++ (0x07 ∷ []))`.
+/// The rows of the definitions' table: `row 6 1 (text ++ hex "07")`.
 fn defined() -> Vec<Row> {
     let row = |line: &str| {
         let words = line.trim().trim_start_matches("∷ ").strip_prefix("row ")?;
@@ -43,32 +43,28 @@ fn defined() -> Vec<Row> {
     DEFINITIONS.lines().filter_map(row).collect()
 }
 
-/// A list of bytes as the definitions have it: bytes, names of lists and repeated bytes, joined.
+/// A list of bytes as the definitions have it: bytes in hexadecimal, names of lists and a repeated byte, joined.
 fn list(words: &str) -> Vec<u8> {
-    let words = words.replace(['(', ')', '∷'], " ").replace("++", " ");
-    let mut words = words.split_whitespace();
-    let mut bytes = Vec::new();
-    while let Some(word) = words.next() {
-        match word {
-            "[]" => {}
-            "replicate" => {
-                let times = words.next().and_then(|times| times.parse().ok());
-                let byte = byte(words.next().expect("the byte to repeat"));
-                bytes.extend(vec![byte; times.expect("how often")]);
-            }
-            _ if word.starts_with("0x") => bytes.push(byte(word)),
-            name => bytes.extend(named(name)),
+    let part = |part: &str| {
+        let part = part.trim_matches([' ', '(', ')']);
+        match part.split_once(' ') {
+            Some(("hex", digits)) => hex::bytes(digits.trim_matches('"')),
+            Some(("replicate", words)) => repeated(words),
+            _ if part == "[]" => Vec::new(),
+            _ => named(part),
         }
-    }
-    bytes
+    };
+    words.split("++").flat_map(part).collect()
 }
 
-fn byte(word: &str) -> u8 {
-    let digits = word.strip_prefix("0x").expect("hexadecimal digits");
-    u8::from_str_radix(digits, 16).expect("hexadecimal digits")
+/// A byte that is repeated: `256 0x08`.
+fn repeated(words: &str) -> Vec<u8> {
+    let (times, byte) = words.split_once(" 0x").expect("how often, and the byte");
+    let byte = u8::from_str_radix(byte, 16).expect("hexadecimal digits");
+    vec![byte; times.parse().expect("how often")]
 }
 
-/// A list that the definitions give a name: `up = 0x02 ∷ ..`.
+/// A list that the definitions give a name: `up = hex ".."`.
 fn named(name: &str) -> Vec<u8> {
     let begins = format!("{name} = ");
     let line = DEFINITIONS

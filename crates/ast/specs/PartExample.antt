@@ -1,8 +1,9 @@
 -- The label of 19 on one computed page: that of the group list, where the on list has the same labels in another order.
 use Prim.Native.Nat.{ℕ}
 use mathlib.Core.Bool.{Bool, false, _&&_}
-use mathlib.Core.List.{List, [], _∷_}
+use mathlib.Core.List.{List}
 use lib.Dec.{T, eqb}
+use Rattle.page.specs.Bytes.{hex}
 use Rattle.records.specs.Record.{readRecord, readPage}
 use Rattle.records.specs.Outcome.{Outcome, answer, refusal}
 use Rattle.ast.specs.CheckAst.{checkAst}
@@ -11,10 +12,7 @@ use Rattle.ast.specs.Part.{Part, labelPart}
 
 -- `up + on (x, y) group_left (y, x) up`: y stands at 19 in the on list and at 23 in the group list
 abbrev pub jointPage : List ℕ
-jointPage =
-    0x02 ∷ 0x02 ∷ 0x75 ∷ 0x70 ∷ 0x00 ∷ 0x02 ∷ 0x02 ∷ 0x75 ∷ 0x70 ∷ 0x00
-    ∷ 0x09 ∷ 0x01 ∷ 0x01 ∷ 0x00 ∷ 0x01 ∷ 0x02 ∷ 0x01 ∷ 0x78 ∷ 0x01 ∷ 0x79
-    ∷ 0x01 ∷ 0x02 ∷ 0x01 ∷ 0x79 ∷ 0x01 ∷ 0x78 ∷ 0x00 ∷ 0x00 ∷ []
+jointPage = hex "0202757000 0202757000 090101000102017801790102017901780000"
 
 abbrev isJoint : ℕ → Outcome → Bool
 isJoint i (answer k n) = false

@@ -5,7 +5,7 @@ use mathlib.Core.Bool.{Bool, false, _&&_, _||_}
 use mathlib.Core.List.{List, [], _∷_, _++_}
 use lib.ListN.{replicate}
 use lib.Dec.{T, eqb}
-use Rattle.page.specs.Bytes.{all, any}
+use Rattle.page.specs.Bytes.{hex, all, any}
 use Rattle.records.specs.Record.{readRecord, readPage}
 use Rattle.records.specs.Outcome.{Outcome, answer, refusal}
 use Rattle.ast.specs.CheckAst.{checkAst}
@@ -23,86 +23,86 @@ row n i p = record { number = n; index = i; page = p }
 
 -- `up`, `1`, `"a"` and `offset 1m`
 abbrev up : List ℕ
-up = 0x02 ∷ 0x02 ∷ 0x75 ∷ 0x70 ∷ 0x00 ∷ []
+up = hex "0202757000"
 
 abbrev one : List ℕ
-one = 0x00 ∷ 0x00 ∷ 0x01 ∷ []
+one = hex "000001"
 
 abbrev text : List ℕ
-text = 0x01 ∷ 0x01 ∷ 0x61 ∷ []
+text = hex "010161"
 
 abbrev offsetMinute : List ℕ
-offsetMinute = 0x06 ∷ 0x00 ∷ 0xe0 ∷ 0xd4 ∷ 0x03 ∷ []
+offsetMinute = hex "0600e0d403"
 
 abbrev refusalTable : List Example
 refusalTable =
     -- 1: record cut short, bad number or code: byte 99 alone (page/specs/Read, `badField`)
-    row 1 0 (0x63 ∷ [])
+    row 1 0 (hex "63")
     -- 2: operands missing, or not one expression at the end: the empty page (`apply`; `atEnd`)
     ∷ row 2 0 ([])
     -- 3: a limit passed: 257 records (page/specs/Read, `pastLimit`)
     ∷ row 3 256 (up ++ replicate 256 0x08)
     -- 4: text not allowed: the metric name `9a` (page/specs/Read, `badText`)
-    ∷ row 4 0 (0x02 ∷ 0x02 ∷ 0x39 ∷ 0x61 ∷ 0x00 ∷ [])
+    ∷ row 4 0 (hex "0202396100")
     -- 5: output too short; tested last: `up`, 1 byte lent (outcomes/specs/Calls, `tooShort`)
     -- 6: unary on a string literal or range selector: `-"a"` (`newUnary`)
-    ∷ row 6 1 (text ++ (0x07 ∷ []))
+    ∷ row 6 1 (text ++ hex "07")
     -- 7: range after offset: `up offset 1m` then range (`rangeAfter`)
-    ∷ row 7 2 (up ++ offsetMinute ++ (0x03 ∷ 0x01 ∷ []))
+    ∷ row 7 2 (up ++ offsetMinute ++ hex "0301")
     -- 8: range after @: `up @ end()` then range (`rangeAfter`)
-    ∷ row 8 2 (up ++ (0x05 ∷ 0x01 ∷ 0x03 ∷ 0x01 ∷ []))
+    ∷ row 8 2 (up ++ hex "0501 0301")
     -- 9: range on anything but a selector: `1` then range (`newMatrixSelector`)
-    ∷ row 9 1 (one ++ (0x03 ∷ 0x01 ∷ []))
+    ∷ row 9 1 (one ++ hex "0301")
     -- 10: @ set already: `up @ end()` then @ (`setAt`)
-    ∷ row 10 2 (up ++ (0x05 ∷ 0x01 ∷ 0x05 ∷ 0x01 ∷ []))
+    ∷ row 10 2 (up ++ hex "0501 0501")
     -- 11: @ on no selector, range or subquery: `1` then @ (`atWith`)
-    ∷ row 11 1 (one ++ (0x05 ∷ 0x01 ∷ []))
+    ∷ row 11 1 (one ++ hex "0501")
     -- 12: offset set already: `up offset 1m` then offset (`setOffset`)
     ∷ row 12 2 (up ++ offsetMinute ++ offsetMinute)
     -- 13: offset on none of these: `1` then offset (`offsetWith`)
     ∷ row 13 1 (one ++ offsetMinute)
     -- 14: aggregate of 0 arguments: `sum()` (`newAggregateOf`)
-    ∷ row 14 0 (0x0a ∷ 0x1b ∷ 0x00 ∷ 0x00 ∷ [])
+    ∷ row 14 0 (hex "0a1b0000")
     -- 15: other count than 1, or 2 with a parameter: `topk(up)` (`newAggregateOf`)
-    ∷ row 15 1 (up ++ (0x0a ∷ 0x1c ∷ 0x00 ∷ 0x01 ∷ []))
+    ∷ row 15 1 (up ++ hex "0a1c0001")
     -- 16: binary code is an aggregator: code 27, two `up` (`binaryRows`)
-    ∷ row 16 2 (up ++ up ++ (0x09 ∷ 0x1b ∷ 0x00 ∷ []))
+    ∷ row 16 2 (up ++ up ++ hex "091b00")
     -- 17: bool without comparison: `up + bool up` (`binaryRows`)
-    ∷ row 17 2 (up ++ up ++ (0x09 ∷ 0x01 ∷ 0x01 ∷ 0x01 ∷ 0x00 ∷ 0x00 ∷ 0x00 ∷ 0x00 ∷ []))
+    ∷ row 17 2 (up ++ up ++ hex "0901010100000000")
     -- 18: two scalars compared without bool: `1 < 2` (`binaryRows`)
-    ∷ row 18 2 (one ++ (0x00 ∷ 0x00 ∷ 0x02 ∷ 0x09 ∷ 0x08 ∷ 0x00 ∷ []))
+    ∷ row 18 2 (one ++ hex "000002 090800")
     -- 19: a label in both on and group: `up + on (x) group_left (x) up` (`binaryRows`)
-    ∷ row 19 2 (up ++ up ++ (0x09 ∷ 0x01 ∷ 0x01 ∷ 0x00 ∷ 0x01 ∷ 0x01 ∷ 0x01 ∷ 0x78 ∷ 0x01 ∷ 0x01 ∷ 0x01 ∷ 0x78 ∷ 0x00 ∷ 0x00 ∷ []))
+    ∷ row 19 2 (up ++ up ++ hex "0901010001010178010101780000")
     -- 20: set operator, a side scalar: `1 and up` (`binaryRows`)
-    ∷ row 20 2 (one ++ up ++ (0x09 ∷ 0x06 ∷ 0x00 ∷ []))
+    ∷ row 20 2 (one ++ up ++ hex "090600")
     -- 21: set operator between vectors, grouped: `up or group_left () up` (`binaryRows`)
-    ∷ row 21 2 (up ++ up ++ (0x09 ∷ 0x07 ∷ 0x01 ∷ 0x00 ∷ 0x00 ∷ 0x01 ∷ 0x00 ∷ 0x00 ∷ 0x00 ∷ []))
+    ∷ row 21 2 (up ++ up ++ hex "090701000001000000")
     -- 22: a side string or matrix: `"a" + 1` (`binaryRows`)
-    ∷ row 22 2 (text ++ one ++ (0x09 ∷ 0x01 ∷ 0x00 ∷ []))
+    ∷ row 22 2 (text ++ one ++ hex "090100")
     -- 23: matching labels not empty, a side no vector: `1 + on (x) up` (`binaryRows`)
-    ∷ row 23 2 (one ++ up ++ (0x09 ∷ 0x01 ∷ 0x01 ∷ 0x00 ∷ 0x01 ∷ 0x01 ∷ 0x01 ∷ 0x78 ∷ 0x00 ∷ 0x00 ∷ 0x00 ∷ []))
+    ∷ row 23 2 (one ++ up ++ hex "0901010001010178000000")
     -- 24: aggregate code is an operator: code 1 over `up` (`aggregateRows`)
-    ∷ row 24 1 (up ++ (0x0a ∷ 0x01 ∷ 0x00 ∷ 0x01 ∷ []))
+    ∷ row 24 1 (up ++ hex "0a010001")
     -- 25: aggregate operand or parameter kind: `sum(1)` (`aggregateRows`)
-    ∷ row 25 1 (one ++ (0x0a ∷ 0x1b ∷ 0x00 ∷ 0x01 ∷ []))
+    ∷ row 25 1 (one ++ hex "0a1b0001")
     -- 26: fixed signature, other count: `ln()` (`arityRows`)
-    ∷ row 26 0 (0x0b ∷ 0x02 ∷ 0x6c ∷ 0x6e ∷ 0x01 ∷ 0x00 ∷ 0x00 ∷ 0x00 ∷ 0x00 ∷ [])
+    ∷ row 26 0 (hex "0b026c6e0100000000")
     -- 27: fewer than declared kinds less one: `round()` (`arityRows`)
-    ∷ row 27 0 (0x0b ∷ 0x05 ∷ 0x72 ∷ 0x6f ∷ 0x75 ∷ 0x6e ∷ 0x64 ∷ 0x02 ∷ 0x00 ∷ 0x01 ∷ 0x02 ∷ 0x01 ∷ 0x00 ∷ 0x00 ∷ [])
+    ∷ row 27 0 (hex "0b05726f756e6402000102010000")
     -- 28: more than that plus the upper extra: `round(up, 1, 1)` (`arityRows`)
-    ∷ row 28 3 (up ++ one ++ one ++ (0x0b ∷ 0x05 ∷ 0x72 ∷ 0x6f ∷ 0x75 ∷ 0x6e ∷ 0x64 ∷ 0x02 ∷ 0x00 ∷ 0x01 ∷ 0x02 ∷ 0x01 ∷ 0x00 ∷ 0x03 ∷ []))
+    ∷ row 28 3 (up ++ one ++ one ++ hex "0b05726f756e6402000102010003")
     -- 29: no declared kinds, yet arguments: unlimited `f(up)` (`argsRows`)
-    ∷ row 29 1 (up ++ (0x0b ∷ 0x01 ∷ 0x66 ∷ 0x00 ∷ 0x01 ∷ 0x00 ∷ 0x01 ∷ []))
+    ∷ row 29 1 (up ++ hex "0b016600010001")
     -- 30: argument kind: `ln(1)` (`argsRows`)
-    ∷ row 30 1 (one ++ (0x0b ∷ 0x02 ∷ 0x6c ∷ 0x6e ∷ 0x01 ∷ 0x00 ∷ 0x00 ∷ 0x00 ∷ 0x01 ∷ []))
+    ∷ row 30 1 (one ++ hex "0b026c6e0100000001")
     -- 31: other unary operand not scalar or vector: `-("a")` (`unaryRows`)
-    ∷ row 31 2 (text ++ (0x08 ∷ 0x07 ∷ []))
+    ∷ row 31 2 (text ++ hex "08 07")
     -- 32: subquery operand not vector: `1[5m:]` (`subqueryRows`)
-    ∷ row 32 1 (one ++ (0x04 ∷ 0xe0 ∷ 0xa7 ∷ 0x12 ∷ 0x00 ∷ []))
+    ∷ row 32 1 (one ++ hex "04e0a71200")
     -- 33: metric name and a `__name__` matcher: `up{__name__="a"}` (`selectorRows`)
-    ∷ row 33 0 (0x02 ∷ 0x02 ∷ 0x75 ∷ 0x70 ∷ 0x01 ∷ 0x00 ∷ 0x08 ∷ 0x5f ∷ 0x5f ∷ 0x6e ∷ 0x61 ∷ 0x6d ∷ 0x65 ∷ 0x5f ∷ 0x5f ∷ 0x01 ∷ 0x61 ∷ [])
+    ∷ row 33 0 (hex "020275700100085f5f6e616d655f5f0161")
     -- 34: no name, and no matcher or only ones that accept empty text: `{a=""}` (`selectorRows`)
-    ∷ row 34 0 (0x02 ∷ 0x00 ∷ 0x01 ∷ 0x00 ∷ 0x01 ∷ 0x61 ∷ 0x00 ∷ [])
+    ∷ row 34 0 (hex "02000100016100")
     ∷ []
 
 abbrev isRefusal : ℕ → ℕ → Outcome → Bool

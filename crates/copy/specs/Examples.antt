@@ -3,7 +3,7 @@
 use Prim.Native.Nat.{ℕ}
 use mathlib.Core.List.{List, [], _∷_, _++_}
 use lib.Dec.{T}
-use Rattle.page.specs.Bytes.{all, equal}
+use Rattle.page.specs.Bytes.{hex, all, equal}
 use Rattle.records.specs.Record.{readRecord, readPage, writeRecord}
 use Rattle.copy.specs.Copy.{copyPage}
 
@@ -15,26 +15,26 @@ abbrev copied : List ℕ → List ℕ → Copied
 copied p c = record { page = p; copy = c }
 
 abbrev up : List ℕ
-up = 0x02 ∷ 0x02 ∷ 0x75 ∷ 0x70 ∷ 0x00 ∷ []
+up = hex "0202757000"
 
 abbrev copies : List Copied
 copies =
     -- `-5`: the negated number in place of number and unary
-    copied (0x00 ∷ 0x00 ∷ 0x05 ∷ 0x07 ∷ []) (0x00 ∷ 0x01 ∷ 0x05 ∷ [])
+    copied (hex "000005 07") (hex "000105")
     -- `--5`: two unary records
-    ∷ copied (0x00 ∷ 0x00 ∷ 0x05 ∷ 0x07 ∷ 0x07 ∷ []) (0x00 ∷ 0x00 ∷ 0x05 ∷ [])
+    ∷ copied (hex "000005 07 07") (hex "000005")
     -- `-NaN`
-    ∷ copied (0x00 ∷ 0x02 ∷ 0x07 ∷ []) (0x00 ∷ 0x02 ∷ [])
+    ∷ copied (hex "0002 07") (hex "0002")
     -- `-(5)`: no unary on the number itself
-    ∷ copied (0x00 ∷ 0x00 ∷ 0x05 ∷ 0x08 ∷ 0x07 ∷ []) (0x00 ∷ 0x00 ∷ 0x05 ∷ 0x08 ∷ 0x07 ∷ [])
+    ∷ copied (hex "000005 08 07") (hex "000005 08 07")
     -- `-up`
-    ∷ copied (up ++ (0x07 ∷ [])) (up ++ (0x07 ∷ []))
+    ∷ copied (up ++ hex "07") (up ++ hex "07")
     -- `up and up`: an absent modifier is written out
-    ∷ copied (up ++ up ++ (0x09 ∷ 0x06 ∷ 0x00 ∷ [])) (up ++ up ++ (0x09 ∷ 0x06 ∷ 0x01 ∷ 0x00 ∷ 0x00 ∷ 0x03 ∷ 0x00 ∷ 0x00 ∷ []))
+    ∷ copied (up ++ up ++ hex "090600") (up ++ up ++ hex "0906010000030000")
     -- `up or on (x) fill_left (5) fill_right (NaN) up`: one-to-one becomes many-to-many, the fills stay
-    ∷ copied (up ++ up ++ (0x09 ∷ 0x07 ∷ 0x01 ∷ 0x00 ∷ 0x01 ∷ 0x01 ∷ 0x01 ∷ 0x78 ∷ 0x00 ∷ 0x01 ∷ 0x00 ∷ 0x05 ∷ 0x01 ∷ 0x02 ∷ [])) (up ++ up ++ (0x09 ∷ 0x07 ∷ 0x01 ∷ 0x00 ∷ 0x01 ∷ 0x01 ∷ 0x01 ∷ 0x78 ∷ 0x03 ∷ 0x01 ∷ 0x00 ∷ 0x05 ∷ 0x01 ∷ 0x02 ∷ []))
+    ∷ copied (up ++ up ++ hex "0907010001010178000100050102") (up ++ up ++ hex "0907010001010178030100050102")
     -- `up + up`, one-to-one: no set operator
-    ∷ copied (up ++ up ++ (0x09 ∷ 0x01 ∷ 0x01 ∷ 0x00 ∷ 0x00 ∷ 0x00 ∷ 0x00 ∷ 0x00 ∷ [])) (up ++ up ++ (0x09 ∷ 0x01 ∷ 0x01 ∷ 0x00 ∷ 0x00 ∷ 0x00 ∷ 0x00 ∷ 0x00 ∷ []))
+    ∷ copied (up ++ up ++ hex "0901010000000000") (up ++ up ++ hex "0901010000000000")
     ∷ []
 
 copiesAreSo : T (all (λ c. equal (copyPage (c .page)) (c .copy)) copies)

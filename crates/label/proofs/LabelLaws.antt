@@ -5,6 +5,7 @@ use mathlib.Core.Bool.{Bool, true, false}
 use mathlib.Core.List.{List, [], _∷_, _++_}
 use mathlib.Core.Path.{_≡_, refl, ap, _∙_}
 use lib.ListN.{length, length-append}
+use Rattle.page.specs.Bytes.{bytes}
 use Rattle.base.proofs.SpliceLaws.{Cut, cut-length}
 use Rattle.page.specs.Read.{got}
 use Rattle.page.specs.Text.{Text, isLabel, readAnyText}
@@ -36,7 +37,7 @@ module _ (n : ℕ) (s : List ℕ) where
   labelThen t rest = displayLabel t ++ displayMoreLabels (listed readAnyText (n - 1) rest)
 
   module _ {t : Text} {rest : List ℕ} (some· : 0 < n) (is : got t rest ≡ readAnyText s) where
-    pub displayMoreLabels-separator : Cut (displayMoreLabels (listed readAnyText n s)) (44 ∷ 32 ∷ []) (labelThen t rest)
+    pub displayMoreLabels-separator : Cut (displayMoreLabels (listed readAnyText n s)) (bytes ", ") (labelThen t rest)
     unfolding displayMoreLabels labelThen
     displayMoreLabels-separator = record { is = rw (listed-more readAnyText n s some· is) }
 

@@ -9,7 +9,7 @@ use borrow.Author.Tests.{ne-eqb}
 use lib.ListN.{List·getD-append, length, getD, length-append, length-map}
 use lib.Seq.{getD-append-add}
 use Rattle.base.proofs.Cases.{by-flag, by-eq}
-use Rattle.page.specs.Bytes.{pick, all}
+use Rattle.page.specs.Bytes.{bytes, pick, all}
 use Rattle.page.specs.Text.{isAlpha, isAlphaNumeric, isLabel}
 use Rattle.leaves.specs.Escape.{escapeByte, escape}
 use Rattle.label.specs.Label.{displayLabel, atMost}
@@ -187,9 +187,9 @@ op-symbol op j o b r eo h e is = is ∙ ap symbol e ∙ sym (bare-at (operatorTo
 -- the words as lists of bytes
 pub record Words (op : ℕ) : Type 0 where
   pub equal : op ≡ 0 → operatorToken op ≡ 61 ∷ []
-  pub notEqual : op ≡ 1 → operatorToken op ≡ 33 ∷ 61 ∷ []
-  pub re : op ≡ 2 → operatorToken op ≡ 61 ∷ 126 ∷ []
-  pub notRe : op ≡ 3 → operatorToken op ≡ 33 ∷ 126 ∷ []
+  pub notEqual : op ≡ 1 → operatorToken op ≡ bytes "!="
+  pub re : op ≡ 2 → operatorToken op ≡ bytes "=~"
+  pub notRe : op ≡ 3 → operatorToken op ≡ bytes "!~"
 
 pub tokens : (op : ℕ) → Words op
 unfolding operatorToken

@@ -12,7 +12,7 @@ use lib.ListN.{length, getD, take, drop, set, length-append, drop-of-length-le}
 use lib.Seq.{drop-cons, append-snoc, take-suc-set, take-all}
 use Rattle.base.proofs.Cases.{by-flag}
 use Rattle.base.proofs.SpliceLaws.{Cut}
-use Rattle.page.specs.Bytes.{pick}
+use Rattle.page.specs.Bytes.{bytes, pick}
 use Rattle.leaves.specs.Decimal.{decimal}
 use Rattle.leaves.specs.Duration.{timeUnit, units, unitAt, unitName, countOf, countsOf, durationCounts, displayCount, displayCounts, displayDuration}
 use Rattle.leaves.proofs.DecimalLaws.{decimal-short-64}
@@ -23,7 +23,7 @@ abbrev pub lengths : List ℕ
 lengths = 31536000000 ∷ 604800000 ∷ 86400000 ∷ 3600000 ∷ 60000 ∷ 1000 ∷ 1 ∷ []
 
 abbrev pub letters : List ℕ
-letters = 121 ∷ 119 ∷ 100 ∷ 104 ∷ 109 ∷ 115 ∷ 109 ∷ []
+letters = bytes "ywdhmsm"
 
 -- what stands after the first letter: an `s` in `ms`
 unfoldable pub behindLetter : ℕ → List ℕ
@@ -133,7 +133,7 @@ displayCounts-end ns i h = rw (drop-of-length-le units h)
 
 -- ## displayDuration
 
-pub displayDuration-zero : (ms : ℕ) → ms ≡ 0 → displayDuration ms ≡ 48 ∷ 115 ∷ []
+pub displayDuration-zero : (ms : ℕ) → ms ≡ 0 → displayDuration ms ≡ bytes "0s"
 unfolding displayDuration
 displayDuration-zero ms e = rw e
 

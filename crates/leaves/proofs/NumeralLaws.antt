@@ -25,7 +25,7 @@ module _ (infinity : String) (l : Literal) where
   unfolding displayNumber
   displayNumber-negative n e = record { is = rw e }
 
-  pub displayNumber-nan : l ≡ Nan → displayNumber infinity (literalOf l) ≡ 78 ∷ 97 ∷ 78 ∷ []
+  pub displayNumber-nan : l ≡ Nan → displayNumber infinity (literalOf l) ≡ bytes "NaN"
   unfolding displayNumber
   displayNumber-nan e = rw e
 

@@ -4,6 +4,7 @@ use native.Mathlib.Omega.{arith}
 use mathlib.Core.List.{List, [], _∷_, append-assoc}
 use mathlib.Core.Path.{_≡_, ap, _∙_}
 use lib.ListN.{length, length-append}
+use Rattle.page.specs.Bytes.{bytes}
 use Rattle.base.specs.Splice.{join}
 use Rattle.base.proofs.SpliceLaws.{Cut}
 use Rattle.records.specs.Answers.{atModifierOf, offsetOf}
@@ -18,9 +19,9 @@ use Rattle.leaves.proofs.DecimalLaws.{decimal-last}
 
 -- ## displayTime
 
-pub displayTime-pieces : (ms : ℕ) → displayTime ms ≡ join ((64 ∷ 32 ∷ []) ∷ decimal (ms / 1000) ∷ (46 ∷ []) ∷ threeDigits (ms % 1000) ∷ [])
+pub displayTime-pieces : (ms : ℕ) → displayTime ms ≡ join (bytes "@ " ∷ decimal (ms / 1000) ∷ bytes "." ∷ threeDigits (ms % 1000) ∷ [])
 unfolding displayTime threeDigits join
-displayTime-pieces ms = ap (λ (l : List ℕ). 64 ∷ 32 ∷ l) (append-assoc (decimal (ms / 1000)) (46 ∷ []) (threeDigits (ms % 1000)))
+displayTime-pieces ms = ap (λ (l : List ℕ). 64 ∷ 32 ∷ l) (append-assoc (decimal (ms / 1000)) (bytes ".") (threeDigits (ms % 1000)))
 
 pub length-displayTime : (ms : ℕ) → length (displayTime ms) ≡ length (decimal (ms / 1000)) + 6
 unfolding join threeDigits
@@ -30,11 +31,11 @@ length-displayTime ms =
 -- ## displayAt
 
 module _ (m : AtModifier) where
-  pub displayAt-start : m ≡ Start → displayAt (atModifierOf m) ≡ 64 ∷ 32 ∷ 115 ∷ 116 ∷ 97 ∷ 114 ∷ 116 ∷ 40 ∷ 41 ∷ []
+  pub displayAt-start : m ≡ Start → displayAt (atModifierOf m) ≡ bytes "@ start()"
   unfolding displayAt
   displayAt-start e = rw e
 
-  pub displayAt-end : m ≡ End → displayAt (atModifierOf m) ≡ 64 ∷ 32 ∷ 101 ∷ 110 ∷ 100 ∷ 40 ∷ 41 ∷ []
+  pub displayAt-end : m ≡ End → displayAt (atModifierOf m) ≡ bytes "@ end()"
   unfolding displayAt
   displayAt-end e = rw e
 
@@ -61,6 +62,6 @@ module _ (o : Offset) where
   unfolding displayOffset
   displayOffset-pos n e = rw e
 
-  pub displayOffset-neg : (n : ℕ) → o ≡ Neg n → Cut (displayOffset (offsetOf o)) (45 ∷ []) (displayDuration n)
+  pub displayOffset-neg : (n : ℕ) → o ≡ Neg n → Cut (displayOffset (offsetOf o)) (bytes "-") (displayDuration n)
   unfolding displayOffset
   displayOffset-neg n e = record { is = rw e }

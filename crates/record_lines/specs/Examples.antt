@@ -8,7 +8,7 @@ use mathlib.Core.Path.{subst}
 use lib.Dec.{T}
 use lib.ListN.{length, replicate}
 use Rattle.base.specs.Splice.{splice, join}
-use Rattle.page.specs.Bytes.{bytes, all, equal}
+use Rattle.page.specs.Bytes.{bytes, hex, all, equal}
 use Rattle.page.specs.Read.{badField}
 use Rattle.page.specs.Listed.{listed}
 use Rattle.page.specs.declared.text.Span.{Span}
@@ -44,7 +44,7 @@ span start end = record { start = start; end = end }
 
 -- a selector without a name, and two matchers: `a!="b"` and `a!~"b"`
 abbrev twoMatchers : List ℕ
-twoMatchers = 0x02 ∷ 0x00 ∷ 0x02 ∷ 0x01 ∷ 0x01 ∷ 0x61 ∷ 0x01 ∷ 0x62 ∷ 0x03 ∷ 0x01 ∷ 0x61 ∷ 0x01 ∷ 0x62 ∷ 0x01 ∷ []
+twoMatchers = hex "0200020101610162030161016201"
 
 abbrev selector : Record
 selector = code.Selector (record { name = span 2 2; matchers = 3; count = 2; named = false; empty = false })
@@ -66,18 +66,18 @@ call = code.Call (record { name = span 2 4; kinds = 5; declared = 2; variadic = 
 
 abbrev examples : List Example
 examples =
-    example (0x00 ∷ 0x01 ∷ 0x05 ∷ []) (code.Number (Negative 5)) 3 "3 0 1 5\n"
-    ∷ example (0x01 ∷ 0x01 ∷ 0x61 ∷ []) (code.String (span 2 3)) 3 "3 1 2 1\n"
+    example (hex "000105") (code.Number (Negative 5)) 3 "3 0 1 5\n"
+    ∷ example (hex "010161") (code.String (span 2 3)) 3 "3 1 2 1\n"
     ∷ example twoMatchers selector 14 "14 2 2 0 2 1 5 1 7 1 3 10 1 12 1 1\n"
-    ∷ example (0x03 ∷ 0x05 ∷ []) (code.Range 5) 2 "2 3 5\n"
-    ∷ example (0x04 ∷ 0x05 ∷ 0x01 ∷ 0x07 ∷ []) (code.Subquery 5 (step.Some 7)) 4 "4 4 5 1 7\n"
-    ∷ example (0x05 ∷ 0x03 ∷ 0x07 ∷ []) (code.At (Before 7)) 3 "3 5 3 7\n"
-    ∷ example (0x06 ∷ 0x01 ∷ 0x09 ∷ []) (code.Offset (Neg 9)) 3 "3 6 1 9\n"
-    ∷ example (0x07 ∷ []) code.Unary 1 "1 7\n"
-    ∷ example (0x08 ∷ []) code.Paren 1 "1 8\n"
-    ∷ example (0x09 ∷ 0x01 ∷ 0x01 ∷ 0x01 ∷ 0x01 ∷ 0x01 ∷ 0x01 ∷ 0x61 ∷ 0x02 ∷ 0x00 ∷ 0x01 ∷ 0x00 ∷ 0x05 ∷ 0x00 ∷ []) modified 14 "14 9 1 1 1 1 1 7 1 2 0 1 0 5 0\n"
-    ∷ example (0x0a ∷ 0x1b ∷ 0x02 ∷ 0x02 ∷ 0x01 ∷ 0x61 ∷ 0x01 ∷ 0x62 ∷ 0x01 ∷ []) (code.Aggregate 27 (Exclude 4 2) 1) 9 "9 10 27 2 2 5 1 7 1 1\n"
-    ∷ example (0x0b ∷ 0x02 ∷ 0x6c ∷ 0x6e ∷ 0x02 ∷ 0x00 ∷ 0x01 ∷ 0x02 ∷ 0x03 ∷ 0x01 ∷ 0x02 ∷ []) call 11 "11 11 2 2 2 0 1 2 3 1 2\n"
+    ∷ example (hex "0305") (code.Range 5) 2 "2 3 5\n"
+    ∷ example (hex "04050107") (code.Subquery 5 (step.Some 7)) 4 "4 4 5 1 7\n"
+    ∷ example (hex "050307") (code.At (Before 7)) 3 "3 5 3 7\n"
+    ∷ example (hex "060109") (code.Offset (Neg 9)) 3 "3 6 1 9\n"
+    ∷ example (hex "07") code.Unary 1 "1 7\n"
+    ∷ example (hex "08") code.Paren 1 "1 8\n"
+    ∷ example (hex "0901010101010161020001000500") modified 14 "14 9 1 1 1 1 1 7 1 2 0 1 0 5 0\n"
+    ∷ example (hex "0a1b02020161016201") (code.Aggregate 27 (Exclude 4 2) 1) 9 "9 10 27 2 2 5 1 7 1 1\n"
+    ∷ example (hex "0b026c6e02000102030102") call 11 "11 11 2 2 2 0 1 2 3 1 2\n"
     ∷ []
 
 abbrev holds : Example → Bool
@@ -93,7 +93,7 @@ abbrev RuledOut : List ℕ → Record → ℕ → String → Type 0
 RuledOut page r next line = Puts (replicate (length (bytes line)) 0) 0 (recordLine page r next) (bytes line) (length (bytes line)) → ⊥
 
 -- the end of a text in the place of its size
-endForSize : RuledOut (0x01 ∷ 0x01 ∷ 0x61 ∷ []) (code.String (span 2 3)) 3 "3 1 2 3\n"
+endForSize : RuledOut (hex "010161") (code.String (span 2 3)) 3 "3 1 2 3\n"
 unfolding splice put putAll digits decimal spaced
 endForSize p = subst (λ (l : Line). T (equal (l .buffer) (bytes "3 1 2 1\n"))) (p .is) tt
 

@@ -55,23 +55,23 @@ equal-turned nan nan = refl
 
 filled-bytes : (w : String) (l : Literal) → filled w l ≡ filledBytes (bytes w) l
 unfolding filledBytes join
-filled-bytes w l = four (bytes w) (32 ∷ 40 ∷ []) (displayFill l) (41 ∷ [])
+filled-bytes w l = four (bytes w) (bytes " (") (displayFill l) (bytes ")")
 
 pub length-filledBytes : (w : List ℕ) (l : Literal) → length (filledBytes w l) ≡ length w + 3 + length (displayFill l)
 unfolding filledBytes join
-length-filledBytes w l = omega (arith, length-append w (32 ∷ 40 ∷ (displayFill l ++ (41 ∷ []))), length-append (displayFill l) (41 ∷ []))
+length-filledBytes w l = omega (arith, length-append w (32 ∷ 40 ∷ (displayFill l ++ (bytes ")"))), length-append (displayFill l) (bytes ")"))
 
 -- ## Both fills
 
 -- the bytes of ` fill`, ` fill_left` and ` fill_right`
 abbrev pub fillWord : List ℕ
-fillWord = 32 ∷ 102 ∷ 105 ∷ 108 ∷ 108 ∷ []
+fillWord = bytes " fill"
 
 abbrev pub leftWord : List ℕ
-leftWord = 32 ∷ 102 ∷ 105 ∷ 108 ∷ 108 ∷ 95 ∷ 108 ∷ 101 ∷ 102 ∷ 116 ∷ []
+leftWord = bytes " fill_left"
 
 abbrev pub rightWord : List ℕ
-rightWord = 32 ∷ 102 ∷ 105 ∷ 108 ∷ 108 ∷ 95 ∷ 114 ∷ 105 ∷ 103 ∷ 104 ∷ 116 ∷ []
+rightWord = bytes " fill_right"
 
 module _ (same : Bool) (l r : Literal) where
   pub both-one : same ≡ true → bothFills same l r ≡ filledBytes fillWord r

@@ -35,11 +35,11 @@ four a b c d = append-assoc (a ++ b) c d ∙ append-assoc a b (c ++ d)
 
 pub labelled-bytes : (w : String) (ls : Labels) → labelled w ls ≡ labelledBytes (bytes w) ls
 unfolding labelledBytes join
-labelled-bytes w ls = four (bytes w) (32 ∷ 40 ∷ []) (displayLabels ls) (41 ∷ [])
+labelled-bytes w ls = four (bytes w) (bytes " (") (displayLabels ls) (bytes ")")
 
 pub length-labelledBytes : (w : List ℕ) (ls : Labels) → length (labelledBytes w ls) ≡ length w + 3 + length (displayLabels ls)
 unfolding labelledBytes join
-length-labelledBytes w ls = omega (arith, length-append w (32 ∷ 40 ∷ (displayLabels ls ++ (41 ∷ []))), length-append (displayLabels ls) (41 ∷ []))
+length-labelledBytes w ls = omega (arith, length-append w (32 ∷ 40 ∷ (displayLabels ls ++ (bytes ")"))), length-append (displayLabels ls) (bytes ")"))
 
 -- ## isEmpty of a list that can be read: its count says it
 
@@ -64,7 +64,7 @@ vanished : (ls : Labels) → isEmpty ls ≡ true → displayMatching (some (excl
 vanished [] e = refl
 vanished (l ∷ ls) e = absurd (never e)
 
-grouped : (ls : Labels) → isEmpty ls ≡ false → displayGrouping (some (include ls)) ≡ labelled " by" ls ++ (32 ∷ [])
+grouped : (ls : Labels) → isEmpty ls ≡ false → displayGrouping (some (include ls)) ≡ labelled " by" ls ++ (bytes " ")
 grouped [] e = absurd (never (sym e))
 grouped (l ∷ ls) e = refl
 
@@ -76,29 +76,29 @@ module _ (page : List ℕ) (m : LabelModifier) where
   pub matching-none : m ≡ None → displayMatching (labelModifierOn page m) ≡ []
   matching-none e = rw e
 
-  pub matching-on : (s n : ℕ) → m ≡ Include s n → displayMatching (labelModifierOn page m) ≡ labelledBytes (32 ∷ 111 ∷ 110 ∷ []) (labelsOn page s n)
+  pub matching-on : (s n : ℕ) → m ≡ Include s n → displayMatching (labelModifierOn page m) ≡ labelledBytes (bytes " on") (labelsOn page s n)
   matching-on s n e = rw e (labelled-bytes " on" (labelsOn page s n))
 
   module _ (s n : ℕ) (e : m ≡ Exclude s n) where
     pub matching-vanishes : n ≡ 0 → displayMatching (labelModifierOn page m) ≡ []
     matching-vanishes none = rw e (vanished (labelsOn page s n) (none-listed readAnyText n (drop s page) none))
 
-    pub matching-ignoring : LabelModifierStored page m → (n ≡ 0 → ⊥) → displayMatching (labelModifierOn page m) ≡ labelledBytes (32 ∷ 105 ∷ 103 ∷ 110 ∷ 111 ∷ 114 ∷ 105 ∷ 110 ∷ 103 ∷ []) (labelsOn page s n)
+    pub matching-ignoring : LabelModifierStored page m → (n ≡ 0 → ⊥) → displayMatching (labelModifierOn page m) ≡ labelledBytes (bytes " ignoring") (labelsOn page s n)
     matching-ignoring all some· = rw e (ignored (labelsOn page s n) (some-listed readAnyText n (drop s page) (rw e at all) some·) ∙ labelled-bytes " ignoring" (labelsOn page s n))
 
   pub grouping-none : m ≡ None → displayGrouping (labelModifierOn page m) ≡ []
   grouping-none e = rw e
 
   pub grouping-without : (s n : ℕ) → m ≡ Exclude s n
-      → Cut (displayGrouping (labelModifierOn page m)) (labelledBytes (32 ∷ 119 ∷ 105 ∷ 116 ∷ 104 ∷ 111 ∷ 117 ∷ 116 ∷ []) (labelsOn page s n)) (32 ∷ [])
-  grouping-without s n e = record { is = rw e (ap (λ (l : List ℕ). l ++ (32 ∷ [])) (labelled-bytes " without" (labelsOn page s n))) }
+      → Cut (displayGrouping (labelModifierOn page m)) (labelledBytes (bytes " without") (labelsOn page s n)) (bytes " ")
+  grouping-without s n e = record { is = rw e (ap (λ (l : List ℕ). l ++ (bytes " ")) (labelled-bytes " without" (labelsOn page s n))) }
 
   module _ (s n : ℕ) (e : m ≡ Include s n) where
     pub grouping-vanishes : n ≡ 0 → displayGrouping (labelModifierOn page m) ≡ []
     grouping-vanishes none = rw e (ungrouped (labelsOn page s n) (none-listed readAnyText n (drop s page) none))
 
-    pub grouping-by : LabelModifierStored page m → (n ≡ 0 → ⊥) → Cut (displayGrouping (labelModifierOn page m)) (labelledBytes (32 ∷ 98 ∷ 121 ∷ []) (labelsOn page s n)) (32 ∷ [])
-    grouping-by all some· = record { is = rw e (grouped (labelsOn page s n) (some-listed readAnyText n (drop s page) (rw e at all) some·) ∙ ap (λ (l : List ℕ). l ++ (32 ∷ [])) (labelled-bytes " by" (labelsOn page s n))) }
+    pub grouping-by : LabelModifierStored page m → (n ≡ 0 → ⊥) → Cut (displayGrouping (labelModifierOn page m)) (labelledBytes (bytes " by") (labelsOn page s n)) (bytes " ")
+    grouping-by all some· = record { is = rw e (grouped (labelsOn page s n) (some-listed readAnyText n (drop s page) (rw e at all) some·) ∙ ap (λ (l : List ℕ). l ++ (bytes " ")) (labelled-bytes " by" (labelsOn page s n))) }
 
 -- ## Cardinality
 
@@ -110,16 +110,16 @@ module _ (page : List ℕ) (c : Cardinality) where
   cardinality-many e = rw e
 
   pub cardinality-left : (s n : ℕ) → c ≡ ManyToOne s n
-      → displayCardinality (cardinalityOn page c) ≡ labelledBytes (32 ∷ 103 ∷ 114 ∷ 111 ∷ 117 ∷ 112 ∷ 95 ∷ 108 ∷ 101 ∷ 102 ∷ 116 ∷ []) (labelsOn page s n)
+      → displayCardinality (cardinalityOn page c) ≡ labelledBytes (bytes " group_left") (labelsOn page s n)
   cardinality-left s n e = rw e (labelled-bytes " group_left" (labelsOn page s n))
 
   pub cardinality-right : (s n : ℕ) → c ≡ OneToMany s n
-      → displayCardinality (cardinalityOn page c) ≡ labelledBytes (32 ∷ 103 ∷ 114 ∷ 111 ∷ 117 ∷ 112 ∷ 95 ∷ 114 ∷ 105 ∷ 103 ∷ 104 ∷ 116 ∷ []) (labelsOn page s n)
+      → displayCardinality (cardinalityOn page c) ≡ labelledBytes (bytes " group_right") (labelsOn page s n)
   cardinality-right s n e = rw e (labelled-bytes " group_right" (labelsOn page s n))
 
 -- ## Lengths
 
 -- a list with a space after it: n is the length of its token and that space
-pub grouping-measured : {text : List ℕ} (w : List ℕ) (ls : Labels) (n cap r : ℕ) → n ≡ length w + 1 → Cut text (labelledBytes w ls) (32 ∷ [])
+pub grouping-measured : {text : List ℕ} (w : List ℕ) (ls : Labels) (n cap r : ℕ) → n ≡ length w + 1 → Cut text (labelledBytes w ls) (bytes " ")
     → r ≡ min (n + 3 + length (displayLabels ls)) cap → r ≡ min (length text) cap
 grouping-measured w ls n cap r e cutting is = omega (arith, cut-length cutting, length-labelledBytes w ls)

@@ -4,7 +4,7 @@ use mathlib.Core.Bool.{Bool}
 use mathlib.Core.List.{List, [], _∷_, _++_}
 use mathlib.Core.Option.{Option, none, some}
 use Rattle.base.specs.Splice.{join}
-use Rattle.page.specs.Bytes.{pick}
+use Rattle.page.specs.Bytes.{bytes, pick}
 use Rattle.records.specs.Field.{Labels}
 use Rattle.records.specs.Literal.{Literal, plus, whole}
 use Rattle.leaves.specs.Numeral.{displayFill}
@@ -12,10 +12,10 @@ use Rattle.label.specs.Label.{displayLabels}
 use Rattle.text.specs.Display.{filled}
 
 unfoldable pub labelledBytes : List ℕ → Labels → List ℕ
-labelledBytes w ls = join (w ∷ (32 ∷ 40 ∷ []) ∷ displayLabels ls ∷ (41 ∷ []) ∷ [])
+labelledBytes w ls = join (w ∷ bytes " (" ∷ displayLabels ls ∷ bytes ")" ∷ [])
 
 unfoldable pub filledBytes : List ℕ → Literal → List ℕ
-filledBytes w l = join (w ∷ (32 ∷ 40 ∷ []) ∷ displayFill l ∷ (41 ∷ []) ∷ [])
+filledBytes w l = join (w ∷ bytes " (" ∷ displayFill l ∷ bytes ")" ∷ [])
 
 -- the digits of a fill; 0 stands where there is none
 abbrev pub fillDigits : Option Literal → Literal

@@ -2,15 +2,10 @@
 use Prim.Native.Nat.{ℕ, _+_, _-_}
 use mathlib.Core.List.{List, [], _∷_}
 use lib.ListN.{getD, take, drop}
+use Rattle.page.specs.Bytes.{bytes}
 
 abbrev pub letters : List ℕ
-letters =
-    43 ∷ 47 ∷ 61 ∷ 61 ∷ 62 ∷ 61 ∷ 62 ∷ 97 ∷ 110 ∷ 100 ∷ 111 ∷ 114 ∷ 60 ∷ 60 ∷ 61 ∷ 117 ∷ 110 ∷ 108 ∷ 101 ∷ 115 ∷ 115 ∷
-    37 ∷ 42 ∷ 33 ∷ 61 ∷ 94 ∷ 45 ∷ 97 ∷ 116 ∷ 97 ∷ 110 ∷ 50 ∷ 97 ∷ 118 ∷ 103 ∷ 98 ∷ 111 ∷ 116 ∷ 116 ∷ 111 ∷ 109 ∷ 107 ∷
-    99 ∷ 111 ∷ 117 ∷ 110 ∷ 116 ∷ 99 ∷ 111 ∷ 117 ∷ 110 ∷ 116 ∷ 95 ∷ 118 ∷ 97 ∷ 108 ∷ 117 ∷ 101 ∷ 115 ∷ 103 ∷ 114 ∷ 111 ∷
-    117 ∷ 112 ∷ 109 ∷ 97 ∷ 120 ∷ 109 ∷ 105 ∷ 110 ∷ 113 ∷ 117 ∷ 97 ∷ 110 ∷ 116 ∷ 105 ∷ 108 ∷ 101 ∷ 115 ∷ 116 ∷ 100 ∷
-    100 ∷ 101 ∷ 118 ∷ 115 ∷ 116 ∷ 100 ∷ 118 ∷ 97 ∷ 114 ∷ 115 ∷ 117 ∷ 109 ∷ 116 ∷ 111 ∷ 112 ∷ 107 ∷ 108 ∷ 105 ∷ 109 ∷
-    105 ∷ 116 ∷ 107 ∷ 108 ∷ 105 ∷ 109 ∷ 105 ∷ 116 ∷ 95 ∷ 114 ∷ 97 ∷ 116 ∷ 105 ∷ 111 ∷ []
+letters = bytes "+/==>=>andor<<=unless%*!=^-atan2avgbottomkcountcount_valuesgroupmaxminquantilestddevstdvarsumtopklimitklimit_ratio"
 
 abbrev pub starts : List ℕ
 starts =

@@ -2,10 +2,10 @@
 -- PromQL of its page, what is seen of each record, and the kinds of the values left, the last one first.
 use Prim.Native.Nat.{ℕ}
 use mathlib.Core.Bool.{Bool, true, false, _&&_}
-use mathlib.Core.List.{List, [], _∷_, map}
+use mathlib.Core.List.{List, [], _∷_, _++_, map}
 use lib.ListN.{replicate}
 use lib.Dec.{T, eqb}
-use Rattle.page.specs.Bytes.{pick, all, any}
+use Rattle.page.specs.Bytes.{pick, hex, all, any}
 use Rattle.page.specs.Bytes.{equal as equalNumbers}
 use Rattle.records.specs.Kind.{Kind, vector, scalar, matrix, string, kindNumber}
 use Rattle.records.specs.Record.{readRecord, readPage}
@@ -31,84 +31,84 @@ row p m f = record { page = p; marks = m; finish = f }
 abbrev rows : List Row
 rows =
     -- `limitk("a", up)`
-    row (0x01 ∷ 0x01 ∷ 0x61 ∷ 0x02 ∷ 0x02 ∷ 0x75 ∷ 0x70 ∷ 0x00 ∷ 0x0a ∷ 0x1d ∷ 0x00 ∷ 0x02 ∷ []) (fine ∷ fine ∷ asideForbidden ∷ []) (left (vector ∷ []))
+    row (hex "010161 0202757000 0a1d0002") (fine ∷ fine ∷ asideForbidden ∷ []) (left (vector ∷ []))
     -- `limitk(5, up)`
-    ∷ row (0x00 ∷ 0x00 ∷ 0x05 ∷ 0x02 ∷ 0x02 ∷ 0x75 ∷ 0x70 ∷ 0x00 ∷ 0x0a ∷ 0x1d ∷ 0x00 ∷ 0x02 ∷ []) (fine ∷ fine ∷ fine ∷ []) (left (vector ∷ []))
+    ∷ row (hex "000005 0202757000 0a1d0002") (fine ∷ fine ∷ fine ∷ []) (left (vector ∷ []))
     -- `limit_ratio("a", up)`
-    ∷ row (0x01 ∷ 0x01 ∷ 0x61 ∷ 0x02 ∷ 0x02 ∷ 0x75 ∷ 0x70 ∷ 0x00 ∷ 0x0a ∷ 0x1e ∷ 0x00 ∷ 0x02 ∷ []) (fine ∷ fine ∷ asideForbidden ∷ []) (left (vector ∷ []))
+    ∷ row (hex "010161 0202757000 0a1e0002") (fine ∷ fine ∷ asideForbidden ∷ []) (left (vector ∷ []))
     -- `limit_ratio(5, up)`
-    ∷ row (0x00 ∷ 0x00 ∷ 0x05 ∷ 0x02 ∷ 0x02 ∷ 0x75 ∷ 0x70 ∷ 0x00 ∷ 0x0a ∷ 0x1e ∷ 0x00 ∷ 0x02 ∷ []) (fine ∷ fine ∷ fine ∷ []) (left (vector ∷ []))
+    ∷ row (hex "000005 0202757000 0a1e0002") (fine ∷ fine ∷ fine ∷ []) (left (vector ∷ []))
     -- `limitk()`
-    ∷ row (0x0a ∷ 0x1d ∷ 0x00 ∷ 0x00 ∷ []) (fine ∷ []) (ended)
+    ∷ row (hex "0a1d0000") (fine ∷ []) (ended)
     -- `limitk(up)`
-    ∷ row (0x02 ∷ 0x02 ∷ 0x75 ∷ 0x70 ∷ 0x00 ∷ 0x0a ∷ 0x1d ∷ 0x00 ∷ 0x01 ∷ []) (fine ∷ aside ∷ []) (left (vector ∷ []))
+    ∷ row (hex "0202757000 0a1d0001") (fine ∷ aside ∷ []) (left (vector ∷ []))
     -- `topk(5, up)`
-    ∷ row (0x00 ∷ 0x00 ∷ 0x05 ∷ 0x02 ∷ 0x02 ∷ 0x75 ∷ 0x70 ∷ 0x00 ∷ 0x0a ∷ 0x1c ∷ 0x00 ∷ 0x02 ∷ []) (fine ∷ fine ∷ fine ∷ []) (left (vector ∷ []))
+    ∷ row (hex "000005 0202757000 0a1c0002") (fine ∷ fine ∷ fine ∷ []) (left (vector ∷ []))
     -- `topk(up, 5): the operands in the other order`
-    ∷ row (0x02 ∷ 0x02 ∷ 0x75 ∷ 0x70 ∷ 0x00 ∷ 0x00 ∷ 0x00 ∷ 0x05 ∷ 0x0a ∷ 0x1c ∷ 0x00 ∷ 0x02 ∷ []) (fine ∷ fine ∷ forbidden ∷ []) (left (vector ∷ []))
+    ∷ row (hex "0202757000 000005 0a1c0002") (fine ∷ fine ∷ forbidden ∷ []) (left (vector ∷ []))
     -- `count_values("a", up)`
-    ∷ row (0x01 ∷ 0x01 ∷ 0x61 ∷ 0x02 ∷ 0x02 ∷ 0x75 ∷ 0x70 ∷ 0x00 ∷ 0x0a ∷ 0x14 ∷ 0x00 ∷ 0x02 ∷ []) (fine ∷ fine ∷ fine ∷ []) (left (vector ∷ []))
+    ∷ row (hex "010161 0202757000 0a140002") (fine ∷ fine ∷ fine ∷ []) (left (vector ∷ []))
     -- `count_values(5, up)`
-    ∷ row (0x00 ∷ 0x00 ∷ 0x05 ∷ 0x02 ∷ 0x02 ∷ 0x75 ∷ 0x70 ∷ 0x00 ∷ 0x0a ∷ 0x14 ∷ 0x00 ∷ 0x02 ∷ []) (fine ∷ fine ∷ forbidden ∷ []) (left (vector ∷ []))
+    ∷ row (hex "000005 0202757000 0a140002") (fine ∷ fine ∷ forbidden ∷ []) (left (vector ∷ []))
     -- `sum(up, up, 5): only the last argument is asked`
-    ∷ row (0x02 ∷ 0x02 ∷ 0x75 ∷ 0x70 ∷ 0x00 ∷ 0x02 ∷ 0x02 ∷ 0x75 ∷ 0x70 ∷ 0x00 ∷ 0x00 ∷ 0x00 ∷ 0x05 ∷ 0x0a ∷ 0x1b ∷ 0x00 ∷ 0x03 ∷ []) (fine ∷ fine ∷ fine ∷ forbidden ∷ []) (left (vector ∷ []))
+    ∷ row (hex "0202757000 0202757000 000005 0a1b0003") (fine ∷ fine ∷ fine ∷ forbidden ∷ []) (left (vector ∷ []))
     -- `sum("a", 5, up, up)`
-    ∷ row (0x01 ∷ 0x01 ∷ 0x61 ∷ 0x00 ∷ 0x00 ∷ 0x05 ∷ 0x02 ∷ 0x02 ∷ 0x75 ∷ 0x70 ∷ 0x00 ∷ 0x02 ∷ 0x02 ∷ 0x75 ∷ 0x70 ∷ 0x00 ∷ 0x0a ∷ 0x1b ∷ 0x00 ∷ 0x04 ∷ []) (fine ∷ fine ∷ fine ∷ fine ∷ fine ∷ []) (left (vector ∷ []))
+    ∷ row (hex "010161 000005 0202757000 0202757000 0a1b0004") (fine ∷ fine ∷ fine ∷ fine ∷ fine ∷ []) (left (vector ∷ []))
     -- `sum()`
-    ∷ row (0x0a ∷ 0x1b ∷ 0x00 ∷ 0x00 ∷ []) (fine ∷ []) (ended)
+    ∷ row (hex "0a1b0000") (fine ∷ []) (ended)
     -- `"a" + 1`
-    ∷ row (0x01 ∷ 0x01 ∷ 0x61 ∷ 0x00 ∷ 0x00 ∷ 0x01 ∷ 0x09 ∷ 0x01 ∷ 0x00 ∷ []) (fine ∷ fine ∷ forbidden ∷ []) (left (vector ∷ []))
+    ∷ row (hex "010161 000001 090100") (fine ∷ fine ∷ forbidden ∷ []) (left (vector ∷ []))
     -- `1 > 2, compared without bool`
-    ∷ row (0x00 ∷ 0x00 ∷ 0x01 ∷ 0x00 ∷ 0x00 ∷ 0x02 ∷ 0x09 ∷ 0x05 ∷ 0x00 ∷ []) (fine ∷ fine ∷ forbidden ∷ []) (left (scalar ∷ []))
+    ∷ row (hex "000001 000002 090500") (fine ∷ fine ∷ forbidden ∷ []) (left (scalar ∷ []))
     -- `1 > bool 2`
-    ∷ row (0x00 ∷ 0x00 ∷ 0x01 ∷ 0x00 ∷ 0x00 ∷ 0x02 ∷ 0x09 ∷ 0x05 ∷ 0x01 ∷ 0x01 ∷ 0x00 ∷ 0x00 ∷ 0x00 ∷ 0x00 ∷ []) (fine ∷ fine ∷ fine ∷ []) (left (scalar ∷ []))
+    ∷ row (hex "000001 000002 0905010100000000") (fine ∷ fine ∷ fine ∷ []) (left (scalar ∷ []))
     -- `1 > up`
-    ∷ row (0x00 ∷ 0x00 ∷ 0x01 ∷ 0x02 ∷ 0x02 ∷ 0x75 ∷ 0x70 ∷ 0x00 ∷ 0x09 ∷ 0x05 ∷ 0x00 ∷ []) (fine ∷ fine ∷ fine ∷ []) (left (vector ∷ []))
+    ∷ row (hex "000001 0202757000 090500") (fine ∷ fine ∷ fine ∷ []) (left (vector ∷ []))
     -- `1 and up`
-    ∷ row (0x00 ∷ 0x00 ∷ 0x01 ∷ 0x02 ∷ 0x02 ∷ 0x75 ∷ 0x70 ∷ 0x00 ∷ 0x09 ∷ 0x06 ∷ 0x00 ∷ []) (fine ∷ fine ∷ forbidden ∷ []) (left (vector ∷ []))
+    ∷ row (hex "000001 0202757000 090600") (fine ∷ fine ∷ forbidden ∷ []) (left (vector ∷ []))
     -- `up limitk up: the code of an aggregator in a binary`
-    ∷ row (0x02 ∷ 0x02 ∷ 0x75 ∷ 0x70 ∷ 0x00 ∷ 0x02 ∷ 0x02 ∷ 0x75 ∷ 0x70 ∷ 0x00 ∷ 0x09 ∷ 0x1d ∷ 0x00 ∷ []) (fine ∷ fine ∷ fine ∷ []) (ended)
+    ∷ row (hex "0202757000 0202757000 091d00") (fine ∷ fine ∷ fine ∷ []) (ended)
     -- `+(up): the code of an operator in an aggregate`
-    ∷ row (0x02 ∷ 0x02 ∷ 0x75 ∷ 0x70 ∷ 0x00 ∷ 0x0a ∷ 0x01 ∷ 0x00 ∷ 0x01 ∷ []) (fine ∷ fine ∷ []) (ended)
+    ∷ row (hex "0202757000 0a010001") (fine ∷ fine ∷ []) (ended)
     -- `ln(0), no declared kinds and an extra: out of place, and set aside`
-    ∷ row (0x00 ∷ 0x00 ∷ 0x00 ∷ 0x0b ∷ 0x02 ∷ 0x6c ∷ 0x6e ∷ 0x00 ∷ 0x01 ∷ 0x00 ∷ 0x01 ∷ []) (fine ∷ aside ∷ []) (ended)
+    ∷ row (hex "000000 0b026c6e00010001") (fine ∷ aside ∷ []) (ended)
     -- `ln(0)`
-    ∷ row (0x00 ∷ 0x00 ∷ 0x00 ∷ 0x0b ∷ 0x02 ∷ 0x6c ∷ 0x6e ∷ 0x01 ∷ 0x00 ∷ 0x00 ∷ 0x00 ∷ 0x01 ∷ []) (fine ∷ asideForbidden ∷ []) (left (vector ∷ []))
+    ∷ row (hex "000000 0b026c6e0100000001") (fine ∷ asideForbidden ∷ []) (left (vector ∷ []))
     -- `ln((0)): no bare number`
-    ∷ row (0x00 ∷ 0x00 ∷ 0x00 ∷ 0x08 ∷ 0x0b ∷ 0x02 ∷ 0x6c ∷ 0x6e ∷ 0x01 ∷ 0x00 ∷ 0x00 ∷ 0x00 ∷ 0x01 ∷ []) (fine ∷ fine ∷ forbidden ∷ []) (left (vector ∷ []))
+    ∷ row (hex "000000 08 0b026c6e0100000001") (fine ∷ fine ∷ forbidden ∷ []) (left (vector ∷ []))
     -- `log2(0)`
-    ∷ row (0x00 ∷ 0x00 ∷ 0x00 ∷ 0x0b ∷ 0x04 ∷ 0x6c ∷ 0x6f ∷ 0x67 ∷ 0x32 ∷ 0x01 ∷ 0x00 ∷ 0x00 ∷ 0x00 ∷ 0x01 ∷ []) (fine ∷ asideForbidden ∷ []) (left (vector ∷ []))
+    ∷ row (hex "000000 0b046c6f67320100000001") (fine ∷ asideForbidden ∷ []) (left (vector ∷ []))
     -- `ln(-5)`
-    ∷ row (0x00 ∷ 0x00 ∷ 0x05 ∷ 0x07 ∷ 0x0b ∷ 0x02 ∷ 0x6c ∷ 0x6e ∷ 0x01 ∷ 0x00 ∷ 0x00 ∷ 0x00 ∷ 0x01 ∷ []) (fine ∷ fine ∷ asideForbidden ∷ []) (left (vector ∷ []))
+    ∷ row (hex "000005 07 0b026c6e0100000001") (fine ∷ fine ∷ asideForbidden ∷ []) (left (vector ∷ []))
     -- `ln(-(-5))`
-    ∷ row (0x00 ∷ 0x00 ∷ 0x05 ∷ 0x07 ∷ 0x07 ∷ 0x0b ∷ 0x02 ∷ 0x6c ∷ 0x6e ∷ 0x01 ∷ 0x00 ∷ 0x00 ∷ 0x00 ∷ 0x01 ∷ []) (fine ∷ fine ∷ fine ∷ forbidden ∷ []) (left (vector ∷ []))
+    ∷ row (hex "000005 07 07 0b026c6e0100000001") (fine ∷ fine ∷ fine ∷ forbidden ∷ []) (left (vector ∷ []))
     -- `exp(-Inf), Inf negated`
-    ∷ row (0x00 ∷ 0x03 ∷ 0x07 ∷ 0x0b ∷ 0x03 ∷ 0x65 ∷ 0x78 ∷ 0x70 ∷ 0x01 ∷ 0x00 ∷ 0x00 ∷ 0x00 ∷ 0x01 ∷ []) (fine ∷ fine ∷ asideForbidden ∷ []) (left (vector ∷ []))
+    ∷ row (hex "0003 07 0b036578700100000001") (fine ∷ fine ∷ asideForbidden ∷ []) (left (vector ∷ []))
     -- `exp(0)`
-    ∷ row (0x00 ∷ 0x00 ∷ 0x00 ∷ 0x0b ∷ 0x03 ∷ 0x65 ∷ 0x78 ∷ 0x70 ∷ 0x01 ∷ 0x00 ∷ 0x00 ∷ 0x00 ∷ 0x01 ∷ []) (fine ∷ forbidden ∷ []) (left (vector ∷ []))
+    ∷ row (hex "000000 0b036578700100000001") (fine ∷ forbidden ∷ []) (left (vector ∷ []))
     -- `f(up, 1, 2), declared vector and scalar, the last one repeating`
-    ∷ row (0x02 ∷ 0x02 ∷ 0x75 ∷ 0x70 ∷ 0x00 ∷ 0x00 ∷ 0x00 ∷ 0x01 ∷ 0x00 ∷ 0x00 ∷ 0x02 ∷ 0x0b ∷ 0x01 ∷ 0x66 ∷ 0x02 ∷ 0x00 ∷ 0x01 ∷ 0x01 ∷ 0x03 ∷ 0x03 ∷ []) (fine ∷ fine ∷ fine ∷ fine ∷ []) (left (string ∷ []))
+    ∷ row (hex "0202757000 000001 000002 0b0166020001010303") (fine ∷ fine ∷ fine ∷ fine ∷ []) (left (string ∷ []))
     -- `f(up, 1, up), declared vector and scalar`
-    ∷ row (0x02 ∷ 0x02 ∷ 0x75 ∷ 0x70 ∷ 0x00 ∷ 0x00 ∷ 0x00 ∷ 0x01 ∷ 0x02 ∷ 0x02 ∷ 0x75 ∷ 0x70 ∷ 0x00 ∷ 0x0b ∷ 0x01 ∷ 0x66 ∷ 0x02 ∷ 0x00 ∷ 0x01 ∷ 0x01 ∷ 0x03 ∷ 0x03 ∷ []) (fine ∷ fine ∷ fine ∷ forbidden ∷ []) (left (string ∷ []))
+    ∷ row (hex "0202757000 000001 0202757000 0b0166020001010303") (fine ∷ fine ∷ fine ∷ forbidden ∷ []) (left (string ∷ []))
     -- `f(1, 2, 3, 4)`, declared scalar, the last one repeating
-    ∷ row (0x00 ∷ 0x00 ∷ 0x01 ∷ 0x00 ∷ 0x00 ∷ 0x02 ∷ 0x00 ∷ 0x00 ∷ 0x03 ∷ 0x00 ∷ 0x00 ∷ 0x04 ∷ 0x0b ∷ 0x01 ∷ 0x66 ∷ 0x01 ∷ 0x01 ∷ 0x01 ∷ 0x00 ∷ 0x04 ∷ []) (fine ∷ fine ∷ fine ∷ fine ∷ fine ∷ []) (left (vector ∷ []))
+    ∷ row (hex "000001 000002 000003 000004 0b01660101010004") (fine ∷ fine ∷ fine ∷ fine ∷ fine ∷ []) (left (vector ∷ []))
     -- `up{a="x"}`
-    ∷ row (0x02 ∷ 0x02 ∷ 0x75 ∷ 0x70 ∷ 0x01 ∷ 0x00 ∷ 0x01 ∷ 0x61 ∷ 0x01 ∷ 0x78 ∷ []) (fine ∷ []) (left (vector ∷ []))
+    ∷ row (hex "02027570010001610178") (fine ∷ []) (left (vector ∷ []))
     -- `-"a", then a subquery of it: the working-out goes on`
-    ∷ row (0x01 ∷ 0x01 ∷ 0x61 ∷ 0x07 ∷ 0x04 ∷ 0x01 ∷ 0x00 ∷ []) (fine ∷ forbidden ∷ forbidden ∷ []) (left (matrix ∷ []))
+    ∷ row (hex "010161 07 040100") (fine ∷ forbidden ∷ forbidden ∷ []) (left (matrix ∷ []))
     -- `up[1ms] offset 1ms, in brackets`
-    ∷ row (0x02 ∷ 0x02 ∷ 0x75 ∷ 0x70 ∷ 0x00 ∷ 0x03 ∷ 0x01 ∷ 0x06 ∷ 0x00 ∷ 0x01 ∷ 0x08 ∷ []) (fine ∷ fine ∷ fine ∷ fine ∷ []) (left (matrix ∷ []))
+    ∷ row (hex "0202757000 0301 060001 08") (fine ∷ fine ∷ fine ∷ fine ∷ []) (left (matrix ∷ []))
     -- a unary on nothing
-    ∷ row (0x07 ∷ []) [] (ended)
+    ∷ row (hex "07") [] (ended)
     -- `1 and then 2: two values left`
-    ∷ row (0x00 ∷ 0x00 ∷ 0x01 ∷ 0x00 ∷ 0x00 ∷ 0x02 ∷ []) (fine ∷ fine ∷ []) (left (scalar ∷ scalar ∷ []))
+    ∷ row (hex "000001 000002") (fine ∷ fine ∷ []) (left (scalar ∷ scalar ∷ []))
     -- a byte that is no record
-    ∷ row (0x63 ∷ []) [] (ended)
+    ∷ row (hex "63") [] (ended)
     -- the empty page
     ∷ row ([]) [] (left ([]))
     -- `up` in 255 brackets: 256 records; and one more
-    ∷ row (0x02 ∷ 0x02 ∷ 0x75 ∷ 0x70 ∷ 0x00 ∷ replicate 255 0x08) (replicate 256 fine) (left (vector ∷ []))
-    ∷ row (0x02 ∷ 0x02 ∷ 0x75 ∷ 0x70 ∷ 0x00 ∷ replicate 256 0x08) (replicate 256 fine) (ended)
+    ∷ row (hex "0202757000" ++ replicate 255 0x08) (replicate 256 fine) (left (vector ∷ []))
+    ∷ row (hex "0202757000" ++ replicate 256 0x08) (replicate 256 fine) (ended)
     ∷ []
 
 abbrev markNumber : Mark → ℕ

@@ -1,8 +1,9 @@
 -- Outcomes that demand 3 rules out, one computed page each, of demand 3 as the contract of check has it.
 use Prim.Native.Nat.{ℕ}
 use mathlib.Core.Path.{subst}
-use mathlib.Core.List.{List, [], _∷_, _++_}
+use mathlib.Core.List.{List, [], _++_}
 use lib.Dec.{T}
+use Rattle.page.specs.Bytes.{hex}
 use Rattle.records.specs.Kind.{vector, scalar, isVector}
 use Rattle.records.specs.Record.{readRecord, readPage}
 use Rattle.records.specs.Outcome.{Outcome, answer, refusal}
@@ -16,7 +17,7 @@ abbrev contents : ℕ → List ℕ
 contents i = []
 
 abbrev up : List ℕ
-up = 0x02 ∷ 0x02 ∷ 0x75 ∷ 0x70 ∷ 0x00 ∷ []
+up = hex "0202757000"
 
 -- ## Answers
 
@@ -31,27 +32,27 @@ unfolding readRecord readPage
 noValue f = f contents tt .1
 
 -- `NaN` and then `NaN`: two values are left
-twoValues : RuledOut (0x00 ∷ 0x02 ∷ 0x00 ∷ 0x02 ∷ []) (answer scalar 0)
+twoValues : RuledOut (hex "0002 0002") (answer scalar 0)
 unfolding readRecord readPage
 twoValues f = f contents tt .1
 
 -- a record that cannot be read
-unread : RuledOut (0x63 ∷ []) (answer vector 0)
+unread : RuledOut (hex "63") (answer vector 0)
 unfolding readRecord readPage
 unread f = f contents tt .1
 
 -- a unary on nothing
-noOperand : RuledOut (0x07 ∷ []) (answer vector 0)
+noOperand : RuledOut (hex "07") (answer vector 0)
 unfolding readRecord readPage
 noOperand f = f contents tt .1
 
 -- `sum()`
-outOfPlace : RuledOut (0x0a ∷ 0x1b ∷ 0x00 ∷ 0x00 ∷ []) (answer vector 0)
+outOfPlace : RuledOut (hex "0a1b0000") (answer vector 0)
 unfolding readRecord readPage
 outOfPlace f = f contents tt .1
 
 -- `"a" + 1`
-forbidden : RuledOut (0x01 ∷ 0x01 ∷ 0x61 ∷ 0x00 ∷ 0x00 ∷ 0x01 ∷ 0x09 ∷ 0x01 ∷ 0x00 ∷ []) (answer vector 0)
+forbidden : RuledOut (hex "010161 000001 090100") (answer vector 0)
 unfolding readRecord readPage
 forbidden f = f contents tt .0
 
@@ -63,12 +64,12 @@ unfolding readRecord readPage
 nothingForbidden f = f contents tt tt .1
 
 -- `-"a"` and a unary on it, the second named
-notFirst : RuledOut (0x01 ∷ 0x01 ∷ 0x61 ∷ 0x07 ∷ 0x07 ∷ []) (refusal 31 2)
+notFirst : RuledOut (hex "010161 07 07") (refusal 31 2)
 unfolding readRecord readPage
 notFirst f = f contents tt tt .0
 
 -- `-"a"`, the string named
-tooEarly : RuledOut (0x01 ∷ 0x01 ∷ 0x61 ∷ 0x07 ∷ []) (refusal 6 0)
+tooEarly : RuledOut (hex "010161 07") (refusal 6 0)
 unfolding readRecord readPage
 tooEarly f = f contents tt tt .1
 
@@ -78,25 +79,25 @@ unfolding readRecord readPage
 pastTheEnd f = f contents tt tt .1
 
 -- `sum()`: a record out of place meets no kind
-endedThere : RuledOut (0x0a ∷ 0x1b ∷ 0x00 ∷ 0x00 ∷ []) (refusal 25 0)
+endedThere : RuledOut (hex "0a1b0000") (refusal 25 0)
 unfolding readRecord readPage
 endedThere f = f contents tt tt .1
 
 -- a unary on nothing, and a byte that is no record: a working-out that ends there meets no kind
-shortOfOperands : RuledOut (0x07 ∷ []) (refusal 31 0)
+shortOfOperands : RuledOut (hex "07") (refusal 31 0)
 unfolding readRecord readPage
 shortOfOperands f = f contents tt tt .1
 
-unreadHere : RuledOut (0x63 ∷ []) (refusal 22 0)
+unreadHere : RuledOut (hex "63") (refusal 22 0)
 unfolding readRecord readPage
 unreadHere f = f contents tt tt .1
 
 -- `sum()` and then `-"a"`: the working-out stopped before the record named
-stoppedBefore : RuledOut (0x0a ∷ 0x1b ∷ 0x00 ∷ 0x00 ∷ 0x01 ∷ 0x01 ∷ 0x61 ∷ 0x07 ∷ []) (refusal 6 2)
+stoppedBefore : RuledOut (hex "0a1b0000 010161 07") (refusal 6 2)
 unfolding readRecord readPage
 stoppedBefore f = f contents tt tt .1
 
 -- `up` and then `ln(0)`, the selector named: what is set aside after the record named excuses nothing
-asideBehind : RuledOut (up ++ (0x00 ∷ 0x00 ∷ 0x00 ∷ 0x0b ∷ 0x02 ∷ 0x6c ∷ 0x6e ∷ 0x01 ∷ 0x00 ∷ 0x00 ∷ 0x00 ∷ 0x01 ∷ [])) (refusal 22 0)
+asideBehind : RuledOut (up ++ hex "000000 0b026c6e0100000001") (refusal 22 0)
 unfolding readRecord readPage
 asideBehind f = f contents tt tt .1

@@ -4,6 +4,7 @@ use denote.Ref.{now}
 use Prim.Native.Nat.{_/_, _%_}
 use native.Mathlib.Omega.{arith}
 use mathlib.Core.List.{[], _∷_}
+use Rattle.page.specs.Bytes.{bytes}
 use Rattle.base.proofs.SpliceLaws.{start, fits, next, end, Run}
 use Rattle.leaves.specs.Time.{displayTime}
 use Rattle.leaves.specs.Decimal.{decimal, threeDigits}
@@ -14,7 +15,7 @@ use Rattle.leaves.proofs.time.put_time.Tie as tie
 -- before the first write
 begun : (s : tie.Start)
     → Run (now (s .args .out)) (now (s .args .out)) (s .args .at) (displayTime (s .args .ms))
-    ((64 ∷ 32 ∷ []) ∷ decimal (s .args .ms / 1000) ∷ (46 ∷ []) ∷ threeDigits (s .args .ms % 1000) ∷ []) (s .args .at)
+    (bytes "@ " ∷ decimal (s .args .ms / 1000) ∷ bytes "." ∷ threeDigits (s .args .ms % 1000) ∷ []) (s .args .at)
 begun s = start (s .pre) (displayTime-pieces _)
 
 slice-aggregate-put-bytes : tie.Need-slice-aggregate-put-bytes

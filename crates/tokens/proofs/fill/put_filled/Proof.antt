@@ -3,6 +3,7 @@ use borrow.Author.Needs.{needs}
 use denote.Ref.{now}
 use mathlib.Core.Path.{refl}
 use mathlib.Core.List.{[], _∷_}
+use Rattle.page.specs.Bytes.{bytes}
 use Rattle.base.specs.Splice.{join}
 use Rattle.base.proofs.SpliceLaws.{start, fits, next, end, Run}
 use Rattle.records.specs.Answers.{literalOf}
@@ -14,7 +15,7 @@ use Rattle.tokens.proofs.fill.put_filled.Tie as tie
 -- before the first write
 begun : (s : tie.Start)
     → Run (now (s .args .out)) (now (s .args .out)) (s .args .at) (filledBytes (now (s .args .token)) (literalOf (s .args .literal)))
-    (now (s .args .token) ∷ (32 ∷ 40 ∷ []) ∷ displayFill (literalOf (s .args .literal)) ∷ (41 ∷ []) ∷ []) (s .args .at)
+    (now (s .args .token) ∷ bytes " (" ∷ displayFill (literalOf (s .args .literal)) ∷ bytes ")" ∷ []) (s .args .at)
 unfolding join filledBytes
 begun s = start (s .pre) (refl)
 

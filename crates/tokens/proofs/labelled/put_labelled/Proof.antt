@@ -3,6 +3,7 @@ use borrow.Author.Needs.{needs}
 use denote.Ref.{now}
 use mathlib.Core.Path.{refl}
 use mathlib.Core.List.{[], _∷_}
+use Rattle.page.specs.Bytes.{bytes}
 use Rattle.base.specs.Splice.{join}
 use Rattle.base.proofs.SpliceLaws.{start, fits, next, end, Run}
 use Rattle.records.specs.Answers.{labelsOn}
@@ -14,7 +15,7 @@ use Rattle.tokens.proofs.labelled.put_labelled.Tie as tie
 -- before the first write
 begun : (s : tie.Start)
     → Run (now (s .args .out)) (now (s .args .out)) (s .args .at) (labelledBytes (now (s .args .token)) (labelsOn (now (s .args .page)) (s .args .start) (s .args .count)))
-    (now (s .args .token) ∷ (32 ∷ 40 ∷ []) ∷ displayLabels (labelsOn (now (s .args .page)) (s .args .start) (s .args .count)) ∷ (41 ∷ []) ∷ []) (s .args .at)
+    (now (s .args .token) ∷ bytes " (" ∷ displayLabels (labelsOn (now (s .args .page)) (s .args .start) (s .args .count)) ∷ bytes ")" ∷ []) (s .args .at)
 unfolding join labelledBytes
 begun s = start (s .pre .1) refl
 
