@@ -1,5 +1,5 @@
 -- A line put together in a buffer, text by text, from a position on. A text that does not fit is left out.
---     putAll texts (lineAt buffer at)     the buffer and the position after the line, after these texts
+--     putAll texts (lineAt buffer at)     the buffer and the position at the line's end, after these texts
 --     Puts before at texts after next     what a writer says: it put these texts
 --     Shows before at numbers after next  the same of numbers, each as a space and its digits
 -- Where all of them fit, the line is the texts one after another (`puts-wrote`, proofs/LineLaws).

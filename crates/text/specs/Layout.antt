@@ -107,7 +107,7 @@ rear (suffixed t) = t
 rear (enclosed h) = bytes ")"
 rear (infixed o) = []
 
--- ## Split text of a node longer than a line, at a level. The indents says whether the first line is indented: it is not after the minus
+-- ## Split text of a node longer than a line, at a level. The indents says whether the first line is indented: it is not, after the minus
 -- of a unary expression (`trim_start`)
 
 abbrev pub indentIf : Bool → ℕ → List ℕ

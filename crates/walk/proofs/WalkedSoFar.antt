@@ -36,7 +36,7 @@ pub record WalkedSoFar (page starts₀ firsts₀ starts firsts tags : List ℕ) 
   pub progress : Progress page at count stack
   pub arrays : Arrays page tags values bases top count stack
   pub tables : Tables page starts firsts count
-  -- the entries after are those that were lent
+  -- the entries after them are those that were lent
   pub starts-kept : drop count starts ≡ drop count starts₀
   pub firsts-kept : drop count firsts ≡ drop count firsts₀
 
