@@ -176,19 +176,19 @@ module _ {page starts : List ℕ} {node : Node} (n : NodeAt page starts node) wh
 
     -- a field of the signature can be read
     reads-on : {A C : Type 0} (m : Read A) (more : A → Reader signature.Function) → readRecord (recordAt page starts (node .base)) ≡ called (andThen m more)
-        → ((a : A) (rest : List ℕ) → m ≡ got a rest → readRecord (recordAt page starts (node .base)) ≡ called (more a rest) → C) → C
+        → ((a : A) (rest : List ℕ) → readRecord (recordAt page starts (node .base)) ≡ called (more a rest) → C) → C
     reads-on (refused x) more h k = absurd (never h)
-    reads-on (got a rest) more h k = k a rest refl h
+    reads-on (got a rest) more h k = k a rest h
 
     pub function-reads : (name : Span) → got (spanOn page name) (drop (name .end) page) ≡ readFunctionName (fieldsAt page starts (node .base))
         → CallAt page starts (node .base) name
     function-reads name e =
         let t = spanOn page name in
-        reads-on (readList readKind (drop (name .end) page)) _ (function-fields e) (λ ks s declared h.
-        reads-on (signature.readVariadic s) (λ v. readKind >>= λ k. return (function t ks v k)) h (λ v s′ q h′.
-        reads-on (readKind s′) (λ k. return (function t ks v k)) h′ (λ k s″ q′ h″.
-        readable base-known (readCount s″) (λ c. return (call (function t ks v k) c)) h″ (λ c rest q″ is.
-        record { function = function t ks v k; count = c; reads = record { rest = rest; reads = sym is }; named = refl; behind = s; declared = sym declared }))))
+        reads-on (readList readKind (drop (name .end) page)) _ (function-fields e) (λ ks s h.
+        reads-on (signature.readVariadic s) (λ v. readKind >>= λ k. return (function t ks v k)) h (λ v s′ h′.
+        reads-on (readKind s′) (λ k. return (function t ks v k)) h′ (λ k s″ h″.
+        readable base-known (readCount s″) (λ c. return (call (function t ks v k) c)) h″ (λ c rest q is.
+        record { function = function t ks v k; count = c; reads = record { rest = rest; reads = sym is }; named = refl }))))
 
     pub function-there : {x : FieldFault} → refused x ≡ readFunctionName (fieldsAt page starts (node .base)) → ⊥
     function-there e = never (function-fields e)

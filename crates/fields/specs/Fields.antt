@@ -5,12 +5,9 @@ use mathlib.Core.List.{List}
 use mathlib.Core.Option.{Option}
 use lib.ListN.{length, drop}
 use Rattle.page.specs.Limits.{pageLimit, countLimit}
-use Rattle.page.specs.Read.{got}
-use Rattle.page.specs.Text.{readList}
 use Rattle.page.specs.Listed.{AllRead}
 use Rattle.page.specs.Answers.{spanOn, Lies}
 use Rattle.page.specs.declared.text.Span.{Span}
-use Rattle.records.specs.Field.{readKind}
 use Rattle.records.specs.Matcher.{readMatcher}
 use Rattle.records.specs.Modifier.{LabelModifier}
 use Rattle.records.specs.Signature.{Function}
@@ -19,14 +16,12 @@ use Rattle.records.specs.Answers.{matchersOn}
 use Rattle.reader.specs.declared.Selector.{Selector}
 use Rattle.text.specs.LaidOut.{Reads}
 
--- record i is a call, and this part of the page its function's name: after it stand the kinds that are declared
+-- record i is a call, and this part of the page its function's name
 pub record CallAt (page starts : List ℕ) (i : ℕ) (name : Span) : Type 0 where
   pub function : Function
   pub count : ℕ
   pub reads : Reads page starts i (call function count)
   pub named : function .name ≡ spanOn page name
-  pub behind : List ℕ
-  pub declared : got (function .argTypes) behind ≡ readList readKind (drop (name .end) page)
 
 -- record i is an aggregate of this code and grouping
 pub record AggregateAt (page starts : List ℕ) (i code : ℕ) (grouping : Option LabelModifier) : Type 0 where

@@ -1,3 +1,4 @@
+-- `view::literal::negated` meets its contract: case by case. Assumes nothing.
 use borrow.Author.Needs.{needs}
 use Rattle.view.proofs.literal.negated.Statement.{statement}
 use Rattle.view.proofs.literal.negated.Tie as tie
