@@ -13,12 +13,12 @@ use Rattle.page.specs.Bytes.{pick}
 use Rattle.page.specs.Number.{writeNumber}
 use Rattle.page.proofs.ReaderLaws.{append-nil}
 use Rattle.records.specs.Literal.{Literal, whole, infinite, plus, minus, nan, negate, writeLiteral}
-use Rattle.records.specs.Record.{number, string, selector, range, subquery, at, offset, unary, paren, Record, leaf, wrapper, binary, aggregate, call, writeRecord}
+use Rattle.records.specs.Record.{number, string, selector, range, subquery, at, offset, unary, paren, Record, leaf, wrapper, binary, aggregate, call, writeRecord, recordKind}
 use Rattle.copy.specs.RecordCopy.{unaries, negated, copied, recordCopy, absorbedOf, absorbed, negatedForm, formAfter}
 use Rattle.copy.specs.Span.{Spans}
-use Rattle.copy.proofs.SpanLaws.{part-is, part-ends, part-length, kindByte, span-written, span-kind, span-piece, span-absorbed, same-length, other-piece}
+use Rattle.copy.proofs.SpanLaws.{part-is, part-ends, part-length, span-written, span-kind, span-piece, span-absorbed, same-length, other-piece}
 
-number-kind : (r : Record) → kindByte r ≡ 0 → (l : Literal) × (r ≡ leaf (number l))
+number-kind : (r : Record) → recordKind r ≡ 0 → (l : Literal) × (r ≡ leaf (number l))
 number-kind (leaf (number l)) h = (l, refl)
 number-kind (leaf (string t)) h = absurd (omega arith)
 number-kind (leaf (selector s)) h = absurd (omega arith)

@@ -18,17 +18,17 @@ use Rattle.page.proofs.ReadBackLaws.{Got}
 use Rattle.records.specs.Code.{isCode, isSetOperator}
 use Rattle.records.specs.Field.{writeFlag, writeOption}
 use Rattle.records.specs.Modifier.{LabelModifier, BinModifier, readLabelModifier, writeLabelModifier, writeBinModifier}
-use Rattle.records.specs.Record.{number, string, selector, range, subquery, at, offset, unary, paren, Record, leaf, wrapper, binary, aggregate, call, writeRecord}
+use Rattle.records.specs.Record.{number, string, selector, range, subquery, at, offset, unary, paren, Record, leaf, wrapper, binary, aggregate, call, writeRecord, recordKind}
 use Rattle.records.specs.Allowed.{IsOptionOf, IsBinModifier, IsAllowed}
 use Rattle.records.proofs.AllowedLaws.{readRecord-gives}
 use Rattle.records.proofs.ReadBackLaws.{readLabelModifier-back}
 use Rattle.ast.specs.CheckAst.{setOperatorModifier}
 use Rattle.copy.specs.RecordCopy.{copied, recordCopy, setCardinality, setModifier}
 use Rattle.copy.specs.Span.{Spans, SetOperator, IsPresent, CardinalityAt}
-use Rattle.copy.proofs.SpanLaws.{part-is, part-ends, kindByte, span-written, span-kind, span-piece, same-piece}
+use Rattle.copy.proofs.SpanLaws.{part-is, part-ends, span-written, span-kind, span-piece, same-piece}
 use Rattle.copy.proofs.ModifierLaws.{formOf, before, after, binary-written, modifier-written, modifier-set, modifier-absent, modifier-present, flag-byte}
 
-binary-kind : (r : Record) → kindByte r ≡ 9 → (c : ℕ) × (m : Option BinModifier) × (r ≡ binary c m)
+binary-kind : (r : Record) → recordKind r ≡ 9 → (c : ℕ) × (m : Option BinModifier) × (r ≡ binary c m)
 binary-kind (leaf (number l)) h = absurd (omega arith)
 binary-kind (leaf (string t)) h = absurd (omega arith)
 binary-kind (leaf (selector s)) h = absurd (omega arith)

@@ -11,7 +11,7 @@ use lib.Seq.{getD-drop, take-at, length-take-le}
 use lib.Dec.{eqb}
 use Rattle.page.specs.Bytes.{pick}
 use Rattle.page.proofs.NumberLaws.{Written}
-use Rattle.records.specs.Record.{number, string, selector, range, subquery, at, offset, unary, paren, Record, leaf, wrapper, binary, aggregate, call, writeRecord}
+use Rattle.records.specs.Record.{number, string, selector, range, subquery, at, offset, unary, paren, Record, leaf, wrapper, binary, aggregate, call, writeRecord, recordKind}
 use Rattle.records.proofs.RecordLaws.{record-law}
 use Rattle.copy.specs.RecordCopy.{unaries, copied, copyOfRead, recordCopy, absorbedRead, absorbedOf, absorbed}
 use Rattle.copy.specs.Span.{Spans}
@@ -36,22 +36,8 @@ part-length page from to h = length-take-le (to - from) (drop from page) (omega 
 
 -- ## Kinds
 
-abbrev pub kindByte : Record → ℕ
-kindByte (leaf (number l)) = 0
-kindByte (leaf (string t)) = 1
-kindByte (leaf (selector s)) = 2
-kindByte (wrapper (range n)) = 3
-kindByte (wrapper (subquery r s)) = 4
-kindByte (wrapper (at a)) = 5
-kindByte (wrapper (offset o)) = 6
-kindByte (wrapper unary) = 7
-kindByte (wrapper paren) = 8
-kindByte (binary c m) = 9
-kindByte (aggregate c m n) = 10
-kindByte (call f n) = 11
-
 -- a record is its kind, then its fields
-record-head : (r : Record) → (fields : List ℕ) × (writeRecord r ≡ kindByte r ∷ fields)
+record-head : (r : Record) → (fields : List ℕ) × (writeRecord r ≡ recordKind r ∷ fields)
 unfolding writeRecord
 record-head (leaf (number l)) = (_, refl)
 record-head (leaf (string t)) = (_, refl)
@@ -67,7 +53,7 @@ record-head (aggregate c m n) = (_, refl)
 record-head (call f n) = (_, refl)
 
 -- all but numbers and binaries stay
-other-copied : (r : Record) (rest : List ℕ) → (kindByte r ≡ 0 → ⊥) → (kindByte r ≡ 9 → ⊥) → copied r rest ≡ r
+other-copied : (r : Record) (rest : List ℕ) → (recordKind r ≡ 0 → ⊥) → (recordKind r ≡ 9 → ⊥) → copied r rest ≡ r
 other-copied (leaf (number l)) rest h g = absurd (h refl)
 other-copied (leaf (string t)) rest h g = refl
 other-copied (leaf (selector s)) rest h g = refl
@@ -77,7 +63,7 @@ other-copied (aggregate c m n) rest h g = refl
 other-copied (call f n) rest h g = refl
 
 -- all but numbers take nothing in
-nothing-absorbed : (r : Record) (rest : List ℕ) → (kindByte r ≡ 0 → ⊥) → absorbed r rest ≡ 0
+nothing-absorbed : (r : Record) (rest : List ℕ) → (recordKind r ≡ 0 → ⊥) → absorbed r rest ≡ 0
 nothing-absorbed (leaf (number l)) rest h = absurd (h refl)
 nothing-absorbed (leaf (string t)) rest h = refl
 nothing-absorbed (leaf (selector s)) rest h = refl
@@ -110,14 +96,14 @@ module _ {page : List ℕ} {start next : ℕ} (span : Spans page start next) whe
   pub span-written : drop start page ≡ writeRecord (span .item) ++ drop next page
   span-written = subst (Written writeRecord (drop start page)) (sym (span .reads)) (record-law (drop start page) (drop-bytes start page (span .bytes)))
 
-  headed : drop start page ≡ (kindByte (span .item) ∷ record-head (span .item) .0) ++ drop next page
+  headed : drop start page ≡ (recordKind (span .item) ∷ record-head (span .item) .0) ++ drop next page
   headed = span-written ∙ ap (λ (s : List ℕ). s ++ drop next page) (record-head (span .item) .1)
 
-  pub span-kind : getD page start 0 ≡ kindByte (span .item)
+  pub span-kind : getD page start 0 ≡ recordKind (span .item)
   span-kind = ap (λ (k : ℕ). getD page k 0) (sym (add-zero start)) ∙ sym (getD-drop start page 0 0) ∙ ap (λ (s : List ℕ). getD s 0 0) headed
 
   pub span-wide : start + 1 ≤ next
-  span-wide = omega (arith, part-ends page (kindByte (span .item) ∷ record-head (span .item) .0) start next (span .inside) (omega arith) headed)
+  span-wide = omega (arith, part-ends page (recordKind (span .item) ∷ record-head (span .item) .0) start next (span .inside) (omega arith) headed)
 
   pub span-piece : recordCopy (drop start page) ≡ writeRecord (copied (span .item) (drop next page))
   unfolding recordCopy

@@ -13,12 +13,12 @@ use Rattle.records.specs.Literal.{Literal}
 use Rattle.records.specs.Matcher.{Selector}
 use Rattle.records.specs.Modifier.{LabelModifier, include, exclude, Cardinality, oneToOne, manyToMany, BinModifier}
 use Rattle.records.specs.Time.{Times}
-use Rattle.records.specs.Record.{string, selector, Wrapper, leaf, wrapper, binary}
+use Rattle.records.specs.Record.{string, selector, Wrapper, leaf, wrapper, binary, recordKind}
 use Rattle.text.specs.Display.{displayOperator, displayAggregator}
 use Rattle.text.specs.LaidOut.{Reads}
 use Rattle.text.proofs.EntryLaws.{wrapped}
 use Rattle.fields.specs.Fields.{CallAt, AggregateAt}
-use Rattle.view.specs.View.{Starts, kindOf, NumberAt, Sets, setsNothing, setsRange, setsAt, setsOffset}
+use Rattle.view.specs.View.{Starts, NumberAt, Sets, setsNothing, setsRange, setsAt, setsOffset}
 use Rattle.view.proofs.KindLaws.{reads-same}
 use Rattle.view.proofs.ViewLaws.{number-value}
 use Rattle.view.proofs.ChainedLaws.{sets-low, sets-here}
@@ -66,8 +66,8 @@ module _ {page starts : List ℕ} {i : ℕ} (s : Starts page starts (suc i)) whe
     same-wrapper : v ≡ w
     same-wrapper = let h = reads-same q (subst (λ (p : ℕ). Reads page starts p (wrapper w)) (sym same-record) r) in cc
 
-    same-kind : kindOf (wrapper v) ≡ kindOf (wrapper w)
-    same-kind = ap (λ (x : Wrapper). kindOf (wrapper x)) same-wrapper
+    same-kind : recordKind (wrapper v) ≡ recordKind (wrapper w)
+    same-kind = ap (λ (x : Wrapper). recordKind (wrapper x)) same-wrapper
 
   attached-same : {j k : ℕ} {n m : Option ℕ} {t u : Times} → j ≡ k → Sets page starts i j n t → Sets page starts i k m u → (n ≡ m) × (t ≡ u)
   attached-same e setsNothing setsNothing = (refl, refl)

@@ -7,17 +7,17 @@ use mathlib.Core.List.{List}
 use mathlib.Core.Option.{Option}
 use Rattle.base.proofs.Cases.{by-lt}
 use Rattle.records.specs.Time.{Times}
-use Rattle.records.specs.Record.{number, string, selector, Wrapper, range, subquery, at, offset, unary, paren, Record, leaf, wrapper, binary, aggregate, call}
+use Rattle.records.specs.Record.{number, string, selector, Wrapper, range, subquery, at, offset, unary, paren, Record, leaf, wrapper, binary, aggregate, call, recordKind}
 use Rattle.ast.specs.Tables.{treeAt}
 use Rattle.text.specs.Chain.{settled}
 use Rattle.text.specs.LaidOut.{Reads}
 use Rattle.text.proofs.EntryLaws.{wrapped}
 use Rattle.text.proofs.ChainLaws.{settled-nothing, chain-range, chain-at, chain-offset}
-use Rattle.view.specs.View.{Starts, kindOf, KindAt, isAttached, AttachedAt, Sets, setsNothing, setsRange, setsAt, setsOffset, Chained}
+use Rattle.view.specs.View.{Starts, KindAt, isAttached, AttachedAt, Sets, setsNothing, setsRange, setsAt, setsOffset, Chained}
 use Rattle.view.proofs.ViewLaws.{starts-fewer}
 
 -- record j is the one asked for, or one above it is
-passed : {page starts : List ℕ} {j k : ℕ} {w : Wrapper} → j - 1 < k → Reads page starts j (wrapper w) → isAttached (kindOf (wrapper w)) ≡ true → (j < k → AttachedAt page starts k)
+passed : {page starts : List ℕ} {j k : ℕ} {w : Wrapper} → j - 1 < k → Reads page starts j (wrapper w) → isAttached (recordKind (wrapper w)) ≡ true → (j < k → AttachedAt page starts k)
     → AttachedAt page starts k
 passed {page} {starts} {j} {k} h r part more =
     by-lt j k more (λ le. subst (AttachedAt page starts) (omega (arith, h, le)) (record { kind = _; stands = record { item = _; reads = r; same = refl }; part = part }))
@@ -55,7 +55,7 @@ module _ {page starts : List ℕ} {i : ℕ} where
       pub chained-here : Starts page starts (suc j)
       chained-here = sets-here (chain .sets)
 
-      by-item : (item : Record) → Reads page starts j item → isAttached (kindOf item) ≡ true → (0 < j) × Chained page starts i (j - 1)
+      by-item : (item : Record) → Reads page starts j item → isAttached (recordKind item) ≡ true → (0 < j) × Chained page starts i (j - 1)
       by-item (leaf (number l)) r h = absurd (false≢true h)
       by-item (leaf (string t)) r h = absurd (false≢true h)
       by-item (leaf (selector v)) r h = absurd (false≢true h)

@@ -8,7 +8,7 @@ use mathlib.Core.List.{List, [], _∷_, _++_}
 use mathlib.Core.Option.{Option, none}
 use lib.ListN.{getD}
 use Rattle.records.specs.Time.{Times}
-use Rattle.records.specs.Record.{number, string, selector, range, subquery, at, offset, unary, paren, Record, leaf, wrapper, binary, aggregate, call, operands}
+use Rattle.records.specs.Record.{number, string, selector, range, subquery, at, offset, unary, paren, Record, leaf, wrapper, binary, aggregate, call, operands, recordKind}
 use Rattle.leaves.specs.Numeral.{displayLiteral}
 use Rattle.leaves.specs.Escape.{quote}
 use Rattle.ast.specs.Expr.{scalarValue}
@@ -17,7 +17,7 @@ use Rattle.text.specs.Display.{displaySelector, displayTimes, displaySuffix, di
 use Rattle.text.specs.Layout.{Layout, whole, negation, suffixed, enclosed, infixed, displayRange, layoutOf, head, operator, suffix}
 use Rattle.text.specs.LaidOut.{Reads, LaidOut}
 use Rattle.text.proofs.LaidOutLaws.{laidOut-number, laidOut-string, laidOut-selector, laidOut-subquery, laidOut-paren, laidOut-literal, laidOut-unary, laidOut-binary, laidOut-aggregate, laidOut-call}
-use Rattle.view.specs.View.{Starts, kindOf, KindAt, isAttached, Sets, Valued, FootAt, shapeOf, shaped}
+use Rattle.view.specs.View.{Starts, KindAt, isAttached, Sets, Valued, FootAt, shapeOf, shaped}
 use Rattle.view.specs.declared.Foot.{Foot}
 use Rattle.view.specs.declared.Foot.the-variants as foot
 use Rattle.view.specs.declared.shape.Shape.{Shape}
@@ -43,7 +43,7 @@ layoutBy (aggregate c m k) n u = enclosed (displayAggregator c m)
 layoutBy (call f k) n u = enclosed (f .name)
 
 module _ {page starts : List ℕ} {i j : ℕ} {n : Option ℕ} {u : Times} (s : Starts page starts (suc i)) (above : Sets page starts i j n u) where
-  pub laidOut-item : (item : Record) → Reads page starts j item → isAttached (kindOf item) ≡ false → (kindOf item ≡ 7 → scalarValue (treeAt page j) ≡ none)
+  pub laidOut-item : (item : Record) → Reads page starts j item → isAttached (recordKind item) ≡ false → (recordKind item ≡ 7 → scalarValue (treeAt page j) ≡ none)
       → LaidOut page i (layoutBy item n u) j (operands item)
   laidOut-item (leaf (number l)) r h v = laidOut-number (s .tables) j (sets-low above) n u (sets-tree s above) l r
   laidOut-item (leaf (string t)) r h v = laidOut-string (s .tables) j (sets-low above) n u (sets-tree s above) t r
@@ -91,7 +91,7 @@ shape-shaped (suffixed t) = refl
 shape-shaped (enclosed t) = refl
 shape-shaped (infixed t) = refl
 
-by-kind : (item : Record) (n : Option ℕ) (u : Times) → (layoutShape (layoutBy item n u) ≡ shapeBy (kindOf item)) × (operands item ≡ getD counts (kindOf item) (operands item))
+by-kind : (item : Record) (n : Option ℕ) (u : Times) → (layoutShape (layoutBy item n u) ≡ shapeBy (recordKind item)) × (operands item ≡ getD counts (recordKind item) (operands item))
 by-kind (leaf (number l)) n u = (refl, refl)
 by-kind (leaf (string t)) n u = (refl, refl)
 by-kind (leaf (selector s)) n u = (refl, refl)

@@ -21,18 +21,18 @@ use Rattle.records.specs.Matcher.{readMatcher}
 use Rattle.records.specs.Modifier.{readLabelModifier, readBinModifier}
 use Rattle.records.specs.Time.{readAtModifier, readOffset}
 use Rattle.records.specs.Signature.{readFunction}
-use Rattle.records.specs.Record.{number, string, selector, range, subquery, at, offset, unary, paren, Record, leaf, wrapper, binary, aggregate, call, readCode, recordForms, readRecord}
+use Rattle.records.specs.Record.{number, string, selector, range, subquery, at, offset, unary, paren, Record, leaf, wrapper, binary, aggregate, call, readCode, recordForms, readRecord, recordKind}
 use Rattle.text.specs.LaidOut.{Reads}
-use Rattle.view.specs.View.{Starts, kindOf, KindAt}
+use Rattle.view.specs.View.{Starts, KindAt}
 
 -- ## Forms
 
 -- the forms of these places give records of their places' numbers
 abbrev EachKind : ℕ → List (Reader Record) → Type 0
 EachKind k [] = Unit {0}
-EachKind k (r ∷ rs) = Gives r (λ item. kindOf item ≡ k) × EachKind (suc k) rs
+EachKind k (r ∷ rs) = Gives r (λ item. recordKind item ≡ k) × EachKind (suc k) rs
 
-at-kind : (k : ℕ) (rs : List (Reader Record)) → EachKind k rs → (n : ℕ) → Gives (readerAt rs n) (λ item. kindOf item ≡ k + n)
+at-kind : (k : ℕ) (rs : List (Reader Record)) → EachKind k rs → (n : ℕ) → Gives (readerAt rs n) (λ item. recordKind item ≡ k + n)
 at-kind k [] h n = record { gives = λ s. tt }
 at-kind k (r ∷ rs) h zero = gives-as (h .0) (λ item e. omega (arith, e))
 at-kind k (r ∷ rs) h (suc n) = gives-as (at-kind (suc k) rs (h .1) n) (λ item e. omega (arith, e))
@@ -76,7 +76,7 @@ each-kind = (
   ),
 )
 
-kind-given : (n : ℕ) (s : List ℕ) {item : Record} {rest : List ℕ} → got item rest ≡ readerAt recordForms n s → kindOf item ≡ n
+kind-given : (n : ℕ) (s : List ℕ) {item : Record} {rest : List ℕ} → got item rest ≡ readerAt recordForms n s → recordKind item ≡ n
 kind-given n s e = let same = rw (← e) at (at-kind 0 recordForms each-kind n .gives s) in omega (arith, same)
 
 -- ## The first byte
@@ -118,8 +118,8 @@ reads-same r s = same (r .reads ∙ sym (s .reads))
     same : {a b : Record} {t u : List ℕ} → got a t ≡ got b u → a ≡ b
     same h = cc
 
-pub kind-same : {page starts : List ℕ} {i k : ℕ} {item : Record} → KindAt page starts i k → Reads page starts i item → kindOf item ≡ k
-kind-same k r = ap kindOf (reads-same r (k .reads)) ∙ k .same
+pub kind-same : {page starts : List ℕ} {i k : ℕ} {item : Record} → KindAt page starts i k → Reads page starts i item → recordKind item ≡ k
+kind-same k r = ap recordKind (reads-same r (k .reads)) ∙ k .same
 
 -- a record of the tables can be read
 pub unreadable : {page starts : List ℕ} {i : ℕ} (f : FieldFault) → Starts page starts (suc i) → refused f ≡ readRecord (drop (getD starts i 0) page) → ⊥

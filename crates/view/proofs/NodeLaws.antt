@@ -11,14 +11,14 @@ use lib.Dec.{eqb}
 use borrow.Author.Tests.{eqb-false}
 use Rattle.records.specs.Literal.{Literal, readLiteral}
 use Rattle.records.specs.Time.{Times}
-use Rattle.records.specs.Record.{number, string, selector, range, subquery, at, offset, unary, paren, Record, leaf, wrapper, binary, aggregate, call, operands}
+use Rattle.records.specs.Record.{number, string, selector, range, subquery, at, offset, unary, paren, Record, leaf, wrapper, binary, aggregate, call, operands, recordKind}
 use Rattle.leaves.specs.Numeral.{displayLiteral}
 use Rattle.ast.specs.Expr.{scalarValue}
 use Rattle.ast.specs.Tables.{treeAt}
 use Rattle.text.specs.Layout.{whole, layoutOf, head, operator, suffix}
 use Rattle.text.specs.LaidOut.{Reads, LaidOut}
 use Rattle.text.proofs.ValueLaws.{settled-value}
-use Rattle.view.specs.View.{Starts, kindOf, KindAt, TakesAt, isAttached, Sets, Chained, FootOf, NumberAt, bare, Valued, Numberless, FootAt, NodeAt, layoutAt, Viewed, isMinus, shapeOf, shaped}
+use Rattle.view.specs.View.{Starts, KindAt, TakesAt, isAttached, Sets, Chained, FootOf, NumberAt, bare, Valued, Numberless, FootAt, NodeAt, layoutAt, Viewed, isMinus, shapeOf, shaped}
 use Rattle.view.specs.declared.Foot.{Foot}
 use Rattle.view.specs.declared.Foot.the-variants as foot
 use Rattle.view.specs.declared.Node.{Node}
@@ -94,10 +94,10 @@ module _ {page starts : List ℕ} {node : Node} (n : NodeAt page starts node) wh
 
   -- its layout is that of the record at its foot, unless this is a sign, under what the records above set
   pub layout-read : {r : Option ℕ} {u : Times} → Sets page starts (node .top) (node .base) r u → {item : Record} → Reads page starts (node .base) item
-      → isAttached (kindOf item) || eqb (kindOf item) 7 ≡ false → layoutAt page node ≡ layoutBy item r u
+      → isAttached (recordKind item) || eqb (recordKind item) 7 ≡ false → layoutAt page node ≡ layoutBy item r u
   layout-read s {item} is plain =
-      let h = neither (isAttached (kindOf item)) (eqb (kindOf item) 7) plain in
-      laidOut-item (n .known) s item is (h .0) (λ e. absurd (eqb-false (kindOf item) 7 (h .1) e)) .layout
+      let h = neither (isAttached (recordKind item)) (eqb (recordKind item) 7) plain in
+      laidOut-item (n .known) s item is (h .0) (λ e. absurd (eqb-false (recordKind item) 7 (h .1) e)) .layout
     where
       neither : (a b : Bool) → a || b ≡ false → (a ≡ false) × (b ≡ false)
       neither false b h = (refl, h)
@@ -125,8 +125,8 @@ minus-numberless {page} {starts} {i} {node} w m =
 
 -- ## The last kind
 
-last-kind : (item : Record) → isAttached (kindOf item) ≡ false → (kindOf item ≡ 0 → ⊥) → (kindOf item ≡ 1 → ⊥) → (kindOf item ≡ 2 → ⊥) → (kindOf item ≡ 4 → ⊥)
-    → (kindOf item ≡ 7 → ⊥) → (kindOf item ≡ 8 → ⊥) → (kindOf item ≡ 9 → ⊥) → (kindOf item ≡ 10 → ⊥) → kindOf item ≡ 11
+last-kind : (item : Record) → isAttached (recordKind item) ≡ false → (recordKind item ≡ 0 → ⊥) → (recordKind item ≡ 1 → ⊥) → (recordKind item ≡ 2 → ⊥) → (recordKind item ≡ 4 → ⊥)
+    → (recordKind item ≡ 7 → ⊥) → (recordKind item ≡ 8 → ⊥) → (recordKind item ≡ 9 → ⊥) → (recordKind item ≡ 10 → ⊥) → recordKind item ≡ 11
 last-kind (leaf (number l)) h a b c d e f g k = absurd (a refl)
 last-kind (leaf (string t)) h a b c d e f g k = absurd (b refl)
 last-kind (leaf (selector s)) h a b c d e f g k = absurd (c refl)

@@ -8,14 +8,14 @@ use mathlib.Core.Option.{none, some}
 use lib.ListN.{drop, getD}
 use Rattle.page.specs.Read.{got}
 use Rattle.records.specs.Literal.{Literal, plus, minus, nan, negate}
-use Rattle.records.specs.Record.{number, string, selector, range, subquery, at, offset, unary, paren, Record, leaf, wrapper, binary, aggregate, call, operands, readRecord}
+use Rattle.records.specs.Record.{number, string, selector, range, subquery, at, offset, unary, paren, Record, leaf, wrapper, binary, aggregate, call, operands, readRecord, recordKind}
 use Rattle.ast.specs.Expr.{scalarValue}
 use Rattle.ast.specs.Tables.{treeAt, Tables}
 use Rattle.text.specs.LaidOut.{Reads}
 use Rattle.text.proofs.OperandLaws.{fewer}
 use Rattle.text.proofs.EntryLaws.{wrapped, leaf-tree, negated, unary-value}
 use Rattle.text.proofs.ValueLaws.{signed, signed-none, signed-unary, Unsigned, valueless}
-use Rattle.view.specs.View.{Starts, Numberless, kindOf, KindAt, TakesAt, NumberAt, bare, turned}
+use Rattle.view.specs.View.{Starts, Numberless, KindAt, TakesAt, NumberAt, bare, turned}
 use Rattle.view.proofs.KindLaws.{fields}
 
 pub starts-of : {page starts firsts : List ℕ} {n : ℕ} → Tables page starts firsts n → Starts page starts n
@@ -59,7 +59,7 @@ pub descends-start : (page starts : List ℕ) (i : ℕ) → Descends page starts
 descends-start page starts i = record { low = omega arith; value = refl; number = λ l n. n }
 
 -- a record that is no number and no unary one
-other-kind : (item : Record) → (kindOf item ≡ 0 → ⊥) → (kindOf item ≡ 7 → ⊥) → Unsigned item
+other-kind : (item : Record) → (recordKind item ≡ 0 → ⊥) → (recordKind item ≡ 7 → ⊥) → Unsigned item
 other-kind (leaf (number l)) h k = h refl
 other-kind (leaf (string t)) h k = tt
 other-kind (leaf (selector s)) h k = tt

@@ -9,12 +9,12 @@ use mathlib.Core.Option.{Option, none, some}
 use lib.ListN.{length, take, getD, length-take, length-reverse}
 use Rattle.base.proofs.Cases.{by-lt}
 use Rattle.records.specs.Literal.{Literal}
-use Rattle.records.specs.Record.{Record}
+use Rattle.records.specs.Record.{Record, recordKind}
 use Rattle.ast.specs.Expr.{scalarValue}
 use Rattle.ast.specs.Tables.{treeAt, stackAt}
 use Rattle.text.specs.Layout.{Layout, children}
 use Rattle.text.specs.LaidOut.{Reads, LaidOut}
-use Rattle.view.specs.View.{Starts, kindOf, isAttached, AttachedAt, NumberAt, bare, turned, FootAt, Viewed}
+use Rattle.view.specs.View.{Starts, isAttached, AttachedAt, NumberAt, bare, turned, FootAt, Viewed}
 use Rattle.view.specs.declared.Foot.{Foot}
 use Rattle.view.specs.declared.Foot.the-variants as foot
 use Rattle.view.specs.declared.Node.{Node}
@@ -38,14 +38,14 @@ footBy kind v =
 
 module _ {page starts : List ℕ} {j : ℕ} (s : Starts page starts (suc j)) {item : Record} (r : Reads page starts j item) where
   abbrev FootBy : Foot → Type 0
-  FootBy f = (f ≡ footBy (kindOf item) (scalarValue (treeAt page j))) × (isAttached (kindOf item) ≡ false)
+  FootBy f = (f ≡ footBy (recordKind item) (scalarValue (treeAt page j))) × (isAttached (recordKind item) ≡ false)
 
-  of-kind : {f : Foot} (kind : ℕ) → kindOf item ≡ kind → f ≡ footBy kind (scalarValue (treeAt page j)) → isAttached kind ≡ false → FootBy f
+  of-kind : {f : Foot} (kind : ℕ) → recordKind item ≡ kind → f ≡ footBy kind (scalarValue (treeAt page j)) → isAttached kind ≡ false → FootBy f
   of-kind kind k e h = (e ∙ ap (λ (n : ℕ). footBy n (scalarValue (treeAt page j))) (sym k), ap isAttached k ∙ h)
 
   of-number : {l : Literal} → NumberAt page starts j l → scalarValue (treeAt page j) ≡ some l → FootBy foot.Number
-  of-number (bare n) v = of-kind 0 (ap kindOf (reads-same r n)) refl refl
-  of-number (turned u n) v = of-kind 7 (ap kindOf (reads-same r u)) (ap minusBy (sym v)) refl
+  of-number (bare n) v = of-kind 0 (ap recordKind (reads-same r n)) refl refl
+  of-number (turned u n) v = of-kind 7 (ap recordKind (reads-same r u)) (ap minusBy (sym v)) refl
 
   foot-by : (f : Foot) → FootAt page starts j f → FootBy f
   foot-by foot.Number v = of-number (v .is) (number-value s (v .is))

@@ -8,7 +8,7 @@ use lib.Dec.{eqb}
 use Rattle.records.specs.Literal as literal
 use Rattle.records.specs.Time.{Times, AtModifier, Offset}
 use Rattle.records.specs.Answers.{literalOf}
-use Rattle.records.specs.Record.{number, string, selector, range, subquery, at, offset, unary, paren, Record, leaf, wrapper, binary, aggregate, call, operands}
+use Rattle.records.specs.Record.{number, string, selector, range, subquery, at, offset, unary, paren, Record, leaf, wrapper, binary, aggregate, call, operands, recordKind}
 use Rattle.ast.specs.Expr.{scalarValue}
 use Rattle.ast.specs.Construct.{noTimes}
 use Rattle.ast.specs.Tables.{Tables, treeAt}
@@ -30,26 +30,11 @@ pub record Starts (page starts : List ℕ) (n : ℕ) : Type 0 where
 
 -- ## Records
 
--- the number that a record begins with (document 01, 'The page')
-abbrev pub kindOf : Record → ℕ
-kindOf (leaf (number l)) = 0
-kindOf (leaf (string t)) = 1
-kindOf (leaf (selector s)) = 2
-kindOf (wrapper (range n)) = 3
-kindOf (wrapper (subquery n s)) = 4
-kindOf (wrapper (at a)) = 5
-kindOf (wrapper (offset o)) = 6
-kindOf (wrapper unary) = 7
-kindOf (wrapper paren) = 8
-kindOf (binary c m) = 9
-kindOf (aggregate c m n) = 10
-kindOf (call f n) = 11
-
 -- record i is of this kind
 pub record KindAt (page starts : List ℕ) (i kind : ℕ) : Type 0 where
   pub item : Record
   pub reads : Reads page starts i item
-  pub same : kindOf item ≡ kind
+  pub same : recordKind item ≡ kind
 
 -- record i takes so many operands
 pub record TakesAt (page starts : List ℕ) (i count : ℕ) : Type 0 where
