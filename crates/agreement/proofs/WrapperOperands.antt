@@ -4,7 +4,7 @@ use Prim.Native.Nat.{ℕ}
 use mathlib.Core.Path.{_≡_, refl}
 use mathlib.Core.Bool.{Bool, true, false, _&&_, not}
 use mathlib.Core.List.{[], _∷_}
-use mathlib.Core.Option.{Option, none, some, Option·none-ne-some}
+use mathlib.Core.Option.{none, some}
 use lib.Dec.{T}
 use Rattle.page.specs.Bytes.{all, isEmpty, any}
 use Rattle.records.specs.Kind.{vector, matrix, isVector}
@@ -13,9 +13,9 @@ use Rattle.records.specs.Time.{Times, AtModifier, Offset}
 use Rattle.ast.specs.Refusal.{unless, when, orElse, firstFault, andThen}
 use Rattle.records.specs.Record.{range, at, offset, unary, wrapper}
 use Rattle.ast.specs.Expr.{Expr, Aggregate, AggregateParam, Unary, Binary, Paren, Subquery, NumberLiteral, StringLiteral, VectorSelector, MatrixSelector, Call, valueType, scalarValue, timesOf, withTimes}
-use Rattle.ast.specs.Construct.{atWith, setAt, offsetWith, setOffset, rangeAfter}
 use Rattle.records.specs.Matcher.{isNameMatcher, matchesEmpty}
 use Rattle.ast.specs.CheckAst.{checkAst, unaryRows, selectorRows}
+use Rattle.ast.proofs.ConstructLaws.{newMatrixSelector-by, atExpr-by, offsetExpr-by, timesOf-by}
 use Rattle.working_out.specs.Asked.{isNumeric}
 use Rattle.working_out.specs.WorkingOut.{wrapperNumber}
 use Rattle.agreement.proofs.Bools.{not-not}
@@ -34,26 +34,11 @@ pub selectorOperand : (s : Selector) (t : Times) → NodeClaim true true true ve
 unfolding checkAst
 selectorOperand s t = fromFault (firstFault (selectorRows s)) true true true (VectorSelector s t) (selectorClaim s) tt
 
-rangeOperand : (n : ℕ) (s : Selector) (t : Times) (o : Option Offset) (a : Option AtModifier)
-    → NodeClaim true true true matrix none (andThen (rangeAfter o a (MatrixSelector s t n)) checkAst)
-unfolding checkAst
-rangeOperand n s t none none = ((λ o. (tt, tt)), refl, refl, tt)
-rangeOperand n s t none (some a) = λ k. absurd k
-rangeOperand n s t (some o) a = λ k. absurd k
-
 pub rangeOne : (n : ℕ) (e : Expr) → NodeClaim true true true matrix none (operandOf (wrapper (range n)) (e ∷ []))
 unfolding checkAst
-rangeOne n (Aggregate c m e) = λ k. absurd k
-rangeOne n (AggregateParam c m p e) = λ k. absurd k
-rangeOne n (Unary e) = λ k. absurd k
-rangeOne n (Binary c m l r) = λ k. absurd k
-rangeOne n (Paren e) = λ k. absurd k
-rangeOne n (Subquery e r s t) = λ k. absurd k
-rangeOne n (NumberLiteral l) = λ k. absurd k
-rangeOne n (StringLiteral t) = λ k. absurd k
-rangeOne n (VectorSelector s t) = rangeOperand n s t (t .offset) (t .at)
-rangeOne n (MatrixSelector s t r) = λ k. absurd k
-rangeOne n (Call f es) = λ k. absurd k
+rangeOne n e =
+    newMatrixSelector-by (λ made. NodeClaim true true true matrix none (andThen made checkAst)) n e (λ k. absurd k) (λ k. absurd k) (λ k. absurd k)
+    (λ s t q. ((λ o. (tt, tt)), refl, refl, tt))
 
 -- ## Subqueries
 
@@ -73,39 +58,21 @@ formedNode false e h q r g = absurd h
 -- the heldOperands that have @ and offset, with others
 timesNode : (u : Times) (e : Expr) (t : Times) → timesOf e ≡ some t → T (isFormed e) → NodeClaim true true true (valueType e) none (checkAst (withTimes u e))
 unfolding checkAst
-timesNode u (Aggregate c m e) t q h = absurd (Option·none-ne-some t q)
-timesNode u (AggregateParam c m p e) t q h = absurd (Option·none-ne-some t q)
-timesNode u (Unary e) t q h = absurd (Option·none-ne-some t q)
-timesNode u (Binary c m l r) t q h = absurd (Option·none-ne-some t q)
-timesNode u (Paren e) t q h = absurd (Option·none-ne-some t q)
-timesNode u (Subquery e r s v) t q h = formedNode (isVector (valueType e)) (Subquery e r s u) h refl refl h
-timesNode u (NumberLiteral l) t q h = absurd (Option·none-ne-some t q)
-timesNode u (StringLiteral x) t q h = absurd (Option·none-ne-some t q)
-timesNode u (VectorSelector s v) t q h = selectorOperand s u
-timesNode u (MatrixSelector s v r) t q h = ((λ o. (tt, tt)), refl, refl, tt)
-timesNode u (Call f es) t q h = absurd (Option·none-ne-some t q)
+timesNode u =
+    timesOf-by (λ e t. T (isFormed e) → NodeClaim true true true (valueType e) none (checkAst (withTimes u e)))
+    (λ e r s t h. formedNode (isVector (valueType e)) (Subquery e r s u) h refl refl h)
+    (λ s t h. selectorOperand s u)
+    (λ s t r h. ((λ o. (tt, tt)), refl, refl, tt))
 
 pub atOne : (a : AtModifier) (e : Expr) → T (isFormed e) → NodeClaim true true true (valueType e) none (operandOf (wrapper (at a)) (e ∷ []))
-atOne a e h = by (timesOf e) refl
-  where
-    set : (t : Times) → timesOf e ≡ some t → (x : Option AtModifier) → NodeClaim true true true (valueType e) none (andThen (setAt a x t e) checkAst)
-    set t q none = timesNode _ e t q h
-    set t q (some b) = λ k. absurd k
-
-    by : (t : Option Times) → timesOf e ≡ t → NodeClaim true true true (valueType e) none (andThen (atWith a t e) checkAst)
-    by none q = λ k. absurd k
-    by (some t) q = set t q (t .at)
+atOne a e h =
+    atExpr-by (λ made. NodeClaim true true true (valueType e) none (andThen made checkAst)) a e (λ k. absurd k) (λ k. absurd k)
+    (λ t q free. timesNode _ e t q h)
 
 pub offsetOne : (o : Offset) (e : Expr) → T (isFormed e) → NodeClaim true true true (valueType e) none (operandOf (wrapper (offset o)) (e ∷ []))
-offsetOne o e h = by (timesOf e) refl
-  where
-    set : (t : Times) → timesOf e ≡ some t → (x : Option Offset) → NodeClaim true true true (valueType e) none (andThen (setOffset o x t e) checkAst)
-    set t q none = timesNode _ e t q h
-    set t q (some b) = λ k. absurd k
-
-    by : (t : Option Times) → timesOf e ≡ t → NodeClaim true true true (valueType e) none (andThen (offsetWith o t e) checkAst)
-    by none q = λ k. absurd k
-    by (some t) q = set t q (t .offset)
+offsetOne o e h =
+    offsetExpr-by (λ made. NodeClaim true true true (valueType e) none (andThen made checkAst)) o e (λ k. absurd k) (λ k. absurd k)
+    (λ t q free. timesNode _ e t q h)
 
 -- ## Unary
 

@@ -16,11 +16,12 @@ use Rattle.records.specs.Time.{Times, AtModifier, Offset}
 use Rattle.records.specs.Stack.{operandsOf}
 use Rattle.records.specs.Record.{Leaf, number, string, selector, Wrapper, range, subquery, at, offset, unary, paren, Record, leaf, wrapper, binary, aggregate, call}
 use Rattle.ast.specs.Refusal.{firstFault, Result, refused, ok, unless, andThen}
-use Rattle.ast.specs.Expr.{Expr, Aggregate, AggregateParam, Unary, Binary, Paren, Subquery, NumberLiteral, StringLiteral, VectorSelector, MatrixSelector, Call, argsOf, valueType, withTimes}
-use Rattle.ast.specs.Construct.{newUnary, newMatrixSelector, rangeAfter, setAt, atExpr, setOffset, offsetExpr, newAggregate, newAggregateOf}
+use Rattle.ast.specs.Expr.{Expr, Aggregate, AggregateParam, Unary, Binary, Paren, Subquery, NumberLiteral, StringLiteral, VectorSelector, MatrixSelector, Call, argsOf, valueType, timesOf, withTimes}
+use Rattle.ast.specs.Construct.{newUnary, newMatrixSelector, atExpr, offsetExpr, newAggregate, newAggregateOf}
 use Rattle.ast.specs.CheckAst.{binaryRows, checkedModifier, aggregateRows, callRows, kindsOf, firstLiteral, unaryRows, subqueryRows, selectorRows, checkAst}
 use Rattle.ast.specs.CheckPage.{leafExpr, wrap, push, apply}
 use Rattle.records.specs.Allowed.{IsAllowed}
+use Rattle.ast.proofs.ConstructLaws.{newMatrixSelector-by, atExpr-by, offsetExpr-by, timesOf-by}
 
 -- a tree that can stand on the stack
 abbrev pub Sound : Expr → Type 0
@@ -124,57 +125,18 @@ unary-exact (VectorSelector s t) h = tt
 unary-exact (MatrixSelector s t r) h = tt
 unary-exact (Call f es) h = tt
 
-after-exact : (o : Option Offset) (a : Option AtModifier) (e : Expr) → HasExact e → MadeExact (rangeAfter o a e)
-after-exact none none e h = h
-after-exact none (some a) e h = tt
-after-exact (some o) a e h = tt
-
 range-exact : (n : ℕ) (e : Expr) → MadeExact (newMatrixSelector n e)
-range-exact n (Aggregate c m e) = tt
-range-exact n (AggregateParam c m p e) = tt
-range-exact n (Unary e) = tt
-range-exact n (Binary c m l r) = tt
-range-exact n (Paren e) = tt
-range-exact n (Subquery e r s t) = tt
-range-exact n (NumberLiteral l) = tt
-range-exact n (StringLiteral t) = tt
-range-exact n (VectorSelector s t) = after-exact (t .offset) (t .at) (MatrixSelector s t n) tt
-range-exact n (MatrixSelector s t r) = tt
-range-exact n (Call f es) = tt
+range-exact n e = newMatrixSelector-by MadeExact n e tt tt tt (λ s t q. tt)
 
-setAt-exact : (a : AtModifier) (x : Option AtModifier) (t : Times) (e : Expr) → HasExact (withTimes (record { at = some a; offset = t .offset }) e) → MadeExact (setAt a x t e)
-setAt-exact a none t e h = h
-setAt-exact a (some b) t e h = tt
+-- a node with other @ and offset is no number
+withTimes-exact : (u : Times) (e : Expr) (t : Times) → timesOf e ≡ some t → HasExact (withTimes u e)
+withTimes-exact u = timesOf-by (λ e t. HasExact (withTimes u e)) (λ e r s t. tt) (λ s t. tt) (λ s t r. tt)
 
 at-exact : (a : AtModifier) (e : Expr) → MadeExact (atExpr a e)
-at-exact a (Aggregate c m e) = tt
-at-exact a (AggregateParam c m p e) = tt
-at-exact a (Unary e) = tt
-at-exact a (Binary c m l r) = tt
-at-exact a (Paren e) = tt
-at-exact a (Subquery e r s t) = setAt-exact a (t .at) t (Subquery e r s t) tt
-at-exact a (NumberLiteral l) = tt
-at-exact a (StringLiteral t) = tt
-at-exact a (VectorSelector s t) = setAt-exact a (t .at) t (VectorSelector s t) tt
-at-exact a (MatrixSelector s t r) = setAt-exact a (t .at) t (MatrixSelector s t r) tt
-at-exact a (Call f es) = tt
-
-setOffset-exact : (o : Offset) (x : Option Offset) (t : Times) (e : Expr) → HasExact (withTimes (record { at = t .at; offset = some o }) e) → MadeExact (setOffset o x t e)
-setOffset-exact o none t e h = h
-setOffset-exact o (some b) t e h = tt
+at-exact a e = atExpr-by MadeExact a e tt tt (λ t q free. withTimes-exact _ e t q)
 
 offset-exact : (o : Offset) (e : Expr) → MadeExact (offsetExpr o e)
-offset-exact o (Aggregate c m e) = tt
-offset-exact o (AggregateParam c m p e) = tt
-offset-exact o (Unary e) = tt
-offset-exact o (Binary c m l r) = tt
-offset-exact o (Paren e) = tt
-offset-exact o (Subquery e r s t) = setOffset-exact o (t .offset) t (Subquery e r s t) tt
-offset-exact o (NumberLiteral l) = tt
-offset-exact o (StringLiteral t) = tt
-offset-exact o (VectorSelector s t) = setOffset-exact o (t .offset) t (VectorSelector s t) tt
-offset-exact o (MatrixSelector s t r) = setOffset-exact o (t .offset) t (MatrixSelector s t r) tt
-offset-exact o (Call f es) = tt
+offset-exact o e = offsetExpr-by MadeExact o e tt tt (λ t q free. withTimes-exact _ e t q)
 
 wrap-exact : (w : Wrapper) (e : Expr) → Sound e → MadeExact (wrap w e)
 wrap-exact (range n) e h = range-exact n e

@@ -7,10 +7,11 @@ use mathlib.Core.Option.{Option, none, some}
 use Rattle.records.specs.Time.{Times, AtModifier, Offset}
 use Rattle.records.specs.Record.{Wrapper, range, at, offset, wrapper}
 use Rattle.ast.specs.Refusal.{ok}
-use Rattle.ast.specs.Expr.{Expr, Aggregate, AggregateParam, Unary, Binary, Paren, Subquery, NumberLiteral, StringLiteral, VectorSelector, MatrixSelector, Call}
-use Rattle.ast.specs.Construct.{rangeAfter, newMatrixSelector, setAt, atExpr, setOffset, offsetExpr, noTimes}
+use Rattle.ast.specs.Expr.{Expr, Aggregate, AggregateParam, Unary, Binary, Paren, Subquery, NumberLiteral, StringLiteral, VectorSelector, MatrixSelector, Call, timesOf, withTimes}
+use Rattle.ast.specs.Construct.{newMatrixSelector, atExpr, offsetExpr, noTimes}
 use Rattle.ast.specs.CheckPage.{wrap}
 use Rattle.ast.specs.Tables.{treeAt, Tables}
+use Rattle.ast.proofs.ConstructLaws.{newMatrixSelector-by, atExpr-by, offsetExpr-by, timesOf-by}
 use Rattle.text.specs.Chain.{orElse, overlaid, withAt, withOffset, ranged, settled}
 use Rattle.text.specs.LaidOut.{Reads}
 use Rattle.text.proofs.TreeLaws.{checkedExpr}
@@ -29,81 +30,33 @@ overlaid-nothing t = by (t .at) (t .offset)
 
 pub range-settled : (r : ℕ) (n : Option ℕ) (u : Times) (e node : Expr) → newMatrixSelector r e ≡ ok node → settled n u (checkedExpr node) ≡ settled (some r) u e
 unfolding settled
-range-settled r n u (Aggregate c m e) node h = cc
-range-settled r n u (AggregateParam c m p e) node h = cc
-range-settled r n u (Unary e) node h = cc
-range-settled r n u (Binary c m x y) node h = cc
-range-settled r n u (Paren e) node h = cc
-range-settled r n u (Subquery e q s t) node h = cc
-range-settled r n u (NumberLiteral l) node h = cc
-range-settled r n u (StringLiteral x) node h = cc
-range-settled r n u (VectorSelector s t) node h = by (t .offset) (t .at) h
-  where
-    by : (o : Option Offset) (a : Option AtModifier) → rangeAfter o a (MatrixSelector s t r) ≡ ok node
-        → settled n u (checkedExpr node) ≡ settled (some r) u (VectorSelector s t)
-    by none none k = let same : node ≡ MatrixSelector s t r = cc in rw same
-    by none (some a) k = cc
-    by (some o) a k = cc
-range-settled r n u (MatrixSelector s t q) node h = cc
-range-settled r n u (Call f es) node h = cc
+range-settled r n u e node =
+    newMatrixSelector-by (λ made. made ≡ ok node → settled n u (checkedExpr node) ≡ settled (some r) u e) r e (λ h. cc) (λ h. cc) (λ h. cc)
+    (λ s t q h. let same : node ≡ MatrixSelector s t r = cc in rw (same, q))
+
+-- other @ and offset on a node, and some settled on it: those that there are in the end
+settled-times : (n : Option ℕ) (u v w : Times) (e : Expr) (t : Times) → timesOf e ≡ some t → overlaid v u ≡ overlaid t w
+    → settled n u (checkedExpr (withTimes v e)) ≡ settled n w e
+unfolding settled
+settled-times n u v w =
+    timesOf-by (λ e t. overlaid v u ≡ overlaid t w → settled n u (checkedExpr (withTimes v e)) ≡ settled n w e)
+    (λ e r s t same. ap (Subquery e r s) same)
+    (λ s t same. ap (ranged n s) same)
+    (λ s t r same. ap (λ (x : Times). MatrixSelector s x r) same)
 
 pub at-settled : (a : AtModifier) (n : Option ℕ) (u : Times) (e node : Expr) → atExpr a e ≡ ok node → settled n u (checkedExpr node) ≡ settled n (withAt a u) e
-unfolding settled
-at-settled a n u (Aggregate c m e) node h = cc
-at-settled a n u (AggregateParam c m p e) node h = cc
-at-settled a n u (Unary e) node h = cc
-at-settled a n u (Binary c m x y) node h = cc
-at-settled a n u (Paren e) node h = cc
-at-settled a n u (Subquery e q s t) node h = by (t .at) h
-  where
-    by : (x : Option AtModifier) → setAt a x t (Subquery e q s t) ≡ ok node
-        → settled n u (checkedExpr node) ≡ Subquery e q s (record { at = orElse x (some a); offset = orElse (t .offset) (u .offset) })
-    by none k = let same : node ≡ Subquery e q s (withAt a t) = cc in rw same
-    by (some b) k = cc
-at-settled a n u (NumberLiteral l) node h = cc
-at-settled a n u (StringLiteral x) node h = cc
-at-settled a n u (VectorSelector s t) node h = by (t .at) h
-  where
-    by : (x : Option AtModifier) → setAt a x t (VectorSelector s t) ≡ ok node
-        → settled n u (checkedExpr node) ≡ ranged n s (record { at = orElse x (some a); offset = orElse (t .offset) (u .offset) })
-    by none k = let same : node ≡ VectorSelector s (withAt a t) = cc in rw same
-    by (some b) k = cc
-at-settled a n u (MatrixSelector s t q) node h = by (t .at) h
-  where
-    by : (x : Option AtModifier) → setAt a x t (MatrixSelector s t q) ≡ ok node
-        → settled n u (checkedExpr node) ≡ MatrixSelector s (record { at = orElse x (some a); offset = orElse (t .offset) (u .offset) }) q
-    by none k = let same : node ≡ MatrixSelector s (withAt a t) q = cc in rw same
-    by (some b) k = cc
-at-settled a n u (Call f es) node h = cc
+at-settled a n u e node =
+    atExpr-by (λ made. made ≡ ok node → settled n u (checkedExpr node) ≡ settled n (withAt a u) e) a e (λ h. cc) (λ h. cc)
+    (λ t q free h.
+    let is : node ≡ withTimes (withAt a t) e = cc in
+    rw is (settled-times n u (withAt a t) (withAt a u) e t q (rw free)))
 
 pub offset-settled : (o : Offset) (n : Option ℕ) (u : Times) (e node : Expr) → offsetExpr o e ≡ ok node → settled n u (checkedExpr node) ≡ settled n (withOffset o u) e
-unfolding settled
-offset-settled o n u (Aggregate c m e) node h = cc
-offset-settled o n u (AggregateParam c m p e) node h = cc
-offset-settled o n u (Unary e) node h = cc
-offset-settled o n u (Binary c m x y) node h = cc
-offset-settled o n u (Paren e) node h = cc
-offset-settled o n u (Subquery e q s t) node h = by (t .offset) h
-  where
-    by : (x : Option Offset) → setOffset o x t (Subquery e q s t) ≡ ok node
-        → settled n u (checkedExpr node) ≡ Subquery e q s (record { at = orElse (t .at) (u .at); offset = orElse x (some o) })
-    by none k = let same : node ≡ Subquery e q s (withOffset o t) = cc in rw same
-    by (some b) k = cc
-offset-settled o n u (NumberLiteral l) node h = cc
-offset-settled o n u (StringLiteral x) node h = cc
-offset-settled o n u (VectorSelector s t) node h = by (t .offset) h
-  where
-    by : (x : Option Offset) → setOffset o x t (VectorSelector s t) ≡ ok node
-        → settled n u (checkedExpr node) ≡ ranged n s (record { at = orElse (t .at) (u .at); offset = orElse x (some o) })
-    by none k = let same : node ≡ VectorSelector s (withOffset o t) = cc in rw same
-    by (some b) k = cc
-offset-settled o n u (MatrixSelector s t q) node h = by (t .offset) h
-  where
-    by : (x : Option Offset) → setOffset o x t (MatrixSelector s t q) ≡ ok node
-        → settled n u (checkedExpr node) ≡ MatrixSelector s (record { at = orElse (t .at) (u .at); offset = orElse x (some o) }) q
-    by none k = let same : node ≡ MatrixSelector s (withOffset o t) q = cc in rw same
-    by (some b) k = cc
-offset-settled o n u (Call f es) node h = cc
+offset-settled o n u e node =
+    offsetExpr-by (λ made. made ≡ ok node → settled n u (checkedExpr node) ≡ settled n (withOffset o u) e) o e (λ h. cc) (λ h. cc)
+    (λ t q free h.
+    let is : node ≡ withTimes (withOffset o t) e = cc in
+    rw is (settled-times n u (withOffset o t) (withOffset o u) e t q (rw free)))
 
 -- nothing settled
 pub settled-nothing : (e : Expr) → settled none noTimes e ≡ e
