@@ -21,6 +21,7 @@ use Rattle.ast.specs.CheckPage.{apply, checkPage}
 use Rattle.ast.specs.Table.{isOfCheck}
 use Rattle.ast.specs.Tables.{entries, newest, stackAt, treeAt, Tables}
 use Rattle.ast.proofs.WalkLaws.{CheckedIn, checkPage-in, page-limit}
+use Rattle.walk.specs.Answers.{Accepts}
 use Rattle.text.specs.Display.{display}
 use Rattle.text.proofs.RoomLaws.{display-room}
 use Rattle.copy.proofs.CopyLaws.{accepted-walks}
@@ -47,13 +48,17 @@ by-records : (ending : Ending) (rs : List Record) {e : Expr} {n : ℕ} → finis
 by-records ending [] h = no-entry ending h
 by-records ending (r ∷ rs) h = some-record ending (length rs) (walk apply 0 [] (r ∷ rs)) h
 
-pub accepted-some : (page : List ℕ) {e : Expr} {n : ℕ} → checkPage page ≡ accepted e n → 0 < n
+accepted-some : (page : List ℕ) {e : Expr} {n : ℕ} → checkPage page ≡ accepted e n → 0 < n
 unfolding checkPage
 accepted-some page h = by-records (readPage page .ending) (readPage page .records) h
 
--- the tables up to the last record
-pub tables-last : {page starts firsts : List ℕ} {n : ℕ} → 0 < n → Tables page starts firsts n → Tables page starts firsts (suc (n - 1))
-tables-last {page} {starts} {firsts} {n} h t = let same : n ≡ suc (n - 1) = omega arith in subst (λ (k : ℕ). Tables page starts firsts k) same t
+module _ {page starts firsts : List ℕ} {kind : Kind} {n : ℕ} (walked : Accepts page starts firsts kind n) where
+  pub accepts-some : 0 < n
+  accepts-some = accepted-some page (walked .tree)
+
+  -- the tables up to the last record
+  pub accepts-last : Tables page starts firsts (suc (n - 1))
+  accepts-last = let same : n ≡ suc (n - 1) = omega (arith, accepts-some) in subst (λ (k : ℕ). Tables page starts firsts k) same (walked .tables)
 
 -- ## Room for a text, by its measured length
 

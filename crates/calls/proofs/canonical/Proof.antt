@@ -1,5 +1,4 @@
 -- `calls::canonical` meets its contract: what the walk leaves is enough for the text, and each of the three ends has its law. Assumes nothing.
-use Prim.Native.Nat.{suc, _-_, _<_}
 use mathlib.Core.Path.{sym, _∙_}
 use native.Mathlib.Nat.{zero-add}
 use denote.Ref.{now}
@@ -8,9 +7,8 @@ use borrow.Author.Needs.{needs}
 use Rattle.text.specs.Display.{display}
 use Rattle.view.proofs.ViewLaws.{unmarked}
 use Rattle.walk.specs.Answers.{Accepts}
-use Rattle.ast.specs.Tables.{Tables}
 use Rattle.records.specs.Answers.{kindOf}
-use Rattle.calls.proofs.RoomLaws.{accepted-some, tables-last}
+use Rattle.calls.proofs.RoomLaws.{accepts-some, accepts-last}
 use Rattle.calls.proofs.DoesLaws.{does-refused, does-short, does-write}
 use Rattle.calls.proofs.canonical.Statement.{statement}
 use Rattle.calls.proofs.canonical.Tie as tie
@@ -19,13 +17,6 @@ use Rattle.calls.proofs.canonical.Tie as tie
 known : (c : tie.After-walked) → let k = c .before .before .before .before in let s = k .before .before .before .before .before in
     Accepts (now (s .args .page)) (k .walk .last .1 .0) (k .walk .last .1 .1 .0) (kindOf (c .walked .given .0 .0)) (c .walked .given .0 .1 .0)
 known c = rw (c .walked .given .1) at (c .before .before .before .before .walk .ensures .says)
-
-some : (c : tie.After-walked) → 0 < c .walked .given .0 .1 .0
-some c = accepted-some (now (c .before .before .before .before .before .before .before .before .before .args .page)) (known c .tree)
-
-last : (c : tie.After-walked) → let k = c .before .before .before .before in let s = k .before .before .before .before .before in
-    Tables (now (s .args .page)) (k .walk .last .1 .0) (k .walk .last .1 .1 .0) (suc (c .walked .given .0 .1 .0 - 1))
-last c = tables-last (some c) (known c .tables)
 
 slice-aggregate-walk : tie.Need-slice-aggregate-walk
 slice-aggregate-walk c = search needs
@@ -46,10 +37,10 @@ slice-aggregate-text-fits-2 : tie.Need-slice-aggregate-text-fits-2
 slice-aggregate-text-fits-2 c = search needs
 
 sub-text-fits : tie.Need-sub-text-fits
-sub-text-fits c = some (c .before .before .before)
+sub-text-fits c = accepts-some (known (c .before .before .before))
 
 text-fits-requires : tie.Need-text-fits-requires
-text-fits-requires c κs = last (c .before .before .before)
+text-fits-requires c κs = accepts-last (known (c .before .before .before))
 
 slice-aggregate-write-text : tie.Need-slice-aggregate-write-text
 slice-aggregate-write-text c = search needs
@@ -58,10 +49,10 @@ slice-aggregate-write-text-2 : tie.Need-slice-aggregate-write-text-2
 slice-aggregate-write-text-2 c = search needs
 
 sub-write-text : tie.Need-sub-write-text
-sub-write-text c = some (c .before .before .before .before .before .before .before)
+sub-write-text c = accepts-some (known (c .before .before .before .before .before .before .before))
 
 write-text-requires : tie.Need-write-text-requires
-write-text-requires c κs = (last (c .before .before .before .before .before .before .before .before), (unmarked _ _, rw zero-add (leb-true _ _ (sym (c .before .before .before .before .text-fits .ensures) ∙ c .before .before .before .if1 .taken))))
+write-text-requires c κs = (accepts-last (known (c .before .before .before .before .before .before .before .before)), (unmarked _ _, rw zero-add (leb-true _ _ (sym (c .before .before .before .before .text-fits .ensures) ∙ c .before .before .before .if1 .taken))))
 
 same-length : tie.Need-same-length
 same-length c = search needs

@@ -1,14 +1,14 @@
 -- `calls::split` meets its contract: what the walk leaves is enough for the text, and each of the three ends has its law. Assumes nothing.
-use Prim.Native.Nat.{suc, _-_, _<_}
+use Prim.Native.Nat.{_-_}
 use lib.ListN.{length}
 use denote.Ref.{now}
 use native.Mathlib.Omega.{arith}
 use borrow.Author.Needs.{needs}
 use Rattle.text.specs.Pretty.{prettify}
 use Rattle.walk.specs.Answers.{Accepts}
-use Rattle.ast.specs.Tables.{Tables, treeAt}
+use Rattle.ast.specs.Tables.{treeAt}
 use Rattle.records.specs.Answers.{kindOf}
-use Rattle.calls.proofs.RoomLaws.{accepted-some, tables-last, room-enough, room-short, room-fits}
+use Rattle.calls.proofs.RoomLaws.{accepts-some, accepts-last, room-enough, room-short, room-fits}
 use Rattle.calls.proofs.DoesLaws.{does-refused, does-short, does-write}
 use Rattle.calls.proofs.split.Statement.{statement}
 use Rattle.calls.proofs.split.Tie as tie
@@ -17,13 +17,6 @@ use Rattle.calls.proofs.split.Tie as tie
 known : (c : tie.After-walked) → let k = c .before .before .before .before in let s = k .before .before .before .before .before in
     Accepts (now (s .args .page)) (k .walk .last .1 .0) (k .walk .last .1 .1 .0) (kindOf (c .walked .given .0 .0)) (c .walked .given .0 .1 .0)
 known c = rw (c .walked .given .1) at (c .before .before .before .before .walk .ensures .says)
-
-some : (c : tie.After-walked) → 0 < c .walked .given .0 .1 .0
-some c = accepted-some (now (c .before .before .before .before .before .before .before .before .before .args .page)) (known c .tree)
-
-last : (c : tie.After-walked) → let k = c .before .before .before .before in let s = k .before .before .before .before .before in
-    Tables (now (s .args .page)) (k .walk .last .1 .0) (k .walk .last .1 .1 .0) (suc (c .walked .given .0 .1 .0 - 1))
-last c = tables-last (some c) (known c .tables)
 
 slice-aggregate-walk : tie.Need-slice-aggregate-walk
 slice-aggregate-walk c = search needs
@@ -44,10 +37,10 @@ slice-aggregate-widths-of-2 : tie.Need-slice-aggregate-widths-of-2
 slice-aggregate-widths-of-2 c = search needs
 
 sub-widths-of : tie.Need-sub-widths-of
-sub-widths-of c = some (c .before .before .before)
+sub-widths-of c = accepts-some (known (c .before .before .before))
 
 widths-of-requires : tie.Need-widths-of-requires
-widths-of-requires c κs = last (c .before .before .before)
+widths-of-requires c κs = accepts-last (known (c .before .before .before))
 
 slice-aggregate-prettify-len : tie.Need-slice-aggregate-prettify-len
 slice-aggregate-prettify-len c = search needs
@@ -59,13 +52,13 @@ slice-aggregate-prettify-len-3 : tie.Need-slice-aggregate-prettify-len-3
 slice-aggregate-prettify-len-3 c = search needs
 
 sub-prettify-len : tie.Need-sub-prettify-len
-sub-prettify-len c = some (c .before .before .before .before .before .before .before)
+sub-prettify-len c = accepts-some (known (c .before .before .before .before .before .before .before))
 
 add-prettify-len : tie.Need-add-prettify-len
 add-prettify-len c = search needs
 
 prettify-len-requires : tie.Need-prettify-len-requires
-prettify-len-requires c κs = (last (c .before .before .before .before .before .before .before), c .before .before .before .widths-of .ensures)
+prettify-len-requires c κs = (accepts-last (known (c .before .before .before .before .before .before .before)), c .before .before .before .widths-of .ensures)
 
 slice-aggregate-put-prettify : tie.Need-slice-aggregate-put-prettify
 slice-aggregate-put-prettify c = search needs
@@ -77,10 +70,10 @@ slice-aggregate-put-prettify-3 : tie.Need-slice-aggregate-put-prettify-3
 slice-aggregate-put-prettify-3 c = search needs
 
 sub-put-prettify : tie.Need-sub-put-prettify
-sub-put-prettify c = some (c .before .before .before .before .before .before .before .before .before .before .before .before)
+sub-put-prettify c = accepts-some (known (c .before .before .before .before .before .before .before .before .before .before .before .before))
 
 put-prettify-requires : tie.Need-put-prettify-requires
-put-prettify-requires c κs = (last (c .before .before .before .before .before .before .before .before .before .before .before .before .before), (c .before .before .before .before .before .before .before .before .before .widths-of .ensures, omega (arith, room-fits (length (prettify (treeAt (now (c .before .before .before .before .before .before .before .before .before .before .before .before .before .before .before .before .before .before .before .before .before .before .args .page)) (c .before .before .before .before .before .before .before .before .before .before .before .before .before .walked .given .0 .1 .0 - 1)))) (length (now (c .before .before .before .before .before .before .before .before .before .before .before .before .before .before .before .before .before .before .before .before .before .before .args .out))) (c .before .before .before .before .before .prettify-len .result) (c .before .before .before .before .before .prettify-len .ensures) (c .before .before .before .before .if1 .taken))))
+put-prettify-requires c κs = (accepts-last (known (c .before .before .before .before .before .before .before .before .before .before .before .before .before)), (c .before .before .before .before .before .before .before .before .before .widths-of .ensures, omega (arith, room-fits (length (prettify (treeAt (now (c .before .before .before .before .before .before .before .before .before .before .before .before .before .before .before .before .before .before .before .before .before .before .args .page)) (c .before .before .before .before .before .before .before .before .before .before .before .before .before .walked .given .0 .1 .0 - 1)))) (length (now (c .before .before .before .before .before .before .before .before .before .before .before .before .before .before .before .before .before .before .before .before .before .before .args .out))) (c .before .before .before .before .before .prettify-len .result) (c .before .before .before .before .before .prettify-len .ensures) (c .before .before .before .before .if1 .taken))))
 
 same-length : tie.Need-same-length
 same-length c = search needs
