@@ -30,6 +30,13 @@ pub record SetOperator (page : List ℕ) (start next : ℕ) : Type 0 where
   pub kind : getD page start 0 ≡ 9
   pub set : isSetOperator (getD page (start + 1) 0) ≡ true
 
+-- one without a modifier, wherever it ends, and a buffer with room for its piece
+pub record AbsentFrom (page out : List ℕ) (start at : ℕ) : Type 0 where
+  pub next : ℕ
+  pub placing : Placing page out start next at
+  pub operator : SetOperator page start next
+  pub absent : getD page (start + 2) 0 ≡ 0
+
 -- a set operator's modifier is present: after the code stands no 0
 abbrev pub IsPresent : List ℕ → ℕ → Type 0
 IsPresent page start = getD page (start + 2) 0 ≡ 0 → ⊥

@@ -7,7 +7,7 @@ ghost use Prim.Native.Nat.{_+_};
 ghost use lib.ListN.{drop, getD};
 ghost use Rattle.base.specs.Splice.{Wrote};
 ghost use Rattle.copy.specs.RecordCopy.{setCardinality, recordCopy};
-ghost use Rattle.copy.specs.Span.{Placing, SetOperator, IsPresent, CardinalityAt};
+ghost use Rattle.copy.specs.Span.{Placing, SetOperator, AbsentFrom, IsPresent, CardinalityAt};
 
 // An absent modifier, written out: present, no bool, no matching, many-to-many, no fills.
 const SET_MODIFIER: [u8; 6] = [1, 0, 0, 3, 0, 0];
@@ -33,8 +33,8 @@ fn cardinality_at(page: &[u8], start: usize, next: usize) -> usize
     }
 }
 
-fn put_absent(page: &[u8], start: usize, next: usize, out: &mut [u8], at: usize) -> usize
-    requires { ⌜ Placing (now page) (now out) start next at × SetOperator (now page) start next × (getD (now page) (start + 2) 0 ≡ 0) ⌝ }
+fn put_absent(page: &[u8], start: usize, out: &mut [u8], at: usize) -> usize
+    requires { ⌜ AbsentFrom (now page) (now out) start at ⌝ }
     ensures { λ r. ⌜ Wrote (now (out .entry)) (now (out .exit)) at (recordCopy (drop start (now (page .entry)))) r ⌝ }
 {
     let modifier = start + 2;
@@ -60,7 +60,7 @@ pub fn put_operator(page: &[u8], start: usize, next: usize, out: &mut [u8], at: 
 {
     if is_set_operator(page[start + 1] as u64) {
         if page[start + 2] == 0 {
-            return put_absent(page, start, next, out, at);
+            return put_absent(page, start, out, at);
         }
         return put_present(page, start, next, out, at);
     }

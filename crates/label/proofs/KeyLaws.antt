@@ -16,21 +16,12 @@ use Rattle.records.proofs.SpanLaws.{span-size}
 use Rattle.label.specs.declared.key.Printed.{Printed}
 use Rattle.label.specs.Label.{displayLabel, atMost}
 use Rattle.label.specs.Symbols.{operatorToken, matcherText}
-use Rattle.label.specs.Key.{unpacked, printedText, keyText, Prints}
+use Rattle.label.specs.Key.{unpacked, printedText, keyText, Prints, Bounded}
 
 -- ## Sizes of parts
 
--- what the numbers of a key are bounded by
-pub record Bounded (page : List ℕ) (p : Printed) : Type 0 where
-  pub nameStart : p .name .start ≤ pageLimit
-  pub nameOrder : p .name .start ≤ p .name .end
-  pub nameSize : p .name .end - p .name .start < 256
-  pub valueStart : p .value .start < 32768
-  pub valueOrder : p .value .start ≤ p .value .end
-  pub valueSize : p .value .end - p .value .start < 256
-  pub op : p .op < 4
-
-pub bounded : (page : List ℕ) (p : Printed) → Prints page p → length page ≤ pageLimit → Bounded page p
+-- the parts of a matcher on a page fit into a key
+pub bounded : (page : List ℕ) (p : Printed) → Prints page p → length page ≤ pageLimit → Bounded p
 bounded page p w short =
     let n = span-size page (p .name) (w .name) in
     let v = span-size page (p .value) (w .value) in
@@ -55,10 +46,10 @@ bit-small true = omega arith
 bit-small false = omega arith
 
 -- the packed number, from its lowest digit on
-pub unpacked-packed : (page : List ℕ) (p : Printed) (bit : ℕ) → Bounded page p → bit ≡ pick (p .bare) 1 0
+pub unpacked-packed : (p : Printed) (bit : ℕ) → Bounded p → bit ≡ pick (p .bare) 1 0
     → unpacked ((((((p .name .start * 256 + (p .name .end - p .name .start)) * 32768 + p .value .start) * 256 + (p .value .end - p .value .start)) * 4) + p .op) * 2 + bit) ≡ p
 unfolding unpacked
-unpacked-packed page p bit b is =
+unpacked-packed p bit b is =
     let names = p .name .start * 256 + (p .name .end - p .name .start) in
     let starts = names * 32768 + p .value .start in
     let values = starts * 256 + (p .value .end - p .value .start) in

@@ -1,10 +1,10 @@
 -- A matcher's printed parts as one number, so that sixteen of them can be sorted in an array of numbers.
-use Prim.Native.Nat.{ℕ, _+_, _/_, _%_, _≤_, _<_}
+use Prim.Native.Nat.{ℕ, _+_, _-_, _/_, _%_, _≤_, _<_}
 use mathlib.Core.List.{List, [], _∷_, map}
 use mathlib.Core.Path.{_≡_}
 use lib.Dec.{eqb}
 use lib.ListN.{length, take}
-use Rattle.page.specs.Limits.{textLimit}
+use Rattle.page.specs.Limits.{pageLimit, textLimit}
 use Rattle.page.specs.Text.{isLabel}
 use Rattle.page.specs.Answers.{spanOn, Lies}
 use Rattle.label.specs.declared.key.Printed.{Printed}
@@ -46,6 +46,16 @@ IsKey page k = Prints page (unpacked k)
 pub record PrintsAs (page : List ℕ) (m : Matcher) (p : Printed) : Type 0 where
   pub prints : Prints page p
   pub text : printedText page p ≡ displayMatcher m
+
+-- parts small enough for a key
+pub record Bounded (p : Printed) : Type 0 where
+  pub nameStart : p .name .start ≤ pageLimit
+  pub nameOrder : p .name .start ≤ p .name .end
+  pub nameSize : p .name .end - p .name .start < 256
+  pub valueStart : p .value .start < 32768
+  pub valueOrder : p .value .start ≤ p .value .end
+  pub valueSize : p .value .end - p .value .start < 256
+  pub op : p .op < 4
 
 -- every number of the list is a key
 unfoldable pub AreKeys : List ℕ → List ℕ → Type 0

@@ -3,12 +3,9 @@ use crate::order::matcher_at_most;
 use page::Span;
 use page::text_at;
 ghost use mathlib.Core.Path.{_≡_};
-ghost use Prim.Native.Nat.{_≤_};
-ghost use lib.ListN.{length};
 ghost use Rattle.page.specs.Bytes.{pick};
-ghost use Rattle.page.specs.Limits.{pageLimit};
 ghost use Rattle.label.specs.Label.{atMost};
-ghost use Rattle.label.specs.Key.{unpacked, keyText, Prints, IsKey};
+ghost use Rattle.label.specs.Key.{unpacked, keyText, Bounded, IsKey};
 
 // What a matcher prints: its name, whether that is a label, its operator's number and its value.
 pub struct Printed {
@@ -27,8 +24,8 @@ fn bit(mark: bool) -> u64
     0
 }
 
-pub fn pack(page: &[u8], parts: Printed) -> u64
-    requires { ⌜ Prints (now page) parts × (length (now page) ≤ pageLimit) ⌝ }
+pub fn pack(parts: Printed) -> u64
+    requires { ⌜ Bounded parts ⌝ }
     ensures { λ r. ⌜ unpacked r ≡ parts ⌝ }
 {
     let name = parts.name;

@@ -69,7 +69,7 @@ fn collect(page: &[u8], start: usize, count: usize, keys: &mut [u64]) -> usize
     let mut left = count;
     while 0 < left {
         let stored = stored_matcher(page, at);
-        keys[i] = pack(page, printed(page, stored.matcher));
+        keys[i] = pack(printed(page, stored.matcher));
         i = i + 1;
         at = stored.next;
         left = left - 1;

@@ -15,10 +15,10 @@ use Rattle.copy.proofs.operator.put_absent.Tie as tie
 begun : (c : tie.Start) → let a = c .args in
     Run (now (a .out)) (now (a .out)) (a .at) (recordCopy (drop (a .start) (now (a .page))))
     (take (a .start + 2 - a .start) (drop (a .start) (now (a .page))) ∷ setModifier ∷ []) (a .at)
-begun c = start (c .pre .0 .room) (absent-piece (c .pre .1) (c .pre .2))
+begun c = start (c .pre .placing .room) (absent-piece (c .pre .operator) (c .pre .absent))
 
 add-modifier : tie.Need-add-modifier
-add-modifier c = omega (arith, operator-wide (c .before .before .pre .0 .span) (c .before .before .pre .1 .kind), c .before .before .pre .0 .span .inside)
+add-modifier c = omega (arith, operator-wide (c .before .before .pre .placing .span) (c .before .before .pre .operator .kind), c .before .before .pre .placing .span .inside)
 
 sub-put-bytes : tie.Need-sub-put-bytes
 sub-put-bytes c = search needs
@@ -27,7 +27,7 @@ part-put-bytes-start : tie.Need-part-put-bytes-start
 part-put-bytes-start c = search needs
 
 part-put-bytes-end : tie.Need-part-put-bytes-end
-part-put-bytes-end c = omega (arith, operator-wide (c .before .before .pre .0 .span) (c .before .before .pre .1 .kind), c .before .before .pre .0 .span .inside)
+part-put-bytes-end c = omega (arith, operator-wide (c .before .before .pre .placing .span) (c .before .before .pre .operator .kind), c .before .before .pre .placing .span .inside)
 
 put-bytes-requires : tie.Need-put-bytes-requires
 put-bytes-requires c κs = fits (begun (c .before .before .before .before))

@@ -27,7 +27,7 @@ shared-slice-read-if2 : tie.Need-shared-slice-read-if2
 shared-slice-read-if2 c = omega (arith, operator-wide (c .before .before .before .before .before .before .pre .0 .span) (c .before .before .before .before .before .before .pre .1), c .before .before .before .before .before .before .pre .0 .span .inside)
 
 put-absent-requires : tie.Need-put-absent-requires
-put-absent-requires c κs = (c .before .before .before .before .before .before .before .before .pre .0, record { span = c .before .before .before .before .before .before .before .before .pre .0 .span; kind = c .before .before .before .before .before .before .before .before .pre .1; set = sym (c .before .before .before .before .is-set-operator .ensures) ∙ c .before .before .before .if1 .taken }, c .before .if2 .taken)
+put-absent-requires c κs = record { next = _; placing = c .before .before .before .before .before .before .before .before .pre .0; operator = record { span = c .before .before .before .before .before .before .before .before .pre .0 .span; kind = c .before .before .before .before .before .before .before .before .pre .1; set = sym (c .before .before .before .before .is-set-operator .ensures) ∙ c .before .before .before .if1 .taken }; absent = c .before .if2 .taken }
 
 same-length : tie.Need-same-length
 same-length c = search needs

@@ -1,7 +1,7 @@
 -- `label::key::pack` meets its contract: `unpacked-packed` of KeyLaws. Assumes nothing.
 use borrow.Author.Needs.{needs}
 use native.Mathlib.Omega.{arith}
-use Rattle.label.proofs.KeyLaws.{bounded, unpacked-packed, bit-small}
+use Rattle.label.proofs.KeyLaws.{unpacked-packed, bit-small}
 use Rattle.label.proofs.key.pack.Statement.{statement}
 use Rattle.label.proofs.key.pack.Tie as tie
 
@@ -45,10 +45,10 @@ bit-requires : tie.Need-bit-requires
 bit-requires c κs = search needs
 
 add-result-2 : tie.Need-add-result-2
-add-result-2 c = omega (arith, bounded _ _ (c .before .before .before .before .before .before .before .pre .0) (c .before .before .before .before .before .before .before .pre .1), bit-small (c .before .before .before .before .before .before .before .args .parts .bare), c .bit .ensures)
+add-result-2 c = omega (arith, c .before .before .before .before .before .before .pre, bit-small (c .before .before .before .before .before .before .args .parts .bare), c .bit .ensures)
 
 returns : tie.Need-returns
-returns c = unpacked-packed _ _ _ (bounded _ _ (c .before .before .before .before .before .before .before .pre .0) (c .before .before .before .before .before .before .before .pre .1)) (c .bit .ensures)
+returns c = unpacked-packed _ _ (c .before .before .before .before .before .before .pre) (c .bit .ensures)
 
 pub pack-spec : {M : Type 1} → statement M
 pack-spec =

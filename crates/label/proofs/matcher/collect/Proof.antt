@@ -8,6 +8,7 @@ use Rattle.page.specs.Listed.{AllRead}
 use Rattle.page.proofs.ListLaws.{first-read, others-read}
 use Rattle.records.specs.Matcher.{readMatcher}
 use Rattle.records.specs.Answers.{matchersOn}
+use Rattle.label.proofs.KeyLaws.{bounded}
 use Rattle.label.proofs.CollectLaws.{read-allowed, Collecting, collect-start, collect-room, collect-on, collect-end}
 use Rattle.label.proofs.matcher.collect.Statement.{statement}
 use Rattle.label.proofs.matcher.collect.Tie as tie
@@ -28,7 +29,7 @@ printed-requires : tie.Need-printed-requires Inv-loop μ-loop
 printed-requires c κs = (c .stored-matcher .ensures .1, read-allowed (drop (c .before .before .loop .at) (now (c .before .before .before .before .before .args .page))) (c .stored-matcher .ensures .0))
 
 pack-requires : tie.Need-pack-requires Inv-loop μ-loop
-pack-requires c κs = (c .printed .ensures .prints, c .before .before .before .before .before .before .pre .1 .1)
+pack-requires c κs = bounded _ _ (c .printed .ensures .prints) (c .before .before .before .before .before .before .pre .1 .1)
 
 mul-keys : tie.Need-mul-keys Inv-loop μ-loop
 mul-keys c = let h = collect-room (c .before .before .before .before .loop .inv .0) (c .before .before .before .loop-test .taken) (c .before .before .stored-matcher .ensures .0) in omega arith
