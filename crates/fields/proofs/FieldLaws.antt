@@ -28,7 +28,7 @@ use Rattle.ast.specs.Expr.{scalarValue}
 use Rattle.ast.specs.Tables.{treeAt}
 use Rattle.text.specs.LaidOut.{Reads}
 use Rattle.text.proofs.SoundLaws.{allowed}
-use Rattle.fields.specs.Fields.{CallAt, AggregateAt}
+use Rattle.fields.specs.Fields.{CallAt, HasCode, AggregateAt}
 use Rattle.view.specs.View.{Starts, FootAt, NodeAt}
 use Rattle.view.specs.declared.Foot.{Foot}
 use Rattle.view.specs.declared.Foot.the-variants as foot
@@ -131,7 +131,7 @@ module _ {page starts : List ℕ} {node : Node} (n : NodeAt page starts node) wh
         → got m r′ ≡ readOption modifier.readBinModifier r → Reads page starts (node .base) (binary c m)
     operator-reads e h = record { rest = _; reads = sym (operator-fields e h) }
 
-    pub operator-there : {x : FieldFault} → refused x ≡ readCode (fieldsAt page starts (node .base)) → ⊥
+    operator-there : {x : FieldFault} → refused x ≡ readCode (fieldsAt page starts (node .base)) → ⊥
     operator-there = no-field base-known (foot-is f) readCode operatorMore (λ s. refl)
 
     pub modifier-there : {c : ℕ} {r : List ℕ} {x : FieldFault} → got c r ≡ readCode (fieldsAt page starts (node .base))
@@ -154,12 +154,27 @@ module _ {page starts : List ℕ} {node : Node} (n : NodeAt page starts node) wh
         readable base-known (readCount r′) (λ k. return (aggregate c m k)) (aggregator-fields e h) (λ k rest q is.
         record { count = k; reads = record { rest = rest; reads = sym is } })
 
-    pub aggregator-there : {x : FieldFault} → refused x ≡ readCode (fieldsAt page starts (node .base)) → ⊥
+    aggregator-there : {x : FieldFault} → refused x ≡ readCode (fieldsAt page starts (node .base)) → ⊥
     aggregator-there = no-field base-known (foot-is f) readCode aggregatorMore (λ s. refl)
 
     pub grouping-there : {c : ℕ} {r : List ℕ} {x : FieldFault} → got c r ≡ readCode (fieldsAt page starts (node .base))
         → refused x ≡ modifier.readLabelModifier r → ⊥
     grouping-there e h = never (aggregator-fields e h)
+
+  -- a node with a code has it
+  pub code-there : HasCode (node .foot) → {x : FieldFault} → refused x ≡ readCode (fieldsAt page starts (node .base)) → ⊥
+  code-there h e = by (node .foot) refl h
+    where
+      by : (f : Foot) → node .foot ≡ f → HasCode f → ⊥
+      by foot.Number q k = k
+      by foot.String q k = k
+      by foot.Selector q k = k
+      by foot.Subquery q k = k
+      by foot.Unary q k = k
+      by foot.Paren q k = k
+      by foot.Binary q k = operator-there q e
+      by foot.Aggregate q k = aggregator-there q e
+      by foot.Call q k = k
 
   module _ (f : node .foot ≡ foot.Call) where
     abbrev function : Text → List Kind → signature.Variadic → Kind → signature.Function

@@ -64,7 +64,7 @@ fn with_offset(attached: Attached, o: records::Offset) -> Attached
 // The attached with what record j sets.
 fn with_record(page: &[u8], starts: &[u16], j: usize, attached: Attached) -> Attached
     requires starts { ⌜ Starts (now page) (now starts) (suc j) ⌝ }
-    requires part { ⌜ AttachedAt (now page) (now starts) j ⌝ }
+    requires attached { ⌜ AttachedAt (now page) (now starts) j ⌝ }
     ensures { λ r. ⌜ SetsOver (now (page .entry)) (now (starts .entry)) j attached r ⌝ }
 {
     let start = view::fields_start(starts, j);

@@ -15,7 +15,7 @@ ghost use Rattle.float.specs.Exact.{ModifierExact};
 ghost use Rattle.reader.specs.Answers.{selectorOn};
 ghost use Rattle.text.specs.LaidOut.{Reads};
 ghost use Rattle.view.specs.View.{NumberAt, NodeAt};
-ghost use Rattle.fields.specs.Fields.{CallAt, AggregateAt, SelectorLies};
+ghost use Rattle.fields.specs.Fields.{CallAt, HasCode, CodeAt, AggregateAt, SelectorLies};
 
 // The number, with its sign.
 pub fn literal_of(page: &[u8], starts: &[u16], node: Node) -> records::Literal
@@ -82,7 +82,7 @@ pub fn selector_of(page: &[u8], starts: &[u16], node: Node) -> reader::Selector
     requires foot { ⌜ node .foot ≡ Foot.Selector ⌝ }
     ensures reads { λ r. ⌜ Reads (now (page .entry)) (now (starts .entry)) (node .base) (leaf (selector (selectorOn (now (page .entry)) r))) ⌝ }
     ensures lies { λ r. ⌜ SelectorLies (now (page .entry)) r ⌝ }
-    ensures unmarked { λ r. ⌜ (r .named ≡ false) × (r .empty ≡ false) ⌝ }
+    ensures unasked { λ r. ⌜ (r .named ≡ false) × (r .empty ≡ false) ⌝ }
 {
     let start = view::fields_start(starts, node.base);
     match page::read_text(page, start, page::TextClass::MetricName) {
@@ -130,6 +130,25 @@ pub fn spacing_of(page: &[u8], starts: &[u16], node: Node) -> Spacing
     }
 }
 
+// A code, and where the field after it starts.
+struct Coded {
+    code: u64,
+    next: usize,
+}
+
+// The code of a binary expression or an aggregate, its first field.
+fn code_of(page: &[u8], starts: &[u16], node: Node) -> Coded
+    requires node { ⌜ NodeAt (now page) (now starts) node ⌝ }
+    requires foot { ⌜ HasCode (node .foot) ⌝ }
+    ensures { λ r. ⌜ CodeAt (now (page .entry)) (now (starts .entry)) (node .base) (r .code) (r .next) ⌝ }
+{
+    let start = view::fields_start(starts, node.base);
+    match reader::read_code(page, start) {
+        page::Number::Got { number: code, next } => Coded { code, next },
+        page::Number::Bad => Coded { code: 0, next: 0 },
+    }
+}
+
 // The code of a binary expression and its modifier.
 pub struct Operator {
     pub code: u64,
@@ -143,19 +162,13 @@ pub fn operator_of(page: &[u8], starts: &[u16], node: Node) -> Operator
     ensures stored { λ r. ⌜ ModifierStored (now (page .entry)) (r .modifier) ⌝ }
     ensures exact { λ r. ⌜ ModifierExact (modifierOn (now (page .entry)) (r .modifier)) ⌝ }
 {
-    let start = view::fields_start(starts, node.base);
-    match reader::read_code(page, start) {
-        page::Number::Got { number: code, next } => match records::read_modifier(page, next) {
-            records::ModifierField::Got { modifier, .. } => Operator {
-                code: code,
-                modifier: modifier,
-            },
-            records::ModifierField::Bad(_) => Operator {
-                code: 0,
-                modifier: records::Modifier::None,
-            },
+    let own = code_of(page, starts, node);
+    match records::read_modifier(page, own.next) {
+        records::ModifierField::Got { modifier, .. } => Operator {
+            code: own.code,
+            modifier: modifier,
         },
-        page::Number::Bad => Operator {
+        records::ModifierField::Bad(_) => Operator {
             code: 0,
             modifier: records::Modifier::None,
         },
@@ -174,22 +187,16 @@ pub fn aggregator_of(page: &[u8], starts: &[u16], node: Node) -> Aggregator
     ensures reads { λ r. ⌜ AggregateAt (now (page .entry)) (now (starts .entry)) (node .base) (r .code) (labelModifierOn (now (page .entry)) (r .grouping)) ⌝ }
     ensures stored { λ r. ⌜ LabelModifierStored (now (page .entry)) (r .grouping) ⌝ }
 {
-    let start = view::fields_start(starts, node.base);
-    match reader::read_code(page, start) {
-        page::Number::Got { number: code, next } => match records::read_label_modifier(page, next) {
-            records::LabelModifierField::Got {
-                modifier: grouping,
-                ..
-            } => Aggregator {
-                code: code,
-                grouping: grouping,
-            },
-            records::LabelModifierField::Bad(_) => Aggregator {
-                code: 0,
-                grouping: records::LabelModifier::None,
-            },
+    let own = code_of(page, starts, node);
+    match records::read_label_modifier(page, own.next) {
+        records::LabelModifierField::Got {
+            modifier: grouping,
+            ..
+        } => Aggregator {
+            code: own.code,
+            grouping: grouping,
         },
-        page::Number::Bad => Aggregator {
+        records::LabelModifierField::Bad(_) => Aggregator {
             code: 0,
             grouping: records::LabelModifier::None,
         },
