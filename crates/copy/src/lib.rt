@@ -2,7 +2,7 @@
 // set operators, which become many-to-many, and numbers, which take in the unary records after them.
 pub mod number;
 pub mod operator;
-pub mod piece;
+pub mod record;
 pub mod whole;
 
 pub use whole::copy_fits;

@@ -1,7 +1,7 @@
 // The whole copy, from record to record by their starts: whether it fits, tested before a byte is written, and its bytes.
-use crate::piece::absorbed_by;
-use crate::piece::put_record;
-use crate::piece::record_len;
+use crate::record::absorbed_by;
+use crate::record::put_record;
+use crate::record::record_len;
 ghost use mathlib.Core.Path.{_≡_};
 ghost use Prim.Native.Nat.{_≤_, _<_};
 ghost use lib.ListN.{length, getD};

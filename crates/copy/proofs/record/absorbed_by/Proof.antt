@@ -1,11 +1,11 @@
--- `copy::piece::absorbed_by` meets its contract. Assumes nothing.
+-- `copy::record::absorbed_by` meets its contract. Assumes nothing.
 use mathlib.Core.Path.{sym, _∙_}
 use native.Mathlib.Omega.{arith}
 use borrow.Author.Needs.{needs}
 use Rattle.copy.proofs.SpanLaws.{span-wide, other-absorbed}
 use Rattle.copy.proofs.NumberCopyLaws.{number-absorbed}
-use Rattle.copy.proofs.piece.absorbed_by.Statement.{statement}
-use Rattle.copy.proofs.piece.absorbed_by.Tie as tie
+use Rattle.copy.proofs.record.absorbed_by.Statement.{statement}
+use Rattle.copy.proofs.record.absorbed_by.Tie as tie
 
 shared-slice-read-if1 : tie.Need-shared-slice-read-if1
 shared-slice-read-if1 c = omega (arith, span-wide (c .before .before .pre), c .before .before .pre .inside)

@@ -1,11 +1,11 @@
--- `copy::piece::put_record` meets its contract: the first byte is the record's kind. Assumes nothing.
+-- `copy::record::put_record` meets its contract: the first byte is the record's kind. Assumes nothing.
 use mathlib.Core.Path.{ap}
 use native.Mathlib.Omega.{arith}
 use lib.ListN.{length}
 use borrow.Author.Needs.{needs}
 use Rattle.copy.proofs.SpanLaws.{span-wide, other-piece}
-use Rattle.copy.proofs.piece.put_record.Statement.{statement}
-use Rattle.copy.proofs.piece.put_record.Tie as tie
+use Rattle.copy.proofs.record.put_record.Statement.{statement}
+use Rattle.copy.proofs.record.put_record.Tie as tie
 
 shared-slice-read-match : tie.Need-shared-slice-read-match
 shared-slice-read-match c = omega (arith, span-wide (c .before .before .before .pre .span), c .before .before .before .pre .span .inside)

@@ -1,4 +1,4 @@
--- `copy::piece::record_len` meets its contract: one record alone has another length in the copy. Assumes nothing.
+-- `copy::record::record_len` meets its contract: one record alone has another length in the copy. Assumes nothing.
 use Prim.Native.Nat.{_+_}
 use mathlib.Core.Path.{sym, _∙_}
 use native.Mathlib.Omega.{arith}
@@ -6,8 +6,8 @@ use borrow.Author.Needs.{needs}
 use Rattle.copy.proofs.OperatorLaws.{operator-wide, plain-piece, absent-length, present-length}
 use Rattle.copy.proofs.SpanLaws.{span-wide, same-length}
 use Rattle.copy.proofs.NumberCopyLaws.{unchanged-length}
-use Rattle.copy.proofs.piece.record_len.Statement.{statement}
-use Rattle.copy.proofs.piece.record_len.Tie as tie
+use Rattle.copy.proofs.record.record_len.Statement.{statement}
+use Rattle.copy.proofs.record.record_len.Tie as tie
 
 sub-own : tie.Need-sub-own
 sub-own c = omega (arith, span-wide (c .before .pre))
