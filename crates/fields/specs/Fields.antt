@@ -50,6 +50,6 @@ pub record AggregateAt (page starts : List ℕ) (i code : ℕ) (grouping : Optio
 -- a selector's name lies on the page, and its matchers can be read and are no more than a page allows
 pub record SelectorLies (page : List ℕ) (s : Selector) : Type 0 where
   pub name : Lies page (s .name)
-  pub stored : AllRead readMatcher (s .count) (drop (s .matchers) page)
-  pub few : length (matchersOn page (s .matchers) (s .count)) ≤ countLimit
+  pub stored : AllRead readMatcher (s .matchers .count) (drop (s .matchers .start) page)
+  pub few : length (matchersOn page (s .matchers .start) (s .matchers .count)) ≤ countLimit
   pub short : length page ≤ pageLimit

@@ -64,14 +64,13 @@ pub fn function_of(page: &[u8], starts: &[u16], node: Node) -> page::Span
     }
 }
 
-// A selector of this name, whose matchers start here. The marks of the check are of no use for texts.
-fn selector(name: page::Span, matchers: usize, count: usize) -> reader::Selector
-    ensures { λ r. ⌜ r ≡ record { name = name; matchers = matchers; count = count; named = false; empty = false } ⌝ }
+// A selector of this name, with these matchers. The marks of the check are of no use for texts.
+fn selector(name: page::Span, matchers: page::List) -> reader::Selector
+    ensures { λ r. ⌜ r ≡ record { name = name; matchers = matchers; named = false; empty = false } ⌝ }
 {
     reader::Selector {
         name: name,
         matchers: matchers,
-        count: count,
         named: false,
         empty: false,
     }
@@ -87,13 +86,10 @@ pub fn selector_of(page: &[u8], starts: &[u16], node: Node) -> reader::Selector
     let start = view::fields_start(starts, node.base);
     match page::read_text(page, start, page::TextClass::MetricName) {
         page::Text::Got(name) => match page::read_count(page, name.end) {
-            page::Count::Got {
-                count,
-                next: matchers,
-            } => selector(name, matchers, count),
-            page::Count::Bad(_) => selector(name, 0, 0),
+            page::Count::Got { count, next } => selector(name, page::List { start: next, count }),
+            page::Count::Bad(_) => selector(name, page::List { start: 0, count: 0 }),
         },
-        page::Text::Bad(_) => selector(no_text(), 0, 0),
+        page::Text::Bad(_) => selector(no_text(), page::List { start: 0, count: 0 }),
     }
 }
 

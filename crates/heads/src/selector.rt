@@ -44,24 +44,30 @@ fn put_braces(page: &[u8], start: usize, count: usize, out: &mut [u8], at: usize
 
 pub fn selector_len(page: &[u8], selector: Selector, cap: usize) -> usize
     requires lies { ⌜ Lies (now page) (selector .name) ⌝ }
-    requires stored { ⌜ AllRead readMatcher (selector .count) (drop (selector .matchers) (now page)) ⌝ }
+    requires stored { ⌜ AllRead readMatcher (selector .matchers .count) (drop (selector .matchers .start) (now page)) ⌝ }
     ensures { λ r. ⌜ r ≡ min (length (displaySelector (selectorOn (now (page .entry)) selector))) cap ⌝ }
 {
     let name = text_at(page, selector.name);
     capped_add(
         name.len(),
-        braces_len(page, selector.matchers, selector.count, cap),
+        braces_len(page, selector.matchers.start, selector.matchers.count, cap),
         cap,
     )
 }
 
 pub fn put_selector(page: &[u8], selector: Selector, out: &mut [u8], at: usize) -> usize
     requires lies { ⌜ Lies (now page) (selector .name) ⌝ }
-    requires stored { ⌜ AllRead readMatcher (selector .count) (drop (selector .matchers) (now page)) ⌝ }
-    requires limits { ⌜ (length (matchersOn (now page) (selector .matchers) (selector .count)) ≤ countLimit) × (length (now page) ≤ pageLimit) ⌝ }
+    requires stored { ⌜ AllRead readMatcher (selector .matchers .count) (drop (selector .matchers .start) (now page)) ⌝ }
+    requires limits { ⌜ (length (matchersOn (now page) (selector .matchers .start) (selector .matchers .count)) ≤ countLimit) × (length (now page) ≤ pageLimit) ⌝ }
     requires room { ⌜ at + length (displaySelector (selectorOn (now page) selector)) ≤ length (now out) ⌝ }
     ensures { λ r. ⌜ Wrote (now (out .entry)) (now (out .exit)) at (displaySelector (selectorOn (now (page .entry)) selector)) r ⌝ }
 {
     let behind = put_bytes(text_at(page, selector.name), out, at);
-    put_braces(page, selector.matchers, selector.count, out, behind)
+    put_braces(
+        page,
+        selector.matchers.start,
+        selector.matchers.count,
+        out,
+        behind,
+    )
 }

@@ -70,8 +70,8 @@ pub fn joint_after(page: &[u8], at: usize) -> Span
                 next: card,
             } => match matching {
                 LabelModifier::None => Span { start: 0, end: 0 },
-                LabelModifier::Include(on, ons) => joint_of(page, card, on, ons),
-                LabelModifier::Exclude(_, _) => Span { start: 0, end: 0 },
+                LabelModifier::Include(on) => joint_of(page, card, on.start, on.count),
+                LabelModifier::Exclude(_) => Span { start: 0, end: 0 },
             },
             LabelModifierField::Bad(_) => Span { start: 0, end: 0 },
         },

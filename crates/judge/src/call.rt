@@ -129,7 +129,7 @@ pub fn judge_call(
     let name = function.name;
     let variadic = function.variadic;
     let result = function.result;
-    let declared = function.declared;
+    let declared = function.kinds.count;
     match arity(variadic, declared, count) {
         Finding::Fault(refusal) => Verdict::Refused(refusal),
         Finding::Fine => {
@@ -142,7 +142,15 @@ pub fn judge_call(
             if declared == 0 {
                 return Verdict::Refused(Refusal::NoDeclaredKinds);
             }
-            if arguments_match(page, function.kinds, declared, tags, values, top, count) {
+            if arguments_match(
+                page,
+                function.kinds.start,
+                declared,
+                tags,
+                values,
+                top,
+                count,
+            ) {
                 return Verdict::Put(Operand::Other(result));
             }
             Verdict::Refused(Refusal::ArgumentKind)

@@ -24,8 +24,8 @@ fn is_grouping(card: Cardinality) -> bool
 {
     match card {
         Cardinality::OneToOne => false,
-        Cardinality::ManyToOne(_, _) => true,
-        Cardinality::OneToMany(_, _) => true,
+        Cardinality::ManyToOne(_) => true,
+        Cardinality::OneToMany(_) => true,
         Cardinality::ManyToMany => false,
     }
 }
@@ -35,8 +35,8 @@ fn has_matching(page: &[u8], matching: LabelModifier) -> bool
 {
     match matching {
         LabelModifier::None => false,
-        LabelModifier::Include(start, count) => has_labels(page, start, count),
-        LabelModifier::Exclude(start, count) => has_labels(page, start, count),
+        LabelModifier::Include(list) => has_labels(page, list.start, list.count),
+        LabelModifier::Exclude(list) => has_labels(page, list.start, list.count),
     }
 }
 
@@ -46,8 +46,8 @@ fn group_joint(page: &[u8], card: Cardinality, on: usize, ons: usize) -> bool
 {
     match card {
         Cardinality::OneToOne => false,
-        Cardinality::ManyToOne(start, count) => has_joint(page, start, count, on, ons),
-        Cardinality::OneToMany(start, count) => has_joint(page, start, count, on, ons),
+        Cardinality::ManyToOne(list) => has_joint(page, list.start, list.count, on, ons),
+        Cardinality::OneToMany(list) => has_joint(page, list.start, list.count, on, ons),
         Cardinality::ManyToMany => false,
     }
 }
@@ -58,8 +58,8 @@ fn is_joint(page: &[u8], matching: LabelModifier, card: Cardinality) -> bool
 {
     match matching {
         LabelModifier::None => false,
-        LabelModifier::Include(on, ons) => group_joint(page, card, on, ons),
-        LabelModifier::Exclude(_, _) => false,
+        LabelModifier::Include(on) => group_joint(page, card, on.start, on.count),
+        LabelModifier::Exclude(_) => false,
     }
 }
 

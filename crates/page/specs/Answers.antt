@@ -102,10 +102,10 @@ pub record Within (page : List ℕ) (at r : ℕ) : Type 0 where
 -- a list by the reader of its elements
 module _ {A : Type 0} where
   abbrev pub listAt : Reader A → List ℕ → ListField → Read (List A)
-  listAt r page (list-answer.Got start count next) = got (listed r count (drop start page)) (drop next page)
+  listAt r page (list-answer.Got list next) = got (listed r (list .count) (drop (list .start) page)) (drop next page)
   listAt r page (list-answer.Bad f) = refused (faultOf f)
 
   -- a list that was read: all of its elements can be read again
   abbrev pub listStored : Reader A → List ℕ → ListField → Type 0
-  listStored r page (list-answer.Got start count next) = AllRead r count (drop start page)
+  listStored r page (list-answer.Got list next) = AllRead r (list .count) (drop (list .start) page)
   listStored r page (list-answer.Bad f) = Unit {0}

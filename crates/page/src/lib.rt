@@ -18,6 +18,7 @@ pub use limit::RECORD_LIMIT;
 pub use limit::TEXT_LIMIT;
 pub use limit::TIME_LIMIT;
 pub use limit::WIDTH_LIMIT;
+pub use list::List;
 pub use list::ListField;
 pub use name::ByteClass;
 pub use name::all_in;

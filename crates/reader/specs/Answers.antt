@@ -21,7 +21,7 @@ abbrev selectorOf : Text → List matcher.Matcher → matcher.Selector
 selectorOf n ms = record { name = n; matchers = ms }
 
 abbrev pub selectorOn : List ℕ → Selector → matcher.Selector
-selectorOn page s = selectorOf (spanOn page (s .name)) (matchersOn page (s .matchers) (s .count))
+selectorOn page s = selectorOf (spanOn page (s .name)) (matchersOn page (s .matchers .start) (s .matchers .count))
 
 abbrev pub recordOn : List ℕ → Record → spec.Record
 recordOn page (code.Number l) = spec.leaf (spec.number (literalOf l))
@@ -44,8 +44,8 @@ recordAt page (record-answer.Bad f) = refused (faultOf f)
 -- a selector's name lies on the page, its marks are those of its matchers, and these can all be read again
 pub record SelectorRead (page : List ℕ) (s : Selector) : Type 0 where
   pub name : Lies page (s .name)
-  pub marked : ListFacts (matchersOn page (s .matchers) (s .count)) (s .named) (s .empty)
-  pub stored : AllRead matcher.readMatcher (s .count) (drop (s .matchers) page)
+  pub marked : ListFacts (matchersOn page (s .matchers .start) (s .matchers .count)) (s .named) (s .empty)
+  pub stored : AllRead matcher.readMatcher (s .matchers .count) (drop (s .matchers .start) page)
 
 -- a record's own texts lie on the page: a string, a selector's name, a function's name (with the count of its kinds); its labels and matchers
 -- can all be read again

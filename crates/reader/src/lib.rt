@@ -31,12 +31,11 @@ ghost use Rattle.page.specs.Answers.{numberAt};
 ghost use Rattle.records.specs.Record.{operands, readCode, recordForms, readRecord};
 ghost use Rattle.reader.specs.Answers.{recordOn, recordAt, recordLies};
 
-// A selector: its name, a part without bytes where there is none, the start of its first matcher and their count, and what the
-// check asks of them: whether one is named `__name__`, and whether all accept empty text.
+// A selector: its name, a part without bytes where there is none, its matchers, and what the check asks of them: whether one is
+// named `__name__`, and whether all accept empty text.
 pub struct Selector {
     pub name: page::Span,
-    pub matchers: usize,
-    pub count: usize,
+    pub matchers: page::List,
     pub named: bool,
     pub empty: bool,
 }
@@ -144,8 +143,7 @@ fn read_selector(page: &[u8], at: usize) -> RecordField
     match page::read_text(page, at, page::TextClass::MetricName) {
         page::Text::Got(name) => match read_matchers(page, name.end) {
             Matchers::Got {
-                start: matchers,
-                count,
+                list: matchers,
                 named,
                 empty,
                 next,
@@ -153,7 +151,6 @@ fn read_selector(page: &[u8], at: usize) -> RecordField
                 item: Record::Selector(Selector {
                     name: name,
                     matchers: matchers,
-                    count: count,
                     named: named,
                     empty: empty,
                 }),

@@ -37,4 +37,4 @@ readElement Kinds page = readKindNumbers
 
 abbrev pub formNumbers : List ℕ → Form → List ℕ
 formNumbers page (Plain form) = form ∷ []
-formNumbers page (Labelled form start count) = form ∷ labelNumbers page start count
+formNumbers page (Labelled form list) = form ∷ labelNumbers page (list .start) (list .count)

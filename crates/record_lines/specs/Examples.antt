@@ -11,6 +11,7 @@ use Rattle.base.specs.Splice.{splice, join}
 use Rattle.page.specs.Bytes.{bytes, hex, all, equal}
 use Rattle.page.specs.Read.{badField}
 use Rattle.page.specs.Listed.{listed}
+use Rattle.page.specs.declared.list.List as page-list
 use Rattle.page.specs.declared.text.Span.{Span}
 use Rattle.leaves.specs.Decimal.{digits, decimal}
 use Rattle.records.specs.declared.kind.Kind.the-variants.{Scalar}
@@ -42,27 +43,30 @@ example p r n l = record { page = p; shown = r; next = n; line = l }
 abbrev span : ℕ → ℕ → Span
 span start end = record { start = start; end = end }
 
+abbrev list : ℕ → ℕ → page-list.List
+list start count = record { start = start; count = count }
+
 -- a selector without a name, and two matchers: `a!="b"` and `a!~"b"`
 abbrev twoMatchers : List ℕ
 twoMatchers = hex "0200020101610162030161016201"
 
 abbrev selector : Record
-selector = code.Selector (record { name = span 2 2; matchers = 3; count = 2; named = false; empty = false })
+selector = code.Selector (record { name = span 2 2; matchers = list 3 2; named = false; empty = false })
 
 -- on (a), group_right (), a left fill of 5
 abbrev modified : Record
 modified =
     code.Binary 1 (modifier.Some (record {
       «returns_bool» = true;
-      matching = Include 6 1;
-      card = OneToMany 10 0;
+      matching = Include (list 6 1);
+      card = OneToMany (list 10 0);
       lhs = fill.Some (Whole 5);
       rhs = fill.None;
     }))
 
 -- vector and scalar, at most 3 more, a scalar
 abbrev call : Record
-call = code.Call (record { name = span 2 4; kinds = 5; declared = 2; variadic = UpTo 3; result = Scalar }) 2
+call = code.Call (record { name = span 2 4; kinds = list 5 2; variadic = UpTo 3; result = Scalar }) 2
 
 abbrev examples : List Example
 examples =
@@ -76,7 +80,7 @@ examples =
     ∷ example (hex "07") code.Unary 1 "1 7\n"
     ∷ example (hex "08") code.Paren 1 "1 8\n"
     ∷ example (hex "0901010101010161020001000500") modified 14 "14 9 1 1 1 1 1 7 1 2 0 1 0 5 0\n"
-    ∷ example (hex "0a1b02020161016201") (code.Aggregate 27 (Exclude 4 2) 1) 9 "9 10 27 2 2 5 1 7 1 1\n"
+    ∷ example (hex "0a1b02020161016201") (code.Aggregate 27 (Exclude (list 4 2)) 1) 9 "9 10 27 2 2 5 1 7 1 1\n"
     ∷ example (hex "0b026c6e02000102030102") call 11 "11 11 2 2 2 0 1 2 3 1 2\n"
     ∷ []
 

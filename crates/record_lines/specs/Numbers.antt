@@ -97,13 +97,13 @@ labelNumbers page = listNumbers (readLabelNumbers page) page
 
 abbrev pub labelModifierNumbers : List ℕ → LabelModifier → List ℕ
 labelModifierNumbers page label-modifier.None = 0 ∷ []
-labelModifierNumbers page (label-modifier.Include start count) = 1 ∷ labelNumbers page start count
-labelModifierNumbers page (label-modifier.Exclude start count) = 2 ∷ labelNumbers page start count
+labelModifierNumbers page (label-modifier.Include list) = 1 ∷ labelNumbers page (list .start) (list .count)
+labelModifierNumbers page (label-modifier.Exclude list) = 2 ∷ labelNumbers page (list .start) (list .count)
 
 abbrev pub cardinalityNumbers : List ℕ → Cardinality → List ℕ
 cardinalityNumbers page OneToOne = 0 ∷ []
-cardinalityNumbers page (ManyToOne start count) = 1 ∷ labelNumbers page start count
-cardinalityNumbers page (OneToMany start count) = 2 ∷ labelNumbers page start count
+cardinalityNumbers page (ManyToOne list) = 1 ∷ labelNumbers page (list .start) (list .count)
+cardinalityNumbers page (OneToMany list) = 2 ∷ labelNumbers page (list .start) (list .count)
 cardinalityNumbers page ManyToMany = 3 ∷ []
 
 abbrev pub binModifierNumbers : List ℕ → BinModifier → List ℕ
@@ -142,14 +142,14 @@ variadicNumbers (UpTo n) = 2 ∷ n ∷ []
 abbrev pub functionNumbers : List ℕ → Function → List ℕ
 functionNumbers page f =
     spanNumbers (f .name)
-    ++ listNumbers readKindNumbers page (f .kinds) (f .declared)
+    ++ listNumbers readKindNumbers page (f .kinds .start) (f .kinds .count)
     ++ variadicNumbers (f .variadic)
     ++ (kindNumber (kindOf (f .result)) ∷ [])
 
 -- ## Records: the kind, 0 to 11, and the fields
 
 abbrev pub selectorNumbers : List ℕ → Selector → List ℕ
-selectorNumbers page s = spanNumbers (s .name) ++ listNumbers (readMatcherNumbers page) page (s .matchers) (s .count)
+selectorNumbers page s = spanNumbers (s .name) ++ listNumbers (readMatcherNumbers page) page (s .matchers .start) (s .matchers .count)
 
 abbrev pub fieldNumbers : List ℕ → Record → List ℕ
 fieldNumbers page (code.Number l) = literalNumbers l

@@ -28,14 +28,10 @@ fn put_fill(fill: Fill, line: &mut [u8], at: usize) -> usize
     }
 }
 
-// A form alone, or with a list of labels by its start and its count.
+// A form alone, or with a list of labels.
 pub enum Form {
     Plain(u64),
-    Labelled {
-        number: u64,
-        start: usize,
-        count: usize,
-    },
+    Labelled { number: u64, list: page::List },
 }
 
 fn put_form(page: &[u8], form: Form, line: &mut [u8], at: usize) -> usize
@@ -43,13 +39,9 @@ fn put_form(page: &[u8], form: Form, line: &mut [u8], at: usize) -> usize
 {
     match form {
         Form::Plain(n) => put_spaced(n, line, at),
-        Form::Labelled {
-            number: n,
-            start,
-            count,
-        } => {
+        Form::Labelled { number: n, list } => {
             let next = put_spaced(n, line, at);
-            put_list(Elements::Labels, page, start, count, line, next)
+            put_list(Elements::Labels, page, list.start, list.count, line, next)
         }
     }
 }
@@ -59,16 +51,8 @@ fn label_modifier_form(m: LabelModifier) -> Form
 {
     match m {
         LabelModifier::None => Form::Plain(0),
-        LabelModifier::Include(start, count) => Form::Labelled {
-            number: 1,
-            start,
-            count,
-        },
-        LabelModifier::Exclude(start, count) => Form::Labelled {
-            number: 2,
-            start,
-            count,
-        },
+        LabelModifier::Include(list) => Form::Labelled { number: 1, list },
+        LabelModifier::Exclude(list) => Form::Labelled { number: 2, list },
     }
 }
 
@@ -77,16 +61,8 @@ fn cardinality_form(c: Cardinality) -> Form
 {
     match c {
         Cardinality::OneToOne => Form::Plain(0),
-        Cardinality::ManyToOne(start, count) => Form::Labelled {
-            number: 1,
-            start,
-            count,
-        },
-        Cardinality::OneToMany(start, count) => Form::Labelled {
-            number: 2,
-            start,
-            count,
-        },
+        Cardinality::ManyToOne(list) => Form::Labelled { number: 1, list },
+        Cardinality::OneToMany(list) => Form::Labelled { number: 2, list },
         Cardinality::ManyToMany => Form::Plain(3),
     }
 }

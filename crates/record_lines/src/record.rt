@@ -31,8 +31,8 @@ fn put_selector(page: &[u8], s: Selector, line: &mut [u8], at: usize) -> usize
     put_list(
         Elements::Matchers,
         page,
-        s.matchers,
-        s.count,
+        s.matchers.start,
+        s.matchers.count,
         line,
         after_name,
     )
@@ -74,7 +74,14 @@ fn put_function(page: &[u8], f: Function, line: &mut [u8], at: usize) -> usize
     let variadic = f.variadic;
     let result = f.result;
     let after_name = put_span(name, line, at);
-    let after_kinds = put_list(Elements::Kinds, page, f.kinds, f.declared, line, after_name);
+    let after_kinds = put_list(
+        Elements::Kinds,
+        page,
+        f.kinds.start,
+        f.kinds.count,
+        line,
+        after_name,
+    );
     let after_variadic = put_numbers(variadic_numbers(variadic), line, after_kinds);
     put_spaced(kind_number(result), line, after_variadic)
 }

@@ -130,8 +130,8 @@ fillAt page fill-answer.Bad = refused badField
 
 abbrev pub labelModifierOn : List ℕ → LabelModifier → Option modifier.LabelModifier
 labelModifierOn page label-modifier.None = none
-labelModifierOn page (label-modifier.Include start count) = some (modifier.include (labelsOn page start count))
-labelModifierOn page (label-modifier.Exclude start count) = some (modifier.exclude (labelsOn page start count))
+labelModifierOn page (label-modifier.Include list) = some (modifier.include (labelsOn page (list .start) (list .count)))
+labelModifierOn page (label-modifier.Exclude list) = some (modifier.exclude (labelsOn page (list .start) (list .count)))
 
 abbrev pub labelModifierAt : List ℕ → LabelModifierField → Read (Option modifier.LabelModifier)
 labelModifierAt page (label-modifier-answer.Got m next) = got (labelModifierOn page m) (drop next page)
@@ -140,8 +140,8 @@ labelModifierAt page (label-modifier-answer.Bad f) = refused (faultOf f)
 -- the labels of a modifier that was read: all can be read again
 abbrev pub LabelModifierStored : List ℕ → LabelModifier → Type 0
 LabelModifierStored page label-modifier.None = Unit {0}
-LabelModifierStored page (label-modifier.Include start count) = AllRead readAnyText count (drop start page)
-LabelModifierStored page (label-modifier.Exclude start count) = AllRead readAnyText count (drop start page)
+LabelModifierStored page (label-modifier.Include list) = AllRead readAnyText (list .count) (drop (list .start) page)
+LabelModifierStored page (label-modifier.Exclude list) = AllRead readAnyText (list .count) (drop (list .start) page)
 
 abbrev pub labelModifierStored : List ℕ → LabelModifierField → Type 0
 labelModifierStored page (label-modifier-answer.Got m next) = LabelModifierStored page m
@@ -149,8 +149,8 @@ labelModifierStored page (label-modifier-answer.Bad f) = Unit {0}
 
 abbrev pub cardinalityOn : List ℕ → Cardinality → modifier.Cardinality
 cardinalityOn page OneToOne = modifier.oneToOne
-cardinalityOn page (ManyToOne start count) = modifier.manyToOne (labelsOn page start count)
-cardinalityOn page (OneToMany start count) = modifier.oneToMany (labelsOn page start count)
+cardinalityOn page (ManyToOne list) = modifier.manyToOne (labelsOn page (list .start) (list .count))
+cardinalityOn page (OneToMany list) = modifier.oneToMany (labelsOn page (list .start) (list .count))
 cardinalityOn page ManyToMany = modifier.manyToMany
 
 abbrev pub cardinalityAt : List ℕ → CardinalityField → Read modifier.Cardinality
@@ -159,8 +159,8 @@ cardinalityAt page (cardinality-answer.Bad f) = refused (faultOf f)
 
 abbrev pub CardinalityStored : List ℕ → Cardinality → Type 0
 CardinalityStored page OneToOne = Unit {0}
-CardinalityStored page (ManyToOne start count) = AllRead readAnyText count (drop start page)
-CardinalityStored page (OneToMany start count) = AllRead readAnyText count (drop start page)
+CardinalityStored page (ManyToOne list) = AllRead readAnyText (list .count) (drop (list .start) page)
+CardinalityStored page (OneToMany list) = AllRead readAnyText (list .count) (drop (list .start) page)
 CardinalityStored page ManyToMany = Unit {0}
 
 abbrev pub cardinalityStored : List ℕ → CardinalityField → Type 0

@@ -43,7 +43,7 @@ matcherFactsAt page (facts-answer.Got named empty next) = got (named, empty) (dr
 matcherFactsAt page (facts-answer.Bad f) = refused (faultOf f)
 
 abbrev pub matchersAt : List ℕ → Matchers → Read (List matcher.Matcher)
-matchersAt page (matchers-answer.Got start count named empty next) = got (matchersOn page start count) (drop next page)
+matchersAt page (matchers-answer.Got list named empty next) = got (matchersOn page (list .start) (list .count)) (drop next page)
 matchersAt page (matchers-answer.Bad f) = refused (faultOf f)
 
 -- some matcher is named `__name__`, and all accept empty text
@@ -53,5 +53,5 @@ pub record ListFacts (ms : List matcher.Matcher) (named empty : Bool) : Type 0 w
 
 -- the facts are those of the list, and all of its matchers can be read again
 abbrev pub matchersStored : List ℕ → Matchers → Type 0
-matchersStored page (matchers-answer.Got start count named empty next) = ListFacts (matchersOn page start count) named empty × AllRead matcher.readMatcher count (drop start page)
+matchersStored page (matchers-answer.Got list named empty next) = ListFacts (matchersOn page (list .start) (list .count)) named empty × AllRead matcher.readMatcher (list .count) (drop (list .start) page)
 matchersStored page (matchers-answer.Bad f) = Unit {0}

@@ -31,7 +31,7 @@ abbrev functionOf : Text → List Kind → signature.Variadic → Kind → signa
 functionOf n ks v k = record { name = n; argTypes = ks; variadic = v; returnType = k }
 
 abbrev pub functionOn : List ℕ → Function → signature.Function
-functionOn page f = functionOf (spanOn page (f .name)) (kindsOn page (f .kinds) (f .declared)) (variadicOf (f .variadic)) (kindOf (f .result))
+functionOn page f = functionOf (spanOn page (f .name)) (kindsOn page (f .kinds .start) (f .kinds .count)) (variadicOf (f .variadic)) (kindOf (f .result))
 
 abbrev pub functionAt : List ℕ → FunctionField → Read signature.Function
 functionAt page (function-answer.Got f next) = got (functionOn page f) (drop next page)
@@ -40,7 +40,7 @@ functionAt page (function-answer.Bad f) = refused (faultOf f)
 -- the name lies on the page, and there are as many kinds as are declared
 pub record FunctionLies (page : List ℕ) (f : Function) : Type 0 where
   pub name : Lies page (f .name)
-  pub kinds : length (kindsOn page (f .kinds) (f .declared)) ≡ f .declared
+  pub kinds : length (kindsOn page (f .kinds .start) (f .kinds .count)) ≡ f .kinds .count
 
 abbrev pub functionLies : List ℕ → FunctionField → Type 0
 functionLies page (function-answer.Got f next) = FunctionLies page f

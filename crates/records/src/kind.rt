@@ -97,11 +97,8 @@ pub fn kinds_from(page: &[u8], start: usize, count: usize) -> page::ListField
             }
         }
     }
-    page::ListField::Got {
-        start,
-        count,
-        next: at,
-    }
+    let list = page::List { start, count };
+    page::ListField::Got { list, next: at }
 }
 
 // A count, and so many kinds.

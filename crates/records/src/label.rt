@@ -24,11 +24,8 @@ pub fn labels_from(page: &[u8], start: usize, count: usize) -> page::ListField
             }
         }
     }
-    page::ListField::Got {
-        start,
-        count,
-        next: at,
-    }
+    let list = page::List { start, count };
+    page::ListField::Got { list, next: at }
 }
 
 // A count, and so many labels.

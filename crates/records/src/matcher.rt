@@ -112,12 +112,10 @@ pub fn read_matcher_facts(page: &[u8], at: usize) -> MatcherFacts
     }
 }
 
-// Where the first matcher starts and how many there are, whether one is named `__name__`, whether all accept empty text, and the
-// position after the last.
+// Matchers, whether one is named `__name__`, whether all accept empty text, and the position after the last.
 pub enum Matchers {
     Got {
-        start: usize,
-        count: usize,
+        list: page::List,
         named: bool,
         empty: bool,
         next: usize,
@@ -151,9 +149,9 @@ pub fn matchers_from(page: &[u8], start: usize, count: usize) -> Matchers
             }
         }
     }
+    let list = page::List { start, count };
     Matchers::Got {
-        start,
-        count,
+        list,
         named,
         empty,
         next: at,

@@ -12,11 +12,11 @@ ghost use Rattle.records.specs.Modifier.{readLabelModifier, readCardinal
 ghost use Rattle.records.specs.Answers.{labelModifierAt, labelModifierOn, cardinalityAt, cardinalityOn, binModifierAt, readFills, modifierAt};
 ghost use Rattle.records.specs.Answers.{LabelModifierStored, labelModifierStored, CardinalityStored, cardinalityStored, binModifierStored, modifierStored};
 
-// `on` and `by` include, `ignoring` and `without` exclude: the start of the first label and their count.
+// `on` and `by` include, `ignoring` and `without` exclude labels.
 pub enum LabelModifier {
     None,
-    Include(usize, usize),
-    Exclude(usize, usize),
+    Include(page::List),
+    Exclude(page::List),
 }
 
 pub enum LabelModifierField {
@@ -38,15 +38,15 @@ pub fn read_label_modifier(page: &[u8], at: usize) -> LabelModifierField
                 next,
             },
             1 => match read_labels(page, next) {
-                page::ListField::Got { start, count, next } => LabelModifierField::Got {
-                    modifier: LabelModifier::Include(start, count),
+                page::ListField::Got { list, next } => LabelModifierField::Got {
+                    modifier: LabelModifier::Include(list),
                     next,
                 },
                 page::ListField::Bad(f) => LabelModifierField::Bad(f),
             },
             2 => match read_labels(page, next) {
-                page::ListField::Got { start, count, next } => LabelModifierField::Got {
-                    modifier: LabelModifier::Exclude(start, count),
+                page::ListField::Got { list, next } => LabelModifierField::Got {
+                    modifier: LabelModifier::Exclude(list),
                     next,
                 },
                 page::ListField::Bad(f) => LabelModifierField::Bad(f),
@@ -60,8 +60,8 @@ pub fn read_label_modifier(page: &[u8], at: usize) -> LabelModifierField
 // group_left is many-to-one, group_right one-to-many, with the group labels.
 pub enum Cardinality {
     OneToOne,
-    ManyToOne(usize, usize),
-    OneToMany(usize, usize),
+    ManyToOne(page::List),
+    OneToMany(page::List),
     ManyToMany,
 }
 
@@ -81,15 +81,15 @@ pub fn read_cardinality(page: &[u8], at: usize) -> CardinalityField
                 next,
             },
             1 => match read_labels(page, next) {
-                page::ListField::Got { start, count, next } => CardinalityField::Got {
-                    card: Cardinality::ManyToOne(start, count),
+                page::ListField::Got { list, next } => CardinalityField::Got {
+                    card: Cardinality::ManyToOne(list),
                     next,
                 },
                 page::ListField::Bad(f) => CardinalityField::Bad(f),
             },
             2 => match read_labels(page, next) {
-                page::ListField::Got { start, count, next } => CardinalityField::Got {
-                    card: Cardinality::OneToMany(start, count),
+                page::ListField::Got { list, next } => CardinalityField::Got {
+                    card: Cardinality::OneToMany(list),
                     next,
                 },
                 page::ListField::Bad(f) => CardinalityField::Bad(f),

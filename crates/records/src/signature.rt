@@ -68,11 +68,10 @@ pub fn read_variadic(page: &[u8], at: usize) -> VariadicField
     }
 }
 
-// A signature: the declared kinds are given by the start of the first and their count.
+// A signature: the declared kinds stay on the page.
 pub struct Function {
     pub name: page::Span,
-    pub kinds: usize,
-    pub declared: usize,
+    pub kinds: page::List,
     pub variadic: Variadic,
     pub result: Kind,
 }
@@ -83,15 +82,9 @@ pub enum FunctionField {
 }
 
 // The rest of a signature: its extra and its result.
-fn read_function_rest(
-    page: &[u8],
-    at: usize,
-    name: page::Span,
-    kinds: usize,
-    declared: usize,
-) -> FunctionField
-    requires { ⌜ Lies (now page) name × (length (kindsOn (now page) kinds declared) ≡ declared) ⌝ }
-    ensures reads { λ r. ⌜ functionAt (now (page .entry)) r ≡ readFunctionRest (spanOn (now (page .entry)) name) (kindsOn (now (page .entry)) kinds declared) (drop at (now (page .entry))) ⌝ }
+fn read_function_rest(page: &[u8], at: usize, name: page::Span, kinds: page::List) -> FunctionField
+    requires { ⌜ Lies (now page) name × (length (kindsOn (now page) (kinds .start) (kinds .count)) ≡ kinds .count) ⌝ }
+    ensures reads { λ r. ⌜ functionAt (now (page .entry)) r ≡ readFunctionRest (spanOn (now (page .entry)) name) (kindsOn (now (page .entry)) (kinds .start) (kinds .count)) (drop at (now (page .entry))) ⌝ }
     ensures lies { λ r. ⌜ functionLies (now (page .entry)) r ⌝ }
 {
     match read_variadic(page, at) {
@@ -100,7 +93,6 @@ fn read_function_rest(
                 function: Function {
                     name: name,
                     kinds: kinds,
-                    declared: declared,
                     variadic: variadic,
                     result: result,
                 },
@@ -118,11 +110,12 @@ pub fn read_function(page: &[u8], at: usize) -> FunctionField
 {
     match page::read_text(page, at, page::TextClass::FunctionName) {
         page::Text::Got(name) => match read_kinds(page, name.end) {
-            page::ListField::Got {
-                start: kinds,
-                count: declared,
+            page::ListField::Got { list: kinds, next } => read_function_rest(
+                page,
                 next,
-            } => read_function_rest(page, next, name, kinds, declared),
+                name,
+                kinds,
+            ),
             page::ListField::Bad(f) => FunctionField::Bad(f),
         },
         page::Text::Bad(f) => FunctionField::Bad(f),

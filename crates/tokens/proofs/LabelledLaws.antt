@@ -13,6 +13,7 @@ use Rattle.page.specs.Bytes.{pick, bytes, isEmpty}
 use Rattle.page.specs.Read.{Reader}
 use Rattle.page.specs.Text.{readAnyText}
 use Rattle.page.specs.Listed.{listed, AllRead}
+use Rattle.page.specs.declared.list.List as page-list
 use Rattle.page.proofs.ListLaws.{listed-none}
 use Rattle.records.specs.Field.{Labels}
 use Rattle.records.specs.Modifier.{include, exclude}
@@ -76,29 +77,29 @@ module _ (page : List ℕ) (m : LabelModifier) where
   pub matching-none : m ≡ None → displayMatching (labelModifierOn page m) ≡ []
   matching-none e = rw e
 
-  pub matching-on : (s n : ℕ) → m ≡ Include s n → displayMatching (labelModifierOn page m) ≡ labelledBytes (bytes " on") (labelsOn page s n)
-  matching-on s n e = rw e (labelled-bytes " on" (labelsOn page s n))
+  pub matching-on : (list : page-list.List) → m ≡ Include list → displayMatching (labelModifierOn page m) ≡ labelledBytes (bytes " on") (labelsOn page (list .start) (list .count))
+  matching-on list e = rw e (labelled-bytes " on" (labelsOn page (list .start) (list .count)))
 
-  module _ (s n : ℕ) (e : m ≡ Exclude s n) where
-    pub matching-vanishes : n ≡ 0 → displayMatching (labelModifierOn page m) ≡ []
-    matching-vanishes none = rw e (vanished (labelsOn page s n) (none-listed readAnyText n (drop s page) none))
+  module _ (list : page-list.List) (e : m ≡ Exclude list) where
+    pub matching-vanishes : list .count ≡ 0 → displayMatching (labelModifierOn page m) ≡ []
+    matching-vanishes none = rw e (vanished (labelsOn page (list .start) (list .count)) (none-listed readAnyText (list .count) (drop (list .start) page) none))
 
-    pub matching-ignoring : LabelModifierStored page m → (n ≡ 0 → ⊥) → displayMatching (labelModifierOn page m) ≡ labelledBytes (bytes " ignoring") (labelsOn page s n)
-    matching-ignoring all some· = rw e (ignored (labelsOn page s n) (some-listed readAnyText n (drop s page) (rw e at all) some·) ∙ labelled-bytes " ignoring" (labelsOn page s n))
+    pub matching-ignoring : LabelModifierStored page m → (list .count ≡ 0 → ⊥) → displayMatching (labelModifierOn page m) ≡ labelledBytes (bytes " ignoring") (labelsOn page (list .start) (list .count))
+    matching-ignoring all some· = rw e (ignored (labelsOn page (list .start) (list .count)) (some-listed readAnyText (list .count) (drop (list .start) page) (rw e at all) some·) ∙ labelled-bytes " ignoring" (labelsOn page (list .start) (list .count)))
 
   pub grouping-none : m ≡ None → displayGrouping (labelModifierOn page m) ≡ []
   grouping-none e = rw e
 
-  pub grouping-without : (s n : ℕ) → m ≡ Exclude s n
-      → Cut (displayGrouping (labelModifierOn page m)) (labelledBytes (bytes " without") (labelsOn page s n)) (bytes " ")
-  grouping-without s n e = record { is = rw e (ap (λ (l : List ℕ). l ++ (bytes " ")) (labelled-bytes " without" (labelsOn page s n))) }
+  pub grouping-without : (list : page-list.List) → m ≡ Exclude list
+      → Cut (displayGrouping (labelModifierOn page m)) (labelledBytes (bytes " without") (labelsOn page (list .start) (list .count))) (bytes " ")
+  grouping-without list e = record { is = rw e (ap (λ (l : List ℕ). l ++ (bytes " ")) (labelled-bytes " without" (labelsOn page (list .start) (list .count)))) }
 
-  module _ (s n : ℕ) (e : m ≡ Include s n) where
-    pub grouping-vanishes : n ≡ 0 → displayGrouping (labelModifierOn page m) ≡ []
-    grouping-vanishes none = rw e (ungrouped (labelsOn page s n) (none-listed readAnyText n (drop s page) none))
+  module _ (list : page-list.List) (e : m ≡ Include list) where
+    pub grouping-vanishes : list .count ≡ 0 → displayGrouping (labelModifierOn page m) ≡ []
+    grouping-vanishes none = rw e (ungrouped (labelsOn page (list .start) (list .count)) (none-listed readAnyText (list .count) (drop (list .start) page) none))
 
-    pub grouping-by : LabelModifierStored page m → (n ≡ 0 → ⊥) → Cut (displayGrouping (labelModifierOn page m)) (labelledBytes (bytes " by") (labelsOn page s n)) (bytes " ")
-    grouping-by all some· = record { is = rw e (grouped (labelsOn page s n) (some-listed readAnyText n (drop s page) (rw e at all) some·) ∙ ap (λ (l : List ℕ). l ++ (bytes " ")) (labelled-bytes " by" (labelsOn page s n))) }
+    pub grouping-by : LabelModifierStored page m → (list .count ≡ 0 → ⊥) → Cut (displayGrouping (labelModifierOn page m)) (labelledBytes (bytes " by") (labelsOn page (list .start) (list .count))) (bytes " ")
+    grouping-by all some· = record { is = rw e (grouped (labelsOn page (list .start) (list .count)) (some-listed readAnyText (list .count) (drop (list .start) page) (rw e at all) some·) ∙ ap (λ (l : List ℕ). l ++ (bytes " ")) (labelled-bytes " by" (labelsOn page (list .start) (list .count)))) }
 
 -- ## Cardinality
 
@@ -109,13 +110,13 @@ module _ (page : List ℕ) (c : Cardinality) where
   pub cardinality-many : c ≡ ManyToMany → displayCardinality (cardinalityOn page c) ≡ []
   cardinality-many e = rw e
 
-  pub cardinality-left : (s n : ℕ) → c ≡ ManyToOne s n
-      → displayCardinality (cardinalityOn page c) ≡ labelledBytes (bytes " group_left") (labelsOn page s n)
-  cardinality-left s n e = rw e (labelled-bytes " group_left" (labelsOn page s n))
+  pub cardinality-left : (list : page-list.List) → c ≡ ManyToOne list
+      → displayCardinality (cardinalityOn page c) ≡ labelledBytes (bytes " group_left") (labelsOn page (list .start) (list .count))
+  cardinality-left list e = rw e (labelled-bytes " group_left" (labelsOn page (list .start) (list .count)))
 
-  pub cardinality-right : (s n : ℕ) → c ≡ OneToMany s n
-      → displayCardinality (cardinalityOn page c) ≡ labelledBytes (bytes " group_right") (labelsOn page s n)
-  cardinality-right s n e = rw e (labelled-bytes " group_right" (labelsOn page s n))
+  pub cardinality-right : (list : page-list.List) → c ≡ OneToMany list
+      → displayCardinality (cardinalityOn page c) ≡ labelledBytes (bytes " group_right") (labelsOn page (list .start) (list .count))
+  cardinality-right list e = rw e (labelled-bytes " group_right" (labelsOn page (list .start) (list .count)))
 
 -- ## Lengths
 

@@ -18,12 +18,12 @@ pub fn matching_len(page: &[u8], matching: LabelModifier, cap: usize) -> usize
 {
     match matching {
         LabelModifier::None => 0,
-        LabelModifier::Include(start, count) => labelled_len(3, page, start, count, cap),
-        LabelModifier::Exclude(start, count) => {
-            if count == 0 {
+        LabelModifier::Include(list) => labelled_len(3, page, list.start, list.count, cap),
+        LabelModifier::Exclude(list) => {
+            if list.count == 0 {
                 return 0;
             }
-            labelled_len(9, page, start, count, cap)
+            labelled_len(9, page, list.start, list.count, cap)
         }
     }
 }
@@ -35,12 +35,12 @@ pub fn put_matching(page: &[u8], matching: LabelModifier, out: &mut [u8], at: us
 {
     match matching {
         LabelModifier::None => at,
-        LabelModifier::Include(start, count) => put_labelled(b" on", page, start, count, out, at),
-        LabelModifier::Exclude(start, count) => {
-            if count == 0 {
+        LabelModifier::Include(list) => put_labelled(b" on", page, list.start, list.count, out, at),
+        LabelModifier::Exclude(list) => {
+            if list.count == 0 {
                 return at;
             }
-            put_labelled(b" ignoring", page, start, count, out, at)
+            put_labelled(b" ignoring", page, list.start, list.count, out, at)
         }
     }
 }
@@ -51,8 +51,8 @@ pub fn cardinality_len(page: &[u8], card: Cardinality, cap: usize) -> usize
 {
     match card {
         Cardinality::OneToOne => 0,
-        Cardinality::ManyToOne(start, count) => labelled_len(11, page, start, count, cap),
-        Cardinality::OneToMany(start, count) => labelled_len(12, page, start, count, cap),
+        Cardinality::ManyToOne(list) => labelled_len(11, page, list.start, list.count, cap),
+        Cardinality::OneToMany(list) => labelled_len(12, page, list.start, list.count, cap),
         Cardinality::ManyToMany => 0,
     }
 }
@@ -64,19 +64,19 @@ pub fn put_cardinality(page: &[u8], card: Cardinality, out: &mut [u8], at: usize
 {
     match card {
         Cardinality::OneToOne => at,
-        Cardinality::ManyToOne(start, count) => put_labelled(
+        Cardinality::ManyToOne(list) => put_labelled(
             b" group_left",
             page,
-            start,
-            count,
+            list.start,
+            list.count,
             out,
             at,
         ),
-        Cardinality::OneToMany(start, count) => put_labelled(
+        Cardinality::OneToMany(list) => put_labelled(
             b" group_right",
             page,
-            start,
-            count,
+            list.start,
+            list.count,
             out,
             at,
         ),
@@ -91,13 +91,13 @@ pub fn grouping_len(page: &[u8], grouping: LabelModifier, cap: usize) -> usize
 {
     match grouping {
         LabelModifier::None => 0,
-        LabelModifier::Include(start, count) => {
-            if count == 0 {
+        LabelModifier::Include(list) => {
+            if list.count == 0 {
                 return 0;
             }
-            labelled_len(4, page, start, count, cap)
+            labelled_len(4, page, list.start, list.count, cap)
         }
-        LabelModifier::Exclude(start, count) => labelled_len(9, page, start, count, cap),
+        LabelModifier::Exclude(list) => labelled_len(9, page, list.start, list.count, cap),
     }
 }
 
@@ -108,15 +108,15 @@ pub fn put_grouping(page: &[u8], grouping: LabelModifier, out: &mut [u8], at: us
 {
     match grouping {
         LabelModifier::None => at,
-        LabelModifier::Include(start, labels) => {
-            if labels == 0 {
+        LabelModifier::Include(labels) => {
+            if labels.count == 0 {
                 return at;
             }
-            let space = put_labelled(b" by", page, start, labels, out, at);
+            let space = put_labelled(b" by", page, labels.start, labels.count, out, at);
             put_byte(b' ', out, space)
         }
-        LabelModifier::Exclude(start, count) => {
-            let space = put_labelled(b" without", page, start, count, out, at);
+        LabelModifier::Exclude(list) => {
+            let space = put_labelled(b" without", page, list.start, list.count, out, at);
             put_byte(b' ', out, space)
         }
     }

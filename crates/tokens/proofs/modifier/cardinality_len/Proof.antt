@@ -27,10 +27,10 @@ returns : tie.Need-returns
 returns c = rw (cardinality-one _ _ (c .enum-told .given .1)) (omega arith)
 
 returns-2 : tie.Need-returns-2
-returns-2 c = rw (cardinality-left _ _ _ _ (c .before .before .card .given .1), length-labelledBytes) (c .labelled-len .ensures)
+returns-2 c = rw (cardinality-left _ _ _ (c .before .before .card .given .1), length-labelledBytes) (c .labelled-len .ensures)
 
 returns-3 : tie.Need-returns-3
-returns-3 c = rw (cardinality-right _ _ _ _ (c .before .before .card2 .given .1), length-labelledBytes) (c .labelled-len2 .ensures)
+returns-3 c = rw (cardinality-right _ _ _ (c .before .before .card2 .given .1), length-labelledBytes) (c .labelled-len2 .ensures)
 
 returns-4 : tie.Need-returns-4
 returns-4 c = rw (cardinality-many _ _ (c .enum-told2 .given .1)) (omega arith)

@@ -18,19 +18,19 @@ enum-known-matching-2 : tie.Need-enum-known-matching-2
 enum-known-matching-2 c = search needs
 
 returns : tie.Need-returns
-returns c = rw (matching-vanishes _ _ _ _ (c .before .before .matching2 .given .1) (c .if1 .taken)) (omega arith)
+returns c = rw (matching-vanishes _ _ _ (c .before .before .before .matching2 .given .1) (c .if1 .taken)) (omega arith)
 
 labelled-len-requires-2 : tie.Need-labelled-len-requires-2
-labelled-len-requires-2 c κs = rw (c .before .before .matching2 .given .1) at (c .before .before .before .before .before .pre)
+labelled-len-requires-2 c κs = rw (c .before .before .before .matching2 .given .1) at (c .before .before .before .before .before .before .pre)
 
 returns-2 : tie.Need-returns-2
 returns-2 c = rw (matching-none _ _ (c .enum-told .given .1)) (omega arith)
 
 returns-3 : tie.Need-returns-3
-returns-3 c = rw (matching-on _ _ _ _ (c .before .before .matching .given .1), length-labelledBytes) (c .labelled-len .ensures)
+returns-3 c = rw (matching-on _ _ _ (c .before .before .matching .given .1), length-labelledBytes) (c .labelled-len .ensures)
 
 returns-4 : tie.Need-returns-4
-returns-4 c = rw (matching-ignoring _ _ _ _ (c .before .before .before .matching2 .given .1) (c .before .before .before .before .before .before .pre) (c .before .if1 .left), length-labelledBytes) (c .labelled-len2 .ensures)
+returns-4 c = rw (matching-ignoring _ _ _ (c .before .before .before .before .matching2 .given .1) (c .before .before .before .before .before .before .before .pre) (c .before .if1 .left), length-labelledBytes) (c .labelled-len2 .ensures)
 
 pub matching-len-spec : {M : Type 1} → statement M
 matching-len-spec =
