@@ -73,19 +73,34 @@ sub-put-prettify : tie.Need-sub-put-prettify
 sub-put-prettify c = accepts-some (known (c .before .before .before .before .before .before .before .before .before .before .before .before))
 
 put-prettify-requires : tie.Need-put-prettify-requires
-put-prettify-requires c κs = (accepts-last (known (c .before .before .before .before .before .before .before .before .before .before .before .before .before)), (c .before .before .before .before .before .before .before .before .before .widths-of .ensures, omega (arith, room-fits (length (prettify (treeAt (now (c .before .before .before .before .before .before .before .before .before .before .before .before .before .before .before .before .before .before .before .before .before .before .args .page)) (c .before .before .before .before .before .before .before .before .before .before .before .before .before .walked .given .0 .1 .0 - 1)))) (length (now (c .before .before .before .before .before .before .before .before .before .before .before .before .before .before .before .before .before .before .before .before .before .before .args .out))) (c .before .before .before .before .before .prettify-len .result) (c .before .before .before .before .before .prettify-len .ensures) (c .before .before .before .before .if1 .taken))))
+put-prettify-requires c κs =
+    let at-if = c .before .before .before .before in
+    let at-prettify-len = at-if .before in
+    let at-widths-of = at-prettify-len .before .before .before .before in
+    let at-walked = at-widths-of .before .before .before .before in
+    let room = room-fits _ _ _ (at-prettify-len .prettify-len .ensures) (at-if .if1 .taken) in
+    (accepts-last (known at-walked), (at-widths-of .widths-of .ensures, omega (arith, room)))
 
 same-length : tie.Need-same-length
 same-length c = search needs
 
 returns : tie.Need-returns
-returns c = does-write prettify (known (c .before .before .before .before .before .before .before .before .before .before .before .before .before .before .before .before) .tree) (known (c .before .before .before .before .before .before .before .before .before .before .before .before .before .before .before .before) .kind) (room-enough (length (prettify (treeAt (now (c .before .before .before .before .before .before .before .before .before .before .before .before .before .before .before .before .before .before .before .before .before .before .before .before .before .args .page)) (c .before .before .before .before .before .before .before .before .before .before .before .before .before .before .before .before .walked .given .0 .1 .0 - 1)))) (length (now (c .before .before .before .before .before .before .before .before .before .before .before .before .before .before .before .before .before .before .before .before .before .before .before .before .before .args .out))) (c .before .before .before .before .before .before .before .before .prettify-len .result) (c .before .before .before .before .before .before .before .before .prettify-len .ensures) (c .before .before .before .before .before .before .before .if1 .taken)) (c .before .before .put-prettify .ensures)
+returns c =
+    let at-if = c .before .before .before .before .before .before .before in
+    let at-prettify-len = at-if .before in
+    let at-walked = at-prettify-len .before .before .before .before .before .before .before .before in
+    does-write prettify (known at-walked .tree) (known at-walked .kind)
+    (room-enough _ _ _ (at-prettify-len .prettify-len .ensures) (at-if .if1 .taken))
+    (c .before .before .put-prettify .ensures)
 
 enum-known-walked-2 : tie.Need-enum-known-walked-2
 enum-known-walked-2 c = search needs
 
 returns-2 : tie.Need-returns-2
-returns-2 c = does-short prettify (known (c .before .before .before .before .before .before .before .before .before) .tree) (room-short (length (prettify (treeAt (now (c .before .before .before .before .before .before .before .before .before .before .before .before .before .before .before .before .before .before .args .page)) (c .before .before .before .before .before .before .before .before .before .walked .given .0 .1 .0 - 1)))) (length (now (c .before .before .before .before .before .before .before .before .before .before .before .before .before .before .before .before .before .before .args .out))) (c .before .prettify-len .result) (c .before .prettify-len .ensures) (c .if1 .left))
+returns-2 c =
+    let at-walked = c .before .before .before .before .before .before .before .before .before in
+    does-short prettify (known at-walked .tree)
+    (room-short _ _ _ (c .before .prettify-len .ensures) (c .if1 .left))
 
 returns-3 : tie.Need-returns-3
 returns-3 c = does-refused prettify ((rw (c .before .walked2 .given .1) at (c .before .before .before .before .before .walk .ensures .says)) .refuses)

@@ -1,7 +1,9 @@
 -- Assumes nothing.
 -- `tokens::token::put_token` meets its contract. Invariant: the letters from i on are left to be written. The measure is the letters left.
 use borrow.Author.Needs.{needs}
-use Prim.Native.Nat.{_-_}
+use Prim.Native.Nat.{_-_, _<_}
+use lib.ListN.{length}
+use Rattle.tokens.specs.Tokens.{letters}
 use native.Mathlib.Omega.{arith}
 use Rattle.base.proofs.SpliceLaws.{Writing, begin-as, room, step, finish}
 use Rattle.records.specs.Code.{token}
@@ -14,6 +16,12 @@ Inv-loop code out₀ at place end i₀ pos₀ out i pos = Writing out₀ out at 
 
 abbrev μ-loop : tie.MeasureT-loop
 μ-loop code out₀ at place end i₀ pos₀ out i pos = end - i
+
+-- the letter that a turn writes is one of the table
+letter-inside : (c : tie.In-loop Inv-loop μ-loop) → c .before .loop .i < length letters
+letter-inside c =
+    let p = placed _ (c .before .before .place-of .ensures .0) in
+    omega (arith, p .inside, c .loop-test .taken)
 
 place-of-requires : tie.Need-place-of-requires Inv-loop μ-loop
 place-of-requires c κs = search needs
@@ -37,19 +45,26 @@ loop-holds : tie.Need-loop-holds Inv-loop μ-loop
 loop-holds c = begin-as (c .before .before .pre) (token-starts (c .before .before .args .code) _ (c .place-of .ensures .1))
 
 array-read-put-byte : tie.Need-array-read-put-byte Inv-loop μ-loop
-array-read-put-byte c = let p = placed _ (c .before .before .place-of .ensures .0) in omega (arith, p .inside, c .loop-test .taken)
+array-read-put-byte c = omega (arith, letter-inside c)
 
 put-byte-requires : tie.Need-put-byte-requires Inv-loop μ-loop
-put-byte-requires c κs = room (c .before .before .loop .inv) (token-letter _ _ (c .before .loop-test .taken) (let p = placed _ (c .before .before .before .place-of .ensures .0) in omega (arith, p .inside, c .before .loop-test .taken)))
+put-byte-requires c κs =
+    room (c .before .before .loop .inv) (token-letter _ _ (c .before .loop-test .taken) (letter-inside (c .before)))
 
 add-i : tie.Need-add-i Inv-loop μ-loop
-add-i c = let p = placed _ (c .before .before .before .before .before .before .place-of .ensures .0) in omega (arith, p .inside, c .before .before .before .before .loop-test .taken)
+add-i c =
+    let at-loop-test = c .before .before .before .before in
+    omega (arith, letter-inside at-loop-test)
 
 loop-less : tie.Need-loop-less Inv-loop μ-loop
 loop-less c = search needs
 
 loop-again : tie.Need-loop-again Inv-loop μ-loop
-loop-again c = step (c .before .before .before .before .before .loop .inv) (token-letter _ _ (c .before .before .before .before .loop-test .taken) (let p = placed _ (c .before .before .before .before .before .before .place-of .ensures .0) in omega (arith, p .inside, c .before .before .before .before .loop-test .taken))) (c .before .before .put-byte .ensures)
+loop-again c =
+    let at-loop-test = c .before .before .before .before in
+    let at-loop = at-loop-test .before in
+    step (at-loop .loop .inv) (token-letter _ _ (at-loop-test .loop-test .taken) (letter-inside at-loop-test))
+    (c .before .before .put-byte .ensures)
 
 same-length : tie.Need-same-length Inv-loop μ-loop
 same-length c = search needs

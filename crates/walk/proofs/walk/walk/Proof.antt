@@ -1,12 +1,12 @@
 -- `walk::walk::walk` meets its contract. The invariant, and what each way through the loop's body makes of it, stand in `WalkedSoFar`; each
 -- answer here hands the values over. The measure is the records that a page may still have.
 use Prim.Native.Nat.{_-_}
-use mathlib.Core.Path.{refl, ap, _∙_}
+use mathlib.Core.Path.{_≡_, refl, ap, _∙_}
 use denote.Ref.{now}
 use Rattle.float.specs.Exact.{RecordExact}
 use Rattle.float.proofs.ExactLaws.{of-got, readRecord-exact}
 use Rattle.records.specs.Record.{readRecord}
-use lib.ListN.{drop}
+use lib.ListN.{drop, length}
 use native.Mathlib.Omega.{arith}
 use Rattle.rules.specs.Answers.{operandMeant}
 use Rattle.ast.specs.Operand.{operandKind}
@@ -21,6 +21,21 @@ Inv-loop page starts₀ firsts₀ tags₀ values₀ bases₀ top₀ at₀ count�
 
 abbrev μ-loop : tie.MeasureT-loop
 μ-loop page starts₀ firsts₀ tags₀ values₀ bases₀ top₀ at₀ count₀ starts firsts tags values bases top at count = 256 - count
+
+-- in every turn the tables are as long as they were
+starts-stay : (c : tie.At-loop Inv-loop μ-loop) →
+    let at-start = c .before .before .before .before .before in
+    length (c .loop .starts) ≡ length (now (at-start .args .starts))
+starts-stay c =
+    let at-start = c .before .before .before .before .before in
+    omega (arith, c .loop .inv .tables .starts-size, at-start .pre .0)
+
+firsts-stay : (c : tie.At-loop Inv-loop μ-loop) →
+    let at-start = c .before .before .before .before .before in
+    length (c .loop .firsts) ≡ length (now (at-start .args .firsts))
+firsts-stay c =
+    let at-start = c .before .before .before .before .before in
+    omega (arith, c .loop .inv .tables .firsts-size, at-start .pre .1)
 
 -- what the record that was judged leaves
 step : (c : tie.After-bases Inv-loop μ-loop) →
@@ -40,10 +55,10 @@ loop-holds : tie.Need-loop-holds Inv-loop μ-loop
 loop-holds c = walked-start (c .if1 .left) (record { tags-size = refl; values-size = refl }) refl (c .before .before .before .before .pre .0) (c .before .before .before .before .pre .1)
 
 same-length : tie.Need-same-length Inv-loop μ-loop
-same-length c = omega (arith, c .before .before .loop .inv .tables .starts-size, c .before .before .before .before .before .before .before .pre .0)
+same-length c = starts-stay (c .before .before)
 
 same-length-2 : tie.Need-same-length-2 Inv-loop μ-loop
-same-length-2 c = omega (arith, c .before .before .loop .inv .tables .firsts-size, c .before .before .before .before .before .before .before .pre .1)
+same-length-2 c = firsts-stay (c .before .before)
 
 returns-2 : tie.Need-returns-2 Inv-loop μ-loop
 returns-2 c =
@@ -60,10 +75,14 @@ field-refusal-requires : tie.Need-field-refusal-requires Inv-loop μ-loop
 field-refusal-requires c κs = search needs
 
 same-length-3 : tie.Need-same-length-3 Inv-loop μ-loop
-same-length-3 c = omega (arith, c .before .before .before .before .before .before .before .loop .inv .tables .starts-size, c .before .before .before .before .before .before .before .before .before .before .before .before .pre .0)
+same-length-3 c =
+    let at-loop = c .before .before .before .before .before .before .before in
+    starts-stay at-loop
 
 same-length-4 : tie.Need-same-length-4 Inv-loop μ-loop
-same-length-4 c = omega (arith, c .before .before .before .before .before .before .before .loop .inv .tables .firsts-size, c .before .before .before .before .before .before .before .before .before .before .before .before .pre .1)
+same-length-4 c =
+    let at-loop = c .before .before .before .before .before .before .before in
+    firsts-stay at-loop
 
 returns-3 : tie.Need-returns-3 Inv-loop μ-loop
 returns-3 c =
@@ -97,10 +116,14 @@ enum-known-refusal : tie.Need-enum-known-refusal Inv-loop μ-loop
 enum-known-refusal c = search needs
 
 same-length-5 : tie.Need-same-length-5 Inv-loop μ-loop
-same-length-5 c = omega (arith, c .before .before .before .before .before .before .before .before .before .before .before .before .before .loop .inv .tables .starts-size, c .before .before .before .before .before .before .before .before .before .before .before .before .before .before .before .before .before .before .pre .0)
+same-length-5 c =
+    let at-loop = c .before .before .before .before .before .before .before .before .before .before .before .before .before in
+    starts-stay at-loop
 
 same-length-6 : tie.Need-same-length-6 Inv-loop μ-loop
-same-length-6 c = omega (arith, c .before .before .before .before .before .before .before .before .before .before .before .before .before .loop .inv .tables .firsts-size, c .before .before .before .before .before .before .before .before .before .before .before .before .before .before .before .before .before .before .pre .1)
+same-length-6 c =
+    let at-loop = c .before .before .before .before .before .before .before .before .before .before .before .before .before in
+    firsts-stay at-loop
 
 returns-4 : tie.Need-returns-4 Inv-loop μ-loop
 returns-4 c =
@@ -173,10 +196,10 @@ loop-again : tie.Need-loop-again Inv-loop μ-loop
 loop-again c = rw (c .before .before .tag-of .ensures, c .before .value-of .ensures, c .before .before .before .first-record .ensures) (step (c .before .before .before .before) .walked-again (c .within .result) (c .within .ensures))
 
 same-length-7 : tie.Need-same-length-7 Inv-loop μ-loop
-same-length-7 c = omega (arith, c .before .before .loop .inv .tables .starts-size, c .before .before .before .before .before .before .before .pre .0)
+same-length-7 c = starts-stay (c .before .before)
 
 same-length-8 : tie.Need-same-length-8 Inv-loop μ-loop
-same-length-8 c = omega (arith, c .before .before .loop .inv .tables .firsts-size, c .before .before .before .before .before .before .before .pre .1)
+same-length-8 c = firsts-stay (c .before .before)
 
 returns-5 : tie.Need-returns-5 Inv-loop μ-loop
 returns-5 c =
@@ -196,10 +219,14 @@ kind-of-requires : tie.Need-kind-of-requires Inv-loop μ-loop
 kind-of-requires c κs = search needs
 
 same-length-9 : tie.Need-same-length-9 Inv-loop μ-loop
-same-length-9 c = omega (arith, c .before .before .before .before .before .before .loop .inv .tables .starts-size, c .before .before .before .before .before .before .before .before .before .before .before .pre .0)
+same-length-9 c =
+    let at-loop = c .before .before .before .before .before .before in
+    starts-stay at-loop
 
 same-length-10 : tie.Need-same-length-10 Inv-loop μ-loop
-same-length-10 c = omega (arith, c .before .before .before .before .before .before .loop .inv .tables .firsts-size, c .before .before .before .before .before .before .before .before .before .before .before .pre .1)
+same-length-10 c =
+    let at-loop = c .before .before .before .before .before .before in
+    firsts-stay at-loop
 
 returns-6 : tie.Need-returns-6 Inv-loop μ-loop
 returns-6 c =
