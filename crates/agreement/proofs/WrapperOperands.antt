@@ -55,7 +55,7 @@ formedNode false e h q r g = absurd h
 
 -- ## @ and offset
 
--- the heldOperands that have @ and offset, with others
+-- the operands that have @ and offset, with others
 timesNode : (u : Times) (e : Expr) (t : Times) → timesOf e ≡ some t → T (isFormed e) → NodeClaim true true true (valueType e) none (checkAst (withTimes u e))
 unfolding checkAst
 timesNode u =

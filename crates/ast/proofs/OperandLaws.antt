@@ -1,4 +1,4 @@
--- Constructors and `check_ast` depend on trees through their heldOperands alone: the judgement of a record on the heldOperands of a stack is the operand
+-- Constructors and `check_ast` depend on trees through their operands alone: the judgement of a record on the operands of a stack is the operand
 -- of what `apply` puts there. Each record is a case on the operand's tree. @ and offset have the check of a selector or a subquery run
 -- again, so the trees on the stack have passed it (`Sound`); their numbers are exact, so that tests on floats are those on literals.
 use Prim.Native.Nat.{ℕ}
@@ -211,7 +211,7 @@ judgeLeaf-operand (number l) = refl
 judgeLeaf-operand (string t) = refl
 judgeLeaf-operand (selector s) = unless-operand (firstFault (selectorRows s)) (VectorSelector s noTimes)
 
--- an operand on the heldOperands below it
+-- an operand on the operands below it
 pushed : (made : Result Expr) (below : List Expr)
     → andThen (mapResult operandOf made) (λ x. ok (x ∷ map operandOf below)) ≡ mapResult (map operandOf) (andThen made (λ e. ok (e ∷ below)))
 pushed (refused n) below = refl

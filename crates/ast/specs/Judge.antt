@@ -1,4 +1,4 @@
--- The refusal table on heldOperands: what a record makes of the heldOperands of its operands. Constructors (refusals 6 to 15) and checks (16 to 34)
+-- The refusal table on operands: what a record makes of its operands. Constructors (refusals 6 to 15) and checks (16 to 34)
 -- of one record stand together; the rows are those of `CheckAst`. That this is what the trees do is proved in proofs/OperandLaws.
 use Prim.Native.Nat.{ℕ}
 use mathlib.Core.Bool.{Bool, true, false, _&&_, _||_, not}

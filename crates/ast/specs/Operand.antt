@@ -1,4 +1,4 @@
--- Operands: what later records can ask of an operand. A number has its value, as the 64-bit float that the code computes with; a
+-- Operands: what later records can ask of the expressions on the stack. A number has its value, as the 64-bit float that the code computes with; a
 -- selector, a range and a subquery have marks that @ and offset are set; of any other tree the kind is enough.
 use mathlib.Core.Bool.{Bool, true, false}
 use mathlib.Core.Option.{Option, none, some}
@@ -15,7 +15,7 @@ pub data Operand : Type 0 where
   selectorOperand rangeOperand subqueryOperand : Bool → Bool → Operand
   otherOperand : Kind → Operand
 
--- ast.rs, `value_type`, on heldOperands
+-- ast.rs, `value_type`, on operands
 abbrev pub operandKind : Operand → Kind
 operandKind (numberOperand x) = scalar
 operandKind stringOperand = string

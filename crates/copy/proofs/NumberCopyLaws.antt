@@ -1,4 +1,4 @@
--- A number's piece: its second byte is its form, which each unary record after it negates, and the rest of it stays. Assumes nothing.
+-- A number in the copy: its second byte is its form, which each unary record after it negates, and the rest of it stays. Assumes nothing.
 use Prim.Native.Nat.{ℕ, suc, _+_, _-_, _≤_}
 use mathlib.Core.Path.{_≡_, refl, sym, ap, _∙_}
 use mathlib.Core.Bool.{Bool, true, false}
@@ -78,7 +78,7 @@ number-behind (b ∷ bs) l = by (eqb b 7) (number-behind bs (negate l))
     by true next = rw (form-negated l, magnitude-negated l) at next
     by false next = literal-written l
 
--- ## The piece
+-- ## The record's copy
 
 module _ {page : List ℕ} {start next : ℕ} (span : Spans page start next) where
   -- a number, and the unary records after it

@@ -1,4 +1,4 @@
--- The piece of a binary record as parts of the page: a set operator's absent modifier is written out, and of one that is present
+-- The copy of a binary record as parts of the page: a set operator's absent modifier is written out, and of one that is present
 -- the form of its cardinality alone changes. It stands where the matching has been read. Assumes nothing.
 use Prim.Native.Nat.{ℕ, _+_, _-_, _≤_, _<_}
 use mathlib.Core.Path.{_≡_, refl, sym, ap, ap₂, _∙_, subst}
@@ -42,7 +42,7 @@ binary-kind (binary c m) h = (c, m, refl)
 binary-kind (aggregate c m n) h = absurd (omega arith)
 binary-kind (call f n) h = absurd (omega arith)
 
--- ## The piece
+-- ## The record's copy
 
 module _ (page : List ℕ) (start next : ℕ) (span : Spans page start next) where
   module _ (c : ℕ) (m : Option BinModifier) (is : span .item ≡ binary c m) where
@@ -138,7 +138,7 @@ module _ {page : List ℕ} {start next : ℕ} (span : Spans page start next) (ki
   operator-at : (c : ℕ) × (m : Option BinModifier) × (span .item ≡ binary c m)
   operator-at = binary-kind (span .item) (sym (span-kind span) ∙ kind)
 
-  -- kind, code and the mark of a modifier
+  -- kind, code and that there is a modifier
   pub operator-wide : start + 3 ≤ next
   operator-wide = wide (operator-at .1) (written page start next span (operator-at .0) (operator-at .1) (operator-at .2))
     where

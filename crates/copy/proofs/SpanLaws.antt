@@ -1,4 +1,4 @@
--- A record's piece as parts of the page: a record that reaches from `start` to `next` is the page's bytes between them. Its first byte
+-- A record's copy as parts of the page: a record that reaches from `start` to `next` is the page's bytes between them. Its first byte
 -- is its kind; a number's second byte is its form, and the rest of it stays. Assumes nothing.
 use Prim.Native.Nat.{ℕ, suc, _+_, _-_, _≤_, _<_, zero-le}
 use mathlib.Core.Path.{_≡_, refl, sym, ap, _∙_, subst}
@@ -127,6 +127,6 @@ module _ {page : List ℕ} {start next : ℕ} (span : Spans page start next) whe
   pub other-absorbed : (getD page start 0 ≡ 0 → ⊥) → absorbedOf (drop start page) ≡ 0
   other-absorbed h = span-absorbed ∙ nothing-absorbed (span .item) (drop next page) (λ e. h (span-kind ∙ e))
 
-  -- a piece of the page's own bytes is as long
+  -- a copy of the page's own bytes is as long
   pub same-length : recordCopy (drop start page) ≡ take (next - start) (drop start page) → length (recordCopy (drop start page)) ≡ next - start
   same-length e = ap length e ∙ part-length page start next (span .inside)

@@ -1,5 +1,5 @@
--- The records of a readable page by their starts: the copy from one record on is that record's piece, then the copy from the next
--- record that the piece does not take in. Assumes nothing.
+-- The records of a readable page by their starts: the copy from one record on is that record's copy, then the copy from the next
+-- record that it does not take in. Assumes nothing.
 use Prim.Native.Nat.{ℕ, zero, suc, _+_, _-_, _≤_, _<_}
 use mathlib.Core.Path.{_≡_, refl, sym, ap, _∙_, subst}
 use mathlib.Core.Bool.{Bool, true, false}
@@ -71,7 +71,7 @@ pub copyFrom-start : (page : List ℕ) → copyFrom page 0 ≡ copyPage page
 unfolding copyFrom copyPage
 copyFrom-start page = refl
 
--- the first record's piece, and the copy of the records that it does not take in
+-- the first record's copy, and the copy of the records that it does not take in
 copy-front : (s : List ℕ) (rs : List Record) → T (all isByte s) → 0 < length rs → ReadsTo s rs
     → writeAll writeRecord (copyRecords rs) ≡ recordCopy s ++ writeAll writeRecord (copyRecords (drop (suc (absorbedOf s)) rs))
 unfolding recordCopy absorbedOf
@@ -111,7 +111,7 @@ module _ {page starts : List ℕ} {n : ℕ} (held : Starts page starts n) where
       further : (k : ℕ) → i + suc k ≡ i + 1 + k
       further k = omega arith
 
-  -- the same, with the number of records that the piece takes in
+  -- the same, with the number of records that it takes in
   pub copyFrom-next : (i taken : ℕ) → i < n → taken ≡ absorbedOf (drop (getD starts i 0) page)
       → Cut (copyFrom page i) (recordCopy (drop (getD starts i 0) page)) (copyFrom page (i + 1 + taken))
   copyFrom-next i taken h e = rw e (copyFrom-cut i h)

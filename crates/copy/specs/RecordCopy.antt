@@ -1,5 +1,5 @@
 -- The copy record by record, as the code makes it: what the record at the front of some bytes becomes, and how many records of the
--- page that takes. `Copy.antt` defines the copy; that it is these pieces one after the other is proved in proofs/RecordCopyLaws.
+-- page that takes. `Copy.antt` defines the copy; that it is these one after the other is proved in proofs/RecordCopyLaws.
 use Prim.Native.Nat.{ℕ, zero, suc}
 use mathlib.Core.List.{List, [], _∷_}
 use lib.Dec.{eqb}

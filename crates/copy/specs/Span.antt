@@ -19,7 +19,7 @@ pub record Spans (page : List ℕ) (start next : ℕ) : Type 0 where
   pub reads : got item (drop next page) ≡ readRecord (drop start page)
   pub inside : next ≤ length page
 
--- such a record, and a buffer with room for its piece from `at` on
+-- such a record, and a buffer with room for its copy from `at` on
 pub record Placing (page out : List ℕ) (start next at : ℕ) : Type 0 where
   pub span : Spans page start next
   pub room : at + length (recordCopy (drop start page)) ≤ length out
@@ -30,7 +30,7 @@ pub record SetOperator (page : List ℕ) (start next : ℕ) : Type 0 where
   pub kind : getD page start 0 ≡ 9
   pub set : isSetOperator (getD page (start + 1) 0) ≡ true
 
--- one without a modifier, wherever it ends, and a buffer with room for its piece
+-- one without a modifier, wherever it ends, and a buffer with room for its copy
 pub record AbsentFrom (page out : List ℕ) (start at : ℕ) : Type 0 where
   pub next : ℕ
   pub placing : Placing page out start next at

@@ -49,7 +49,7 @@ fn form_after(form: u8, page: &[u8], at: usize) -> u8
     negated
 }
 
-// A number's piece: its kind, its form after the unary records, and its magnitude as on the page.
+// A number in the copy: its kind, its form after the unary records, and its magnitude as on the page.
 pub fn put_number(page: &[u8], start: usize, next: usize, out: &mut [u8], at: usize) -> usize
     requires { ⌜ Placing (now page) (now out) start next at × (getD (now page) start 0 ≡ 0) ⌝ }
     ensures { λ r. ⌜ Wrote (now (out .entry)) (now (out .exit)) at (recordCopy (drop start (now (page .entry)))) r ⌝ }

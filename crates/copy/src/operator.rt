@@ -21,7 +21,7 @@ fn set_cardinality(form: u8) -> u8
     form
 }
 
-// Where the cardinality stands: after kind, code, the mark of the modifier, bool and matching.
+// Where the cardinality stands: after kind, code, whether there is a modifier, bool and matching.
 fn cardinality_at(page: &[u8], start: usize, next: usize) -> usize
     requires { ⌜ SetOperator (now page) start next × IsPresent (now page) start ⌝ }
     ensures { λ r. ⌜ CardinalityAt (now (page .entry)) start next r ⌝ }
@@ -53,7 +53,7 @@ fn put_present(page: &[u8], start: usize, next: usize, out: &mut [u8], at: usize
     put_bytes(&page[rear..next], out, rest)
 }
 
-// A binary record's piece.
+// A binary record in the copy.
 pub fn put_operator(page: &[u8], start: usize, next: usize, out: &mut [u8], at: usize) -> usize
     requires { ⌜ Placing (now page) (now out) start next at × (getD (now page) start 0 ≡ 9) ⌝ }
     ensures { λ r. ⌜ Wrote (now (out .entry)) (now (out .exit)) at (recordCopy (drop start (now (page .entry)))) r ⌝ }

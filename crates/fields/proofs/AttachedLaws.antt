@@ -27,7 +27,7 @@ module _ {page starts : List ℕ} {j : ℕ} (s : Starts page starts (suc j)) whe
       → {i : ℕ} {n : Option ℕ} {u : Times} → Sets page starts i j n u → Sets page starts i (j - 1) n (withOffset o u)
   part-offset k e t = setsOffset (one-field s k readOffset (λ o. wrapper (offset o)) (λ t. refl) e) t
 
--- a part that is no range and no @ is an offset
+-- a record attached that is no range and no @ is an offset
 pub last-part : {page starts : List ℕ} {j kind : ℕ} → AttachedAt page starts j → KindAt page starts j kind → (kind ≡ 3 → ⊥) → (kind ≡ 5 → ⊥) → KindAt page starts j 6
 last-part {page} {starts} {j} {kind} p k a b =
     let part : isAttached kind ≡ true = ap isAttached (sym (k .same) ∙ kind-same (p .stands) (k .reads)) ∙ p .part in

@@ -61,7 +61,7 @@ fn with_offset(attached: Attached, o: records::Offset) -> Attached
     }
 }
 
-// The attached with what record j sets.
+// With what record j sets.
 fn with_record(page: &[u8], starts: &[u16], j: usize, attached: Attached) -> Attached
     requires starts { ⌜ Starts (now page) (now starts) (suc j) ⌝ }
     requires attached { ⌜ AttachedAt (now page) (now starts) j ⌝ }
@@ -97,7 +97,7 @@ fn nothing_attached() -> Attached
     }
 }
 
-// The attached of a node: what stands above its foot.
+// What is attached to a node: what stands above its foot.
 pub fn attached_of(page: &[u8], starts: &[u16], node: Node) -> Attached
     requires { ⌜ NodeAt (now page) (now starts) node ⌝ }
     ensures { λ r. ⌜ SetsAttached (now (page .entry)) (now (starts .entry)) (node .top) (node .base) r ⌝ }

@@ -1,4 +1,4 @@
-// What a node's text shows of its records, read where they stand: the fields of the record at its foot, and the attached above it.
+// What a node's text shows of its records, read where they stand: the fields of the record at its foot, and what is attached above it.
 pub mod attached;
 
 pub use attached::Attached;
@@ -64,7 +64,7 @@ pub fn function_of(page: &[u8], starts: &[u16], node: Node) -> page::Span
     }
 }
 
-// A selector of this name, with these matchers. The marks of the check are of no use for texts.
+// A selector of this name, with these matchers. What the check asks of matchers is of no use for texts.
 fn selector(name: page::Span, matchers: page::List) -> reader::Selector
     ensures { λ r. ⌜ r ≡ record { name = name; matchers = matchers; named = false; empty = false } ⌝ }
 {

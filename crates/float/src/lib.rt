@@ -71,7 +71,7 @@ pub fn at_or_below_zero(x: f64) -> bool
     x <= 0.0
 }
 
-// The two fill numbers, each with a mark that says whether it is there.
+// The two fill numbers, each with a bool that says whether it is there.
 pub struct FillValues {
     pub left: f64,
     pub right: f64,

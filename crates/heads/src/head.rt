@@ -44,7 +44,7 @@ fn put_bool(returns_bool: bool, out: &mut [u8], at: usize) -> usize
     at
 }
 
-// The fill numbers come as floats, with marks that say whether they are there.
+// The fill numbers come as floats, with bools that say whether they are there.
 fn modifier_len(page: &[u8], modifier: BinModifier, values: FillValues, cap: usize) -> usize
     requires stored { ⌜ BinModifierStored (now page) modifier ⌝ }
     requires exact { ⌜ (values ≡ fillValues (fillOf (modifier .lhs)) (fillOf (modifier .rhs))) × FillExact (fillOf (modifier .lhs)) × FillExact (fillOf (modifier .rhs)) ⌝ }

@@ -1,4 +1,4 @@
--- Numbers of a stream of parts (the head of the program show_records; oracle/KEPT.md): bytes, the lowest first.
+-- Numbers of a stream of blocks (the head of the program show_records; oracle/KEPT.md): bytes, the lowest first.
 use Prim.Native.Nat.{ℕ, _+_, _*_}
 use mathlib.Core.List.{List, [], _∷_}
 

@@ -1,4 +1,4 @@
-// Parts of standard input and the numbers in front of them, for programs that read kept pages. What is read no contract can say: only
+// Blocks of standard input and the numbers in front of them, for programs that read kept pages. What is read no contract can say: only
 // where it is put.
 ghost use Prim.Native.Nat.{_<_};
 ghost use mathlib.Core.Path.{_≡_};
@@ -19,7 +19,7 @@ pub fn number_of(a: u8, b: u8, c: u8, d: u8) -> u64
     wide(a) + 256 * wide(b) + 65536 * wide(c) + 16777216 * wide(d)
 }
 
-// A part of so many bytes; the end of the input, before a part begins; or no part: the input ends inside it, or it is larger than the buffer.
+// A block of so many bytes; the end of the input, before a block begins; or no block: the input ends inside it, or it is larger than the buffer.
 pub enum Block {
     Got(usize),
     End,

@@ -28,6 +28,6 @@ partAt size s = partIn size (andThen (readPlaced s) (λ p. return (p ∷ [])))
 abbrev pub firstPart : List ℕ → Labels → Read (List Placed) → Part
 firstPart page on read = partIn (length page) (andThen read (λ placed. return (firstIn on placed)))
 
--- what follows kind, code and mark in `readJoint`
+-- what follows kind, code and presence in `readJoint`
 abbrev pub readGrouped : Reader (List Placed)
 readGrouped = readFlag >>= λ bool. readLabelModifier >>= λ matching. readChoice placedForms >>= λ placed. return (firstIn (onLabels matching) placed)

@@ -32,7 +32,7 @@ fn record_start(page: &[u8], index: usize) -> usize
     at
 }
 
-// After the kind, the code and the mark of a binary record its modifier starts.
+// The modifier of a binary record starts after the kind, the code and the 1 that says that there is one.
 fn joint_at(page: &[u8], at: usize) -> Span
     ensures { λ r. ⌜ IsPart (now (page .entry)) (partIn (length (now (page .entry))) (readJoint (drop at (now (page .entry))))) r ⌝ }
 {

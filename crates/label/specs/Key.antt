@@ -30,7 +30,7 @@ printedText page p = matcherText (spanOn page (p .name)) (p .op) (spanOn page (p
 unfoldable pub keyText : List ℕ → ℕ → List ℕ
 keyText page k = printedText page (unpacked k)
 
--- the parts lie on the page, and the mark says whether the name is a label
+-- the parts lie on the page, and the bool says whether the name is a label
 pub record Prints (page : List ℕ) (p : Printed) : Type 0 where
   pub name : Lies page (p .name)
   pub value : Lies page (p .value)

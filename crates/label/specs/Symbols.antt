@@ -25,7 +25,7 @@ symbol b = symbolOf (escapeByte b)
 unfoldable pub symbols : Text → List ℕ
 symbols t = 8704 ∷ (map symbol t ++ (8704 ∷ []))
 
--- the words of document 01's numbers for matchers
+-- the tokens of document 01's numbers for matchers
 unfoldable pub operatorToken : ℕ → List ℕ
 operatorToken op = bytes (getD ("=" ∷ "!=" ∷ "=~" ∷ "!~" ∷ []) op "")
 

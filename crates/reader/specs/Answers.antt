@@ -41,7 +41,7 @@ abbrev pub recordAt : List ℕ → RecordField → Read spec.Record
 recordAt page (record-answer.Got r next) = got (recordOn page r) (drop next page)
 recordAt page (record-answer.Bad f) = refused (faultOf f)
 
--- a selector's name lies on the page, its marks are those of its matchers, and these can all be read again
+-- a selector's name lies on the page, its facts are those of its matchers, and these can all be read again
 pub record SelectorRead (page : List ℕ) (s : Selector) : Type 0 where
   pub name : Lies page (s .name)
   pub marked : ListFacts (matchersOn page (s .matchers .start) (s .matchers .count)) (s .named) (s .empty)

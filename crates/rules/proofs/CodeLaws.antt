@@ -24,7 +24,7 @@ same false false h = refl
 abbrev codes : List ℕ
 codes = replicate 31 0
 
--- a test of codes is a class of words, where they agree below 31, no word is empty, and the test fails from 31 on
+-- a test of codes is a class of tokens, where they agree below 31, no token is empty, and the test fails from 31 on
 pub isOneOf-test : (ws : List String) (test : ℕ → Bool) → T (every (λ c x. Bool·beq (test c) (isOneOf ws c)) 0 codes) → any (λ w. equal (bytes w) []) ws ≡ false
     → (c : ℕ) → (31 ≤ c → test c ≡ false) → test c ≡ isOneOf ws c
 isOneOf-test ws test table full c beyond =

@@ -1,4 +1,4 @@
--- The two arrays as one list of heldOperands. Assumes nothing.
+-- The two arrays as one list of operands. Assumes nothing.
 use Prim.Native.Nat.{ℕ, zero, suc, _+_, _-_, _<_, _≤_}
 use mathlib.Core.Path.{_≡_, refl, ap, sym, _∙_}
 use mathlib.Core.Bool.{true, false}
@@ -15,7 +15,7 @@ use Rattle.rules.specs.Stack.{tagOf, valueOf, tagTable, operandFrom, hel
 
 -- ## operandFrom
 
--- a operand is what its tag and its value say
+-- an operand is what its tag and its value say
 pub operandFrom-tagOf : (x : Operand) → operandFrom (tagOf x) (valueOf x) ≡ x
 operandFrom-tagOf (numberOperand v) = refl
 operandFrom-tagOf stringOperand = refl
@@ -48,7 +48,7 @@ further h g = omega arith
 pub operandFrom-last : (f : ℕ) (x : Float) → 17 ≤ f → operandFrom f x ≡ otherOperand string
 operandFrom-last f x h = getD-past (tagTable x) f (otherOperand string) h
 
--- ## heldOperands
+-- ## operands
 
 pub heldOperands-getD : (fs : List ℕ) (xs : List Float) (i : ℕ) (d : Operand) (f : ℕ) (x : Float) → i < length fs → i < length xs
     → getD (heldOperands fs xs) i d ≡ operandFrom (getD fs i f) (getD xs i x)

@@ -1,4 +1,4 @@
--- What the answers of the judges mean: heldOperands, and the refusals by their numbers in document 01's table.
+-- What the answers of the judges mean: operands, and the refusals by their numbers in document 01's table.
 use Prim.Native.Nat.{ℕ}
 use mathlib.Core.Option.{Option, none, some}
 use Rattle.records.specs.Kind.{Kind}

@@ -1,4 +1,4 @@
--- How a stack of heldOperands lies in two arrays: a operand is a tag, and the value that a number has. The arrays are filled from the end
+-- How a stack of operands lies in two arrays: an operand is a tag, and the value that a number has. The arrays are filled from the end
 -- downwards, so that the stack is what lies from its top on.
 use Prim.Native.Nat.{ℕ, _+_}
 use mathlib.Core.Bool.{Bool, true, false}
@@ -10,7 +10,7 @@ use Rattle.records.specs.Kind.{vector, scalar, matrix, string, kindNumber}
 use Rattle.records.specs.Float.{zeroFloat}
 use Rattle.ast.specs.Operand.{Operand, numberOperand, stringOperand, selectorOperand, rangeOperand, subqueryOperand, otherOperand}
 
--- the tag of a operand with facts, from its tag without any
+-- the tag of an operand with facts, from its tag without any
 abbrev pub tagWith : ℕ → Bool → Bool → ℕ
 tagWith f false false = f
 tagWith f true false = f + 1
@@ -46,7 +46,7 @@ tagTable x =
 abbrev pub operandFrom : ℕ → Float → Operand
 operandFrom f x = getD (tagTable x) f (otherOperand string)
 
--- the heldOperands that two arrays hold
+-- the operands that two arrays hold
 abbrev pub heldOperands : List ℕ → List Float → List Operand
 heldOperands [] xs = []
 heldOperands (f ∷ fs) [] = []

@@ -1,4 +1,4 @@
-// Operands: what later records can ask of an operand. A stack of heldOperands lies in two arrays, the tags and the values of the numbers.
+// Operands: what later records can ask of the expressions on the stack. The stack lies in two arrays, the tags and the values of the numbers.
 use records::Kind;
 ghost use Prim.Native.Nat.{_<_};
 ghost use mathlib.Core.Path.{_≡_};
@@ -8,7 +8,7 @@ ghost use Rattle.ast.specs.Operand.{stringOperand, otherOperand, operandKind};
 ghost use Rattle.rules.specs.Answers.{operandMeant};
 ghost use Rattle.rules.specs.Stack.{tagWith, tagOf, valueOf, operandFrom, heldOperands, Sized};
 
-// The facts of a selector, a range and a subquery say that @ is set and that offset is set.
+// Of a selector, a range and a subquery: whether @ is set, whether offset is set.
 pub enum Operand {
     Number(f64),
     String,
@@ -31,9 +31,9 @@ pub fn kind_of(operand: Operand) -> Kind
     }
 }
 
-// A operand as a byte, and the value that a number has.
+// An operand as a byte, and the value that a number has.
 
-// The tag of a operand with facts, from its tag without any.
+// The tag of an operand with facts, from its tag without any.
 fn tag_with(tag: u8, at: bool, offset: bool) -> u8
     requires { ⌜ tag < 250 ⌝ }
     ensures { λ r. ⌜ r ≡ tagWith tag at offset ⌝ }

@@ -81,7 +81,7 @@ pub fn refusal_number(refusal: Refusal) -> u64
     }
 }
 
-// What a record comes to: a operand on the stack, or a refusal.
+// What a record comes to: an operand on the stack, or a refusal.
 pub enum Verdict {
     Put(Operand),
     Refused(Refusal),

@@ -65,7 +65,7 @@ fn is_marked(is_at: bool, at: bool, offset: bool) -> bool
     offset
 }
 
-// @ set on a operand, or else offset: the first refusal where it is set already, the second on a operand that has none.
+// @ set on an operand, or else offset: the first refusal where it is set already, the second on an operand that has none.
 fn judge_mark(operand: Operand, is_at: bool, twice: Refusal, without: Refusal) -> Verdict
     ensures { λ r. ⌜ verdictMeant r ≡ judgeMark «is_at» (refusalNumber twice) (refusalNumber without) (operandMeant operand) ⌝ }
 {
@@ -94,14 +94,14 @@ fn judge_mark(operand: Operand, is_at: bool, twice: Refusal, without: Refusal) -
     }
 }
 
-// 10 where @ is set already, 11 on a operand that has none.
+// 10 where @ is set already, 11 on an operand that has none.
 pub fn judge_at(operand: Operand) -> Verdict
     ensures { λ r. ⌜ verdictMeant r ≡ judgeAt (operandMeant operand) ⌝ }
 {
     judge_mark(operand, true, Refusal::AtTwice, Refusal::AtOnNoSelector)
 }
 
-// 12 where offset is set already, 13 on a operand that has none.
+// 12 where offset is set already, 13 on an operand that has none.
 pub fn judge_offset(operand: Operand) -> Verdict
     ensures { λ r. ⌜ verdictMeant r ≡ judgeOffset (operandMeant operand) ⌝ }
 {

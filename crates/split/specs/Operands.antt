@@ -8,7 +8,7 @@ use Rattle.text.specs.Layout.{Layout, betweenAt, innerIndents, innerLevel, pret
 use Rattle.view.specs.View.{layoutAt}
 use Rattle.view.specs.declared.Node.{Node}
 
--- by the node's layout, indents and level
+-- by the node's layout, `indents` and level
 abbrev pub operandsAt : Layout → Bool → ℕ → ℕ → List ℕ → ℕ → List ℕ
 operandsAt own indents level count page end =
     joined (betweenAt level own) (prettyIndented (innerIndents indents own) (innerLevel level own)) (prettyIndented true (innerLevel level own)) (operandsOf count (stackAt page end))

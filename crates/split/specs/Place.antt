@@ -13,7 +13,7 @@ withNumberless numberless place = record { numberless = numberless; indents = pl
 abbrev pub withIndents : Bool → Place → Place
 withIndents indents place = record { numberless = place .numberless; indents = indents; level = place .level }
 
--- indents and level by the node's; `numberless` is said of the operand already
+-- `indents` and level by the node's; `numberless` is said of the operand already
 abbrev pub innerPlace : List ℕ → Node → Place → Place
 innerPlace page node place = record {
   numberless = place .numberless;

@@ -58,7 +58,7 @@ pub fn split_len(
 }
 
 // The length of the split texts of the newest expressions after the first `end` records, `count` of them, with so many bytes between
-// each two, or `cap` where it is more. `numberless` is said of the last one, the indents of the first.
+// each two, or `cap` where it is more. `numberless` is said of the last one, `indents` of the first.
 fn split_operands_len(
     page: &[u8],
     starts: &[u16],

@@ -14,7 +14,7 @@ ghost use Prim.Native.Nat.{suc, _≤_};
 ghost use Rattle.text.specs.Layout.{innerIndents, innerLevel};
 ghost use Rattle.view.specs.View.{NodeAt, layoutAt};
 
-// The indents of the first operand.
+// Whether the first line of the first operand is indented.
 fn inner_indents(page: &[u8], starts: &[u16], node: Node, indents: bool) -> bool
     requires { ⌜ NodeAt (now page) (now starts) node ⌝ }
     ensures { λ r. ⌜ r ≡ innerIndents indents (layoutAt (now (page .entry)) node) ⌝ }

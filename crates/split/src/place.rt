@@ -33,7 +33,7 @@ pub fn with_indents(place: Place, indents: bool) -> Place
     }
 }
 
-// The place of the first operand, by the node's indents and level; `numberless` is said of the operand already.
+// The place of the first operand, by the node's `indents` and level; `numberless` is said of the operand already.
 pub fn inner_place(page: &[u8], starts: &[u16], node: view::Node, place: Place) -> Place
     requires node { ⌜ NodeAt (now page) (now starts) node ⌝ }
     requires level { ⌜ place .level ≤ 256 ⌝ }

@@ -52,7 +52,7 @@ pub fn write_split(
 }
 
 // Writes the split texts of the newest expressions after the first `end` records, `count` of them, with what the node writes between
-// each two. Mark and level are the node's; `numberless` is said of the last operand.
+// each two. `indents` and level are the node's; `numberless` is said of the last operand.
 fn write_split_operands(
     page: &[u8],
     starts: &[u16],

@@ -1,4 +1,4 @@
--- Split text by pieces, with a indents that says whether the first line is indented. A node that fits a line prints as its canonical text,
+-- Split text by pieces, with a bool that says whether the first line is indented. A node that fits a line prints as its canonical text,
 -- unary expressions and subqueries too, since their operands are shorter still; a longer one by the pieces of its layout.
 use Prim.Native.Nat.{ℕ, suc, _+_, _≤_, _<_}
 use native.Mathlib.Omega.{arith}
@@ -35,9 +35,9 @@ one-line (VectorSelector v t) s level h = refl
 one-line (MatrixSelector v t r) s level h = refl
 one-line (Call f es) s level h = rw (le-ltb _ _ h)
 
--- ## The indents
+-- ## With the first indentation, and without it
 
--- a text that is its indentation and then begins with no white character: with the indents or without
+-- a text that is its indentation and then begins with no white character: with that indentation or without
 prettyIndented-is : (e : Expr) (level : ℕ) {text : List ℕ} → pretty e level ≡ indent level ++ text → Begins text → (indents : Bool) → prettyIndented indents level e ≡ indentIf indents level ++ text
 unfolding prettyIndented
 prettyIndented-is e level p b true = p

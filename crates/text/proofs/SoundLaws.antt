@@ -1,4 +1,4 @@
--- Every tree on the stack of an accepted page is sound: names begin with a letter, `_` or `:`, the words of the codes with no white
+-- Every tree on the stack of an accepted page is sound: names begin with a letter, `_` or `:`, the tokens of the codes with no white
 -- character, and a selector without a name has matchers, or it is refused with 34. So no text begins with one (`display-trimmed`).
 use Prim.Native.Nat.{ℕ, zero, suc, _-_, _≤_, _<_}
 use native.Mathlib.Omega.{arith}
@@ -42,7 +42,7 @@ stackAt-none : (page : List ℕ) → stackAt page 0 ≡ []
 unfolding stackAt
 stackAt-none page = refl
 
--- ## Names and words
+-- ## Names and tokens
 
 -- a letter, `_` or `:` stands above the space
 alpha-high : (c : ℕ) → T (isAlpha c) → 32 < c
@@ -81,7 +81,7 @@ unfolding isBeginning
 beginning [] h = absurd h
 beginning (c ∷ cs) h = begins c cs (ltb→lt 32 c h)
 
--- the words of all codes, by one table
+-- the tokens of all codes, by one table
 token-test : ℕ → ℕ → Bool
 token-test k x = isBeginning (bytes (getD tokens k ""))
 

@@ -98,7 +98,7 @@ Unsigned (aggregate c m n) = Unit {0}
 Unsigned (call f n) = Unit {0}
 
 module _ {page starts firsts : List ℕ} {j : ℕ} (t : Tables page starts firsts (suc j)) where
-  -- on a part of a selector or subquery, which no number is
+  -- on a record attached to a selector or subquery, which no number is
   part : (w : Wrapper) (n : Option ℕ) (u : Times) → Reads page starts j (wrapper w) → ((l : Literal) (node : Expr) → wrap w (NumberLiteral l) ≡ ok node → ⊥)
       → settled none noTimes (treeAt page j) ≡ settled n u (treeAt page (j - 1)) → scalarValue (treeAt page j) ≡ none
   part w n u r refuses moves =

@@ -107,7 +107,7 @@ rear (suffixed t) = t
 rear (enclosed h) = bytes ")"
 rear (infixed o) = []
 
--- ## Split text of a node longer than a line, at a level. The indents says whether the first line is indented: it is not, after the minus
+-- ## Split text of a node longer than a line, at a level. `indents` says whether the first line is indented: it is not, after the minus
 -- of a unary expression (`trim_start`)
 
 abbrev pub indentIf : Bool → ℕ → List ℕ
@@ -134,7 +134,7 @@ rearAt level (suffixed t) = t
 rearAt level (enclosed h) = bytes "\n" ++ indent level ++ bytes ")"
 rearAt level (infixed o) = []
 
--- the indents of the first operand; all others are indented
+-- `indents` of the first operand; all others are indented
 abbrev pub innerIndents : Bool → Layout → Bool
 innerIndents indents (whole t) = true
 innerIndents indents negation = false

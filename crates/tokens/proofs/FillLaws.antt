@@ -86,7 +86,7 @@ module _ (same : Bool) (l r : Literal) where
             ∙ ap (λ (a : List ℕ). filledBytes leftWord l ++ a) (filled-bytes " fill_right" r));
       }
 
--- ## displayFills, by the marks of the values
+-- ## displayFills, by the bools of the values
 
 module _ (l r : Option Literal) (values : FillValues) (is : values ≡ fillValues l r) where
   left-mark : (b : Bool) → values .«has_left» ≡ b → isPresent l ≡ b

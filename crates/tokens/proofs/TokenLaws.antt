@@ -1,4 +1,4 @@
--- The tables hold the words of the codes: one computed test over all places. Assumes nothing.
+-- The tables hold the tokens of the codes: one computed test over all places. Assumes nothing.
 use Prim.Native.Nat.{ℕ, suc, _+_, _-_, _≤_, _<_}
 use native.Mathlib.Numerals.{add-one}
 use native.Mathlib.Omega.{arith}

@@ -1,4 +1,4 @@
--- The words of the codes as they lie in the code's tables: one after the other, with the places where they begin.
+-- The tokens of the codes as they lie in the code's tables: one after the other, with the places where they begin.
 use Prim.Native.Nat.{ℕ, _+_, _-_}
 use mathlib.Core.List.{List, [], _∷_}
 use lib.ListN.{getD, take, drop}

@@ -67,7 +67,7 @@ fn digits_of(fill: Fill) -> Literal
     }
 }
 
-// The marks of the values say which fills are there, the numbers whether they are equal; the digits are the literals'.
+// The bools of the values say which fills are there, the numbers whether they are equal; the digits are the literals'.
 pub fn fills_len(values: FillValues, lhs: Fill, rhs: Fill) -> usize
     requires { ⌜ (values ≡ fillValues (fillOf lhs) (fillOf rhs)) × FillExact (fillOf lhs) × FillExact (fillOf rhs) ⌝ }
     ensures { λ r. ⌜ (r ≡ length (displayFills (fillOf lhs) (fillOf rhs))) × (r ≤ 70) ⌝ }

@@ -1,4 +1,4 @@
-// The words of operators and aggregators (ast.rs, `Display`): those of the codes, and those with labels or a fill in brackets.
+// The tokens of operators and aggregators (ast.rs, `Display`): those of the codes, and those with labels or a fill in brackets.
 // Each has a length and a writer; the definitions stand in crate text, specs/Display.
 pub mod fill;
 pub mod labelled;

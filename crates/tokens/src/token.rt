@@ -1,4 +1,4 @@
-// The words of the codes 1 to 30 (token.rs, `token_display`), one after the other, and where each begins.
+// The tokens of the codes 1 to 30 (token.rs, `token_display`), one after the other, and where each begins.
 use page::put_byte;
 ghost use mathlib.Core.Path.{_≡_};
 ghost use Prim.Native.Nat.{_+_, _≤_, _<_};

@@ -69,6 +69,6 @@ module _ {page starts : List ℕ} {i : ℕ} where
       by-item (aggregate c m n) r h = absurd (false≢true h)
       by-item (call f n) r h = absurd (false≢true h)
 
-      -- a part is not the first record, and the chain goes on below it
+      -- an attached record is not the first, and the chain goes on below it
       pub chained-part : {kind : ℕ} → KindAt page starts j kind → isAttached kind ≡ true → (0 < j) × Chained page starts i (j - 1)
       chained-part at· part = by-item (at· .item) (at· .reads) (ap isAttached (at· .same) ∙ part)

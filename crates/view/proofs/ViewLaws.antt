@@ -21,7 +21,7 @@ use Rattle.view.proofs.KindLaws.{fields}
 pub starts-of : {page starts firsts : List ℕ} {n : ℕ} → Tables page starts firsts n → Starts page starts n
 starts-of {firsts = firsts} t = record { firsts = firsts; tables = t }
 
--- without the mark nothing is said
+-- where it is not set, nothing is said
 pub unmarked : (page : List ℕ) (i : ℕ) → Numberless page i false
 unmarked page i k = cc
 

@@ -42,7 +42,7 @@ pub record TakesAt (page starts : List ℕ) (i count : ℕ) : Type 0 where
   pub reads : Reads page starts i item
   pub takes : operands item ≡ count
 
--- the kinds of range, @ and offset: attached of the node of the record below
+-- the kinds of range, @ and offset: attached to the node of the record below
 abbrev pub isAttached : ℕ → Bool
 isAttached kind = eqb kind 3 || eqb kind 5 || eqb kind 6
 
@@ -60,13 +60,13 @@ pub data Sets (page starts : List ℕ) (i : ℕ) : ℕ → Option ℕ → Times 
   setsOffset : {j : ℕ} {o : Offset} {n : Option ℕ} {u : Times} → Reads page starts j (wrapper (offset o)) → Sets page starts i j n u
       → Sets page starts i (j - 1) n (withOffset o u)
 
--- the records above record j, up to record i, are attached of one node with it
+-- the records above record j, up to record i, are attached to it
 pub record Chained (page starts : List ℕ) (i j : ℕ) : Type 0 where
   pub range : Option ℕ
   pub times : Times
   pub sets : Sets page starts i j range times
 
--- the same, and record j is no part
+-- the same, and record j is not attached itself
 pub record FootOf (page starts : List ℕ) (i j : ℕ) : Type 0 where
   pub chain : Chained page starts i j
   pub kind : ℕ
@@ -95,7 +95,7 @@ pub record Minus (page starts : List ℕ) (i : ℕ) : Type 0 where
   pub kind : KindAt page starts i 7
   pub valueless : scalarValue (treeAt page i) ≡ none
 
--- where the mark is set, the tree is no bare number
+-- where it is set, the tree is known to be no bare number
 abbrev pub Numberless : List ℕ → ℕ → Bool → Type 0
 Numberless page i mark = mark ≡ true → scalarValue (treeAt page i) ≡ none
 

@@ -1,4 +1,4 @@
--- What a record does to a stack of trees, seen from the verdict on its heldOperands. Assumes nothing.
+-- What a record does to a stack of trees, seen from the verdict on its operands. Assumes nothing.
 use Prim.Native.Nat.{ℕ, _≤_}
 use mathlib.Core.Path.{_≡_, refl, sym, ap, _∙_}
 use mathlib.Core.Bool.{Bool, true, false}
@@ -46,14 +46,14 @@ apply-pushes (binary c m) (r ∷ l ∷ below) e = on-stack refl (andThen (ok (Bi
 apply-pushes (aggregate c m n) stack e = on-arguments (leb n (length stack)) (newAggregate c m (operandsOf n stack)) e
 apply-pushes (call f n) stack e = on-arguments (leb n (length stack)) (ok (Call f (argsOf (operandsOf n stack)))) e
 
--- ## From the verdict on heldOperands
+-- ## From the verdict on operands
 
--- a record that puts a operand has its operands
+-- a record that puts an operand has its operands
 pub operands-there : (r : Record) (stack : List Operand) (x : Operand) → ok x ≡ judgement r stack → operands r ≤ length stack
 operands-there r stack x e =
     by-lt (length stack) (operands r) (λ h. absurd (let short = judgement-short r stack h in let z : _≡_ {A = ℕ} 0 1 = cc in omega arith)) (λ h. h)
 
--- the trees after a record that puts a operand
+-- the trees after a record that puts an operand
 pub record Applied (r : Record) (stack : List Expr) (x : Operand) : Type 0 where
   pub after : List Expr
   pub applies : apply r stack ≡ ok after

@@ -1,5 +1,5 @@
 -- The loop's invariant of the walk, and what each way through the loop's body makes of it: trees (`Progress`), the arrays that hold their
--- heldOperands and first records (`Arrays`), and the tables so far.
+-- operands and first records (`Arrays`), and the tables so far.
 use Prim.Native.Nat.{ℕ, zero, suc, _+_, _-_, _≤_, _<_}
 use mathlib.Core.Path.{_≡_, refl, sym, ap, ap₂, subst, _∙_}
 use mathlib.Core.List.{List, [], _∷_, map}
@@ -17,7 +17,7 @@ use Rattle.walk.proofs.BasesLaws.{Bases, bases-drop, bases-more}
 
 -- ## The arrays
 
--- from `top` on they hold the heldOperands of the stack, and the first record of each entry
+-- from `top` on they hold the operands of the stack, and the first record of each entry
 pub record Arrays (page tags : List ℕ) (values : List Float) (bases : List ℕ) (top count : ℕ) (stack : List Expr) : Type 0 where
   pub sized : Sized tags values
   pub bases-size : length bases ≡ 256
@@ -35,7 +35,7 @@ module _ {page tags : List ℕ} {values : List Float} {bases : List ℕ} {top co
   pub stack-length : length stack ≡ 256 - top
   stack-length = sym (length-map stack operandOf) ∙ ap length (sym (arrays .summaries)) ∙ stack-size tags values (arrays .sized) top
 
-  -- a operand put on the stack, in place of the topmost n entries
+  -- an operand put on the stack, in place of the topmost n entries
   module _ (n first : ℕ) (x : Operand) (tree : Expr) (enough : top + n ≤ 256) (room : 1 ≤ top + n) (is : operandOf tree ≡ x)
       (low : first ≤ suc count) (below : stackAt page first ≡ drop n stack) where
     abbrev place : ℕ

@@ -31,7 +31,7 @@ use Rattle.walk.proofs.TableLaws.{tables-start, tables-next, entry-of}
 use Rattle.walk.proofs.ArraysLaws.{Arrays, stack-length, arrays-next}
 
 pub record WalkedSoFar (page starts₀ firsts₀ starts firsts tags : List ℕ) (values : List Float) (bases : List ℕ) (top at count : ℕ) : Type 0 where
-  -- the trees of which the arrays hold the heldOperands
+  -- the trees of which the arrays hold the operands
   pub stack : List Expr
   pub progress : Progress page at count stack
   pub arrays : Arrays page tags values bases top count stack

@@ -1,4 +1,4 @@
-// The walk over a page's records. The stack of heldOperands lies in two arrays, filled from the end downwards, and beside them the first
+// The walk over a page's records. The stack of operands lies in two arrays, filled from the end downwards, and beside them the first
 // record of each entry's expression. In two tables it leaves where each record starts, and the first record of the expression that
 // the record ends.
 use crate::answer::field_refusal;
