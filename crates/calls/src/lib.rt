@@ -4,8 +4,8 @@ use rules::Refusal;
 use split::prettify_len;
 use split::put_prettify;
 use walk::Outcome;
-use walk::walk::Walked;
-use walk::walk::walk;
+use walk::Walked;
+use walk::walk;
 ghost use Rattle.walk.specs.Answers.{outcomeMeant};
 ghost use Rattle.outcomes.specs.Calls.{copy, canonicalText, splitText, Does};
 

@@ -16,7 +16,7 @@ use Rattle.records.specs.Literal.{Literal, whole, infinite, plus, minus, nan, n
 use Rattle.records.specs.Record.{number, string, selector, range, subquery, at, offset, unary, paren, Record, leaf, wrapper, binary, aggregate, call, writeRecord, recordKind}
 use Rattle.copy.specs.RecordCopy.{unaries, negated, copied, recordCopy, absorbedOf, absorbed, negatedForm, formAfter}
 use Rattle.copy.specs.Span.{Spans}
-use Rattle.copy.proofs.SpanLaws.{part-is, part-ends, part-length, span-written, span-kind, span-piece, span-absorbed, same-length, other-piece}
+use Rattle.copy.proofs.SpanLaws.{part-is, part-ends, part-length, span-written, span-kind, span-copy, span-absorbed, same-length, other-copy}
 
 number-kind : (r : Record) → recordKind r ≡ 0 → (l : Literal) × (r ≡ leaf (number l))
 number-kind (leaf (number l)) h = (l, refl)
@@ -99,26 +99,26 @@ module _ {page : List ℕ} {start next : ℕ} (span : Spans page start next) whe
       let l = number-at h .0 in
       omega (arith, part-ends page (0 ∷ formOf l ∷ magnitudeOf l) start next (span .inside) (omega arith) (number-written l (number-at h .1)))
 
-  pub number-piece : getD page start 0 ≡ 0
+  pub number-copy : getD page start 0 ≡ 0
       → recordCopy (drop start page) ≡ join ((0 ∷ []) ∷ (formAfter (getD page (start + 1) 0) (drop next page) ∷ []) ∷ take (next - (start + 2)) (drop (start + 2) page) ∷ [])
   unfolding writeRecord join
-  number-piece h =
+  number-copy h =
       let l = number-at h .0 in
       let bytes-are = number-written l (number-at h .1) in
       let form : getD page (start + 1) 0 ≡ formOf l = sym (getD-drop start page 1 0) ∙ ap (λ (s : List ℕ). getD s 1 0) bytes-are in
       let rest : drop (start + 2) page ≡ magnitudeOf l ++ drop next page = sym (drop-drop 2 start page) ∙ ap (drop 2) bytes-are in
       let magnitude : take (next - (start + 2)) (drop (start + 2) page) ≡ magnitudeOf l = part-is page (magnitudeOf l) (start + 2) next (span .inside) rest in
-      (span-piece span) ∙ ap (λ (r : Record). writeRecord (copied r (drop next page))) (number-at h .1)
+      (span-copy span) ∙ ap (λ (r : Record). writeRecord (copied r (drop next page))) (number-at h .1)
       ∙ ap {B = List ℕ} (λ s. 0 ∷ s) (number-behind (drop next page) l)
       ∙ rw (form, magnitude, append-nil (magnitudeOf l))
 
   number-length : getD page start 0 ≡ 0 → length (recordCopy (drop start page)) ≡ next - start
   unfolding join
   number-length h =
-      ap length (number-piece h)
+      ap length (number-copy h)
       ∙ ap (λ (s : List ℕ). length (0 ∷ formAfter (getD page (start + 1) 0) (drop next page) ∷ s)) (append-nil (take (next - (start + 2)) (drop (start + 2) page)))
       ∙ omega (arith, number-wide h, part-length page (start + 2) next (span .inside))
 
   -- all but binaries keep their length
   pub unchanged-length : (getD page start 0 ≡ 9 → ⊥) → length (recordCopy (drop start page)) ≡ next - start
-  unchanged-length h = by-eq (getD page start 0) 0 number-length (λ g. same-length span (other-piece span g h))
+  unchanged-length h = by-eq (getD page start 0) 0 number-length (λ g. same-length span (other-copy span g h))

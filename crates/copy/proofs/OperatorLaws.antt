@@ -25,7 +25,7 @@ use Rattle.records.proofs.ReadBackLaws.{readLabelModifier-back}
 use Rattle.ast.specs.CheckAst.{setOperatorModifier}
 use Rattle.copy.specs.RecordCopy.{copied, recordCopy, setCardinality, setModifier}
 use Rattle.copy.specs.Span.{Spans, SetOperator, IsPresent, CardinalityAt}
-use Rattle.copy.proofs.SpanLaws.{part-is, part-ends, span-written, span-kind, span-piece, same-piece}
+use Rattle.copy.proofs.SpanLaws.{part-is, part-ends, span-written, span-kind, span-copy, same-copy}
 use Rattle.copy.proofs.ModifierLaws.{formOf, before, after, binary-written, modifier-written, modifier-set, modifier-absent, modifier-present, flag-byte}
 
 binary-kind : (r : Record) → recordKind r ≡ 9 → (c : ℕ) × (m : Option BinModifier) × (r ≡ binary c m)
@@ -60,19 +60,19 @@ module _ (page : List ℕ) (start next : ℕ) (span : Spans page start next) whe
     third-byte : getD page (start + 2) 0 ≡ getD (writeOption writeBinModifier m ++ drop next page) 0 0
     third-byte = sym (getD-drop start page 2 0) ∙ ap (λ (s : List ℕ). getD s 2 0) written
 
-    piece-set : isSetOperator (getD page (start + 1) 0) ≡ true → recordCopy (drop start page) ≡ writeRecord (binary c (some (setOperatorModifier m)))
-    piece-set h =
-        span-piece span ∙ ap (λ (r : Record). writeRecord (copied r (drop next page))) is
+    copy-set : isSetOperator (getD page (start + 1) 0) ≡ true → recordCopy (drop start page) ≡ writeRecord (binary c (some (setOperatorModifier m)))
+    copy-set h =
+        span-copy span ∙ ap (λ (r : Record). writeRecord (copied r (drop next page))) is
         ∙ ap (λ (b : Bool). writeRecord (binary c (pick b (some (setOperatorModifier m)) m))) (ap isSetOperator (sym second-byte) ∙ h)
 
-    piece-plain : isSetOperator (getD page (start + 1) 0) ≡ false → copied (span .item) (drop next page) ≡ span .item
-    piece-plain h =
+    copy-plain : isSetOperator (getD page (start + 1) 0) ≡ false → copied (span .item) (drop next page) ≡ span .item
+    copy-plain h =
         ap (λ (r : Record). copied r (drop next page)) is
         ∙ ap (λ (b : Bool). binary c (pick b (some (setOperatorModifier m)) m)) (ap isSetOperator (sym second-byte) ∙ h) ∙ sym is
 
   module _ (c : ℕ) (is : span .item ≡ binary c none) where
     none-written : isSetOperator (getD page (start + 1) 0) ≡ true → recordCopy (drop start page) ≡ 9 ∷ c ∷ setModifier
-    none-written h = piece-set c none is h ∙ binary-written c (allowed c none is .0) (some (setOperatorModifier none))
+    none-written h = copy-set c none is h ∙ binary-written c (allowed c none is .0) (some (setOperatorModifier none))
 
     none-front : take (start + 2 - start) (drop start page) ≡ 9 ∷ c ∷ []
     none-front = ap₂ take (two start) (written c none is)
@@ -115,11 +115,11 @@ module _ (page : List ℕ) (start next : ℕ) (span : Spans page start next) whe
       cut-end : cut + 1 ≤ next
       cut-end = omega (arith, part-ends page (formOf (m .card) ∷ after m) cut next (span .inside) (omega arith) tail)
 
-      cut-piece : isSetOperator (getD page (start + 1) 0) ≡ true
+      cut-copy : isSetOperator (getD page (start + 1) 0) ≡ true
           → recordCopy (drop start page) ≡ join (take (cut - start) (drop start page) ∷ (setCardinality (getD page cut 0) ∷ []) ∷ take (next - (cut + 1)) (drop (cut + 1) page) ∷ [])
       unfolding join
-      cut-piece h =
-          piece-set c (some m) is h ∙ modifier-set c (allowed c (some m) is .0) m
+      cut-copy h =
+          copy-set c (some m) is h ∙ modifier-set c (allowed c (some m) is .0) m
           ∙ rw (cut-front, cut-form, cut-rear, append-nil (after m))
 
     some-end : start + (length (before c m) + length (formOf (m .card) ∷ after m)) ≡ next
@@ -130,7 +130,7 @@ module _ (page : List ℕ) (start next : ℕ) (span : Spans page start next) whe
 
     some-length : isSetOperator (getD page (start + 1) 0) ≡ true → length (recordCopy (drop start page)) ≡ next - start
     some-length h =
-        ap length (piece-set c (some m) is h ∙ modifier-set c (allowed c (some m) is .0) m)
+        ap length (copy-set c (some m) is h ∙ modifier-set c (allowed c (some m) is .0) m)
         ∙ length-append (before c m) (setCardinality (formOf (m .card)) ∷ after m)
         ∙ omega (arith, some-end)
 
@@ -147,8 +147,8 @@ module _ {page : List ℕ} {start next : ℕ} (span : Spans page start next) (ki
       wide (some m) e = omega (arith, part-ends page (9 ∷ operator-at .0 ∷ writeOption writeBinModifier (some m)) start next (span .inside) (omega arith) e)
 
   -- no set operator: the page's own bytes
-  pub plain-piece : isSetOperator (getD page (start + 1) 0) ≡ false → recordCopy (drop start page) ≡ take (next - start) (drop start page)
-  plain-piece h = same-piece span (piece-plain page start next span (operator-at .0) (operator-at .1) (operator-at .2) h)
+  pub plain-copy : isSetOperator (getD page (start + 1) 0) ≡ false → recordCopy (drop start page) ≡ take (next - start) (drop start page)
+  plain-copy h = same-copy span (copy-plain page start next span (operator-at .0) (operator-at .1) (operator-at .2) h)
 
   absent-at : getD page (start + 2) 0 ≡ 0 → span .item ≡ binary (operator-at .0) none
   absent-at h =
@@ -166,9 +166,9 @@ module _ {page : List ℕ} {start next : ℕ} (operator : SetOperator page start
   code-at = operator-at (operator .span) (operator .kind) .0
 
   -- without a modifier
-  pub absent-piece : getD page (start + 2) 0 ≡ 0 → recordCopy (drop start page) ≡ join (take (start + 2 - start) (drop start page) ∷ setModifier ∷ [])
+  pub absent-copy : getD page (start + 2) 0 ≡ 0 → recordCopy (drop start page) ≡ join (take (start + 2 - start) (drop start page) ∷ setModifier ∷ [])
   unfolding join
-  absent-piece h =
+  absent-copy h =
       let none-at = absent-at (operator .span) (operator .kind) h in
       none-written page start next (operator .span) code-at none-at (operator .set)
       ∙ ap (λ (s : List ℕ). s ++ (setModifier ++ [])) (sym (none-front page start next (operator .span) code-at none-at))
@@ -198,7 +198,7 @@ module _ {page : List ℕ} {start next : ℕ} (operator : SetOperator page start
         record {
           behind = omega (arith, cut-start page start next (operator .span) code-at m is cut tail);
           inside = cut-end page start next (operator .span) code-at m is cut tail;
-          piece = cut-piece page start next (operator .span) code-at m is cut tail (operator .set);
+          copy = cut-copy page start next (operator .span) code-at m is cut tail (operator .set);
         }
 
     pub present-readable : {f : FieldFault} → refused f ≡ readLabelModifier (drop (start + 4) page) → ⊥

@@ -104,12 +104,12 @@ copyNumber-unaries (b ∷ bs) l (r ∷ rs) h g = by (eqb b 7) refl (copyNumber-u
 
 -- ## The copy of a record and those after it
 
-pub copyRecord-piece : (r : Record) (t : List ℕ) (rs : List Record) → T (all isByte t) → ReadsTo t rs
+pub copyRecord-one : (r : Record) (t : List ℕ) (rs : List Record) → T (all isByte t) → ReadsTo t rs
     → copyRecord r (copyRecords rs) ≡ copied r t ∷ copyRecords (drop (absorbed r t) rs)
-copyRecord-piece (leaf (number l)) t rs h g = copyNumber-unaries t l rs h g
-copyRecord-piece (leaf (string x)) t rs h g = refl
-copyRecord-piece (leaf (selector s)) t rs h g = refl
-copyRecord-piece (wrapper w) t rs h g = refl
-copyRecord-piece (binary c m) t rs h g = refl
-copyRecord-piece (aggregate c m n) t rs h g = refl
-copyRecord-piece (call f n) t rs h g = refl
+copyRecord-one (leaf (number l)) t rs h g = copyNumber-unaries t l rs h g
+copyRecord-one (leaf (string x)) t rs h g = refl
+copyRecord-one (leaf (selector s)) t rs h g = refl
+copyRecord-one (wrapper w) t rs h g = refl
+copyRecord-one (binary c m) t rs h g = refl
+copyRecord-one (aggregate c m n) t rs h g = refl
+copyRecord-one (call f n) t rs h g = refl

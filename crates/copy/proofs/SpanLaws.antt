@@ -105,9 +105,9 @@ module _ {page : List ℕ} {start next : ℕ} (span : Spans page start next) whe
   pub span-wide : start + 1 ≤ next
   span-wide = omega (arith, part-ends page (recordKind (span .item) ∷ record-head (span .item) .0) start next (span .inside) (omega arith) headed)
 
-  pub span-piece : recordCopy (drop start page) ≡ writeRecord (copied (span .item) (drop next page))
+  pub span-copy : recordCopy (drop start page) ≡ writeRecord (copied (span .item) (drop next page))
   unfolding recordCopy
-  span-piece = ap copyOfRead (sym (span .reads))
+  span-copy = ap copyOfRead (sym (span .reads))
 
   pub span-absorbed : absorbedOf (drop start page) ≡ absorbed (span .item) (drop next page)
   unfolding absorbedOf
@@ -117,12 +117,12 @@ module _ {page : List ℕ} {start next : ℕ} (span : Spans page start next) whe
   absorbed-few = omega (arith, span-absorbed, absorbed-in (span .item) (drop next page), length-drop next page)
 
   -- an unchanged record is the page's own bytes
-  pub same-piece : copied (span .item) (drop next page) ≡ span .item → recordCopy (drop start page) ≡ take (next - start) (drop start page)
-  same-piece e = span-piece ∙ ap writeRecord e ∙ sym (part-is page (writeRecord (span .item)) start next (span .inside) span-written)
+  pub same-copy : copied (span .item) (drop next page) ≡ span .item → recordCopy (drop start page) ≡ take (next - start) (drop start page)
+  same-copy e = span-copy ∙ ap writeRecord e ∙ sym (part-is page (writeRecord (span .item)) start next (span .inside) span-written)
 
-  pub other-piece : (getD page start 0 ≡ 0 → ⊥) → (getD page start 0 ≡ 9 → ⊥) → recordCopy (drop start page) ≡ take (next - start) (drop start page)
-  other-piece h g =
-      same-piece (other-copied (span .item) (drop next page) (λ e. h (span-kind ∙ e)) (λ e. g (span-kind ∙ e)))
+  pub other-copy : (getD page start 0 ≡ 0 → ⊥) → (getD page start 0 ≡ 9 → ⊥) → recordCopy (drop start page) ≡ take (next - start) (drop start page)
+  other-copy h g =
+      same-copy (other-copied (span .item) (drop next page) (λ e. h (span-kind ∙ e)) (λ e. g (span-kind ∙ e)))
 
   pub other-absorbed : (getD page start 0 ≡ 0 → ⊥) → absorbedOf (drop start page) ≡ 0
   other-absorbed h = span-absorbed ∙ nothing-absorbed (span .item) (drop next page) (λ e. h (span-kind ∙ e))

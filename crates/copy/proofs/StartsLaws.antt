@@ -32,7 +32,7 @@ use Rattle.copy.specs.RecordCopy.{copyOfRead, recordCopy, absorbedRead, 
 use Rattle.copy.specs.Span.{Spans}
 use Rattle.copy.specs.Starts.{Starts, copyFrom}
 use Rattle.copy.proofs.CopyLaws.{accepted-walks}
-use Rattle.copy.proofs.RecordCopyLaws.{ReadsTo, nothing-read, readRecords-reads, copyRecord-piece}
+use Rattle.copy.proofs.RecordCopyLaws.{ReadsTo, nothing-read, readRecords-reads, copyRecord-one}
 
 -- ## A page read to its end
 
@@ -77,7 +77,7 @@ copy-front : (s : List ℕ) (rs : List Record) → T (all isByte s) → 0 < leng
 unfolding recordCopy absorbedOf
 copy-front s [] h l g = absurd (let z : ⊥ = omega arith in z)
 copy-front s (r ∷ rs) h l (t, e, more) =
-    ap (writeAll writeRecord) (copyRecord-piece r t rs (behind-bytes s r t h e) more)
+    ap (writeAll writeRecord) (copyRecord-one r t rs (behind-bytes s r t h e) more)
     ∙ ap (λ (x : Read Record). copyOfRead x ++ writeAll writeRecord (copyRecords (drop (absorbedRead x) rs))) e
 
 -- a sum within a room, and its second part within what the first leaves

@@ -185,13 +185,13 @@ pub op-symbol : (op j o b r : ℕ) → o ≡ length (operatorToken op) → j < o
 op-symbol op j o b r eo h e is = is ∙ ap symbol e ∙ sym (bare-at (operatorToken op) j (omega arith))
 
 -- the words as lists of bytes
-pub record Words (op : ℕ) : Type 0 where
+pub record MatchOpTokens (op : ℕ) : Type 0 where
   pub equal : op ≡ 0 → operatorToken op ≡ 61 ∷ []
   pub notEqual : op ≡ 1 → operatorToken op ≡ bytes "!="
   pub re : op ≡ 2 → operatorToken op ≡ bytes "=~"
   pub notRe : op ≡ 3 → operatorToken op ≡ bytes "!~"
 
-pub tokens : (op : ℕ) → Words op
+pub tokens : (op : ℕ) → MatchOpTokens op
 unfolding operatorToken
 tokens op = record { equal = λ e. rw e; notEqual = λ e. rw e; re = λ e. rw e; notRe = λ e. rw e }
 

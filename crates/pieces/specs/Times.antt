@@ -1,4 +1,4 @@
--- The two attached of `displayTimes`, each with what stands before it.
+-- The two parts of `displayTimes`, each with what stands before it.
 use Prim.Native.Nat.{ℕ}
 use mathlib.Core.List.{List, _++_}
 use Rattle.page.specs.Bytes.{bytes}

@@ -10,7 +10,7 @@ use Rattle.records.specs.Kind.{vector, scalar, matrix, string, kindNumber}
 use Rattle.records.specs.Float.{zeroFloat}
 use Rattle.ast.specs.Operand.{Operand, numberOperand, stringOperand, selectorOperand, rangeOperand, subqueryOperand, otherOperand}
 
--- the tag of an operand with facts, from its tag without any
+-- the tag where @ or offset is set, from the tag where neither is
 abbrev pub tagWith : ℕ → Bool → Bool → ℕ
 tagWith f false false = f
 tagWith f true false = f + 1

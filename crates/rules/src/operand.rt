@@ -33,7 +33,7 @@ pub fn kind_of(operand: Operand) -> Kind
 
 // An operand as a byte, and the value that a number has.
 
-// The tag of an operand with facts, from its tag without any.
+// The tag where @ or offset is set, from the tag where neither is.
 fn tag_with(tag: u8, at: bool, offset: bool) -> u8
     requires { ⌜ tag < 250 ⌝ }
     ensures { λ r. ⌜ r ≡ tagWith tag at offset ⌝ }

@@ -5,8 +5,8 @@ use sandzguli::face::sandzguli_check;
 use sandzguli::face::sandzguli_copy;
 use sandzguli::face::sandzguli_joint_label;
 use sandzguli::face::sandzguli_split;
-use walk::walk::Walked;
-use walk::walk::walk;
+use walk::Walked;
+use walk::walk;
 
 // The lowest word of a refusal, 2^63.
 const REFUSED: u64 = 9223372036854775808;

@@ -13,8 +13,8 @@ use Rattle.ast.specs.Tables.{treeAt, Tables}
 use Rattle.rules.specs.Answers.{refusalNumber}
 use Rattle.walk.specs.declared.answer.Outcome.{Outcome}
 use Rattle.walk.specs.declared.answer.Outcome.the-variants as outcome
-use Rattle.walk.specs.declared.walk.Walked.{Walked}
-use Rattle.walk.specs.declared.walk.Walked.the-variants as walked
+use Rattle.walk.specs.declared.Walked.{Walked}
+use Rattle.walk.specs.declared.Walked.the-variants as walked
 
 -- the kind and the count of bytes written, or the refusal's number and the record's index
 abbrev pub outcomeMeant : Outcome → spec.Outcome

@@ -8,7 +8,7 @@ use lib.ListN.{take, drop, getD}
 use borrow.Author.Needs.{needs}
 use Rattle.base.proofs.SpliceLaws.{Run, start, fits, next, next-as, end}
 use Rattle.copy.specs.RecordCopy.{formAfter, recordCopy}
-use Rattle.copy.proofs.NumberCopyLaws.{number-wide, number-piece}
+use Rattle.copy.proofs.NumberCopyLaws.{number-wide, number-copy}
 use Rattle.copy.proofs.number.put_number.Statement.{statement}
 use Rattle.copy.proofs.number.put_number.Tie as tie
 
@@ -21,7 +21,7 @@ begun : (c : tie.Start) → let a = c .args in
     Run (now (a .out)) (now (a .out)) (a .at) (recordCopy (drop (a .start) (now (a .page))))
     ((0 ∷ []) ∷ (formAfter (getD (now (a .page)) (a .start + 1) 0) (drop (a .next) (now (a .page))) ∷ []) ∷ take (a .next - (a .start + 2)) (drop (a .start + 2) (now (a .page))) ∷ [])
     (a .at)
-begun c = start (c .pre .0 .room) (number-piece (c .pre .0 .span) (c .pre .1))
+begun c = start (c .pre .0 .room) (number-copy (c .pre .0 .span) (c .pre .1))
 
 put-byte-requires : tie.Need-put-byte-requires
 put-byte-requires c κs = fits (begun (c .before .before .before))

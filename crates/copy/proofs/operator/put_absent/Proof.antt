@@ -7,7 +7,7 @@ use lib.ListN.{take, drop}
 use borrow.Author.Needs.{needs}
 use Rattle.base.proofs.SpliceLaws.{Run, start, fits, next, end}
 use Rattle.copy.specs.RecordCopy.{setModifier, recordCopy}
-use Rattle.copy.proofs.OperatorLaws.{operator-wide, absent-piece}
+use Rattle.copy.proofs.OperatorLaws.{operator-wide, absent-copy}
 use Rattle.copy.proofs.operator.put_absent.Statement.{statement}
 use Rattle.copy.proofs.operator.put_absent.Tie as tie
 
@@ -15,7 +15,7 @@ use Rattle.copy.proofs.operator.put_absent.Tie as tie
 begun : (c : tie.Start) → let a = c .args in
     Run (now (a .out)) (now (a .out)) (a .at) (recordCopy (drop (a .start) (now (a .page))))
     (take (a .start + 2 - a .start) (drop (a .start) (now (a .page))) ∷ setModifier ∷ []) (a .at)
-begun c = start (c .pre .placing .room) (absent-piece (c .pre .operator) (c .pre .absent))
+begun c = start (c .pre .placing .room) (absent-copy (c .pre .operator) (c .pre .absent))
 
 add-modifier : tie.Need-add-modifier
 add-modifier c = omega (arith, operator-wide (c .before .before .pre .placing .span) (c .before .before .pre .operator .kind), c .before .before .pre .placing .span .inside)

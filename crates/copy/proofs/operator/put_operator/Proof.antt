@@ -4,7 +4,7 @@ use mathlib.Core.Path.{sym, ap, _∙_}
 use native.Mathlib.Omega.{arith}
 use lib.ListN.{length}
 use borrow.Author.Needs.{needs}
-use Rattle.copy.proofs.OperatorLaws.{operator-wide, plain-piece}
+use Rattle.copy.proofs.OperatorLaws.{operator-wide, plain-copy}
 use Rattle.copy.proofs.operator.put_operator.Statement.{statement}
 use Rattle.copy.proofs.operator.put_operator.Tie as tie
 
@@ -54,13 +54,13 @@ part-put-bytes-end : tie.Need-part-put-bytes-end
 part-put-bytes-end c = search needs
 
 put-bytes-requires : tie.Need-put-bytes-requires
-put-bytes-requires c κs = omega (arith, c .before .before .before .before .before .before .before .pre .0 .room, ap length (plain-piece (c .before .before .before .before .before .before .before .pre .0 .span) (c .before .before .before .before .before .before .before .pre .1) (sym (c .before .before .before .is-set-operator .ensures) ∙ c .before .before .if1 .left)))
+put-bytes-requires c κs = omega (arith, c .before .before .before .before .before .before .before .pre .0 .room, ap length (plain-copy (c .before .before .before .before .before .before .before .pre .0 .span) (c .before .before .before .before .before .before .before .pre .1) (sym (c .before .before .before .is-set-operator .ensures) ∙ c .before .before .if1 .left)))
 
 same-length-3 : tie.Need-same-length-3
 same-length-3 c = search needs
 
 returns-3 : tie.Need-returns-3
-returns-3 c = rw (plain-piece (c .before .before .before .before .before .before .before .before .before .before .pre .0 .span) (c .before .before .before .before .before .before .before .before .before .before .pre .1) (sym (c .before .before .before .before .before .before .is-set-operator .ensures) ∙ c .before .before .before .before .before .if1 .left)) (c .before .before .put-bytes .ensures)
+returns-3 c = rw (plain-copy (c .before .before .before .before .before .before .before .before .before .before .pre .0 .span) (c .before .before .before .before .before .before .before .before .before .before .pre .1) (sym (c .before .before .before .before .before .before .is-set-operator .ensures) ∙ c .before .before .before .before .before .if1 .left)) (c .before .before .put-bytes .ensures)
 
 pub put-operator-spec : {M : Type 1} → statement M
 put-operator-spec =

@@ -14,7 +14,7 @@ use Rattle.copy.proofs.operator.put_present.Tie as tie
 begun : (c : tie.After-cardinality-at) → let a = c .before .before .before .args in let cut = c .cardinality-at .result in
     Run (now (a .out)) (now (a .out)) (a .at) (recordCopy (drop (a .start) (now (a .page))))
     (take (cut - a .start) (drop (a .start) (now (a .page))) ∷ (setCardinality (getD (now (a .page)) cut 0) ∷ []) ∷ take (a .next - (cut + 1)) (drop (cut + 1) (now (a .page))) ∷ []) (a .at)
-begun c = start (c .before .before .before .pre .0 .room) (c .cardinality-at .ensures .piece)
+begun c = start (c .before .before .before .pre .0 .room) (c .cardinality-at .ensures .copy)
 
 cardinality-at-requires : tie.Need-cardinality-at-requires
 cardinality-at-requires c κs = search needs

@@ -3,7 +3,7 @@ use mathlib.Core.Path.{ap}
 use native.Mathlib.Omega.{arith}
 use lib.ListN.{length}
 use borrow.Author.Needs.{needs}
-use Rattle.copy.proofs.SpanLaws.{span-wide, other-piece}
+use Rattle.copy.proofs.SpanLaws.{span-wide, other-copy}
 use Rattle.copy.proofs.record.put_record.Statement.{statement}
 use Rattle.copy.proofs.record.put_record.Tie as tie
 
@@ -26,7 +26,7 @@ part-put-bytes-end : tie.Need-part-put-bytes-end
 part-put-bytes-end c = search needs
 
 put-bytes-requires : tie.Need-put-bytes-requires
-put-bytes-requires c κs = let r = c .before .before .match .rest in omega (arith, c .before .before .before .before .before .before .pre .room, ap length (other-piece (c .before .before .before .before .before .before .pre .span) (r .0 .1) (r .1)))
+put-bytes-requires c κs = let r = c .before .before .match .rest in omega (arith, c .before .before .before .before .before .before .pre .room, ap length (other-copy (c .before .before .before .before .before .before .pre .span) (r .0 .1) (r .1)))
 
 same-length : tie.Need-same-length
 same-length c = search needs
@@ -44,7 +44,7 @@ same-length-3 : tie.Need-same-length-3
 same-length-3 c = search needs
 
 returns-3 : tie.Need-returns-3
-returns-3 c = let r = c .before .before .before .before .before .match .rest in rw (other-piece (c .before .before .before .before .before .before .before .before .before .pre .span) (r .0 .1) (r .1)) (c .before .before .put-bytes .ensures)
+returns-3 c = let r = c .before .before .before .before .before .match .rest in rw (other-copy (c .before .before .before .before .before .before .before .before .before .pre .span) (r .0 .1) (r .1)) (c .before .before .put-bytes .ensures)
 
 pub put-record-spec : {M : Type 1} → statement M
 put-record-spec =

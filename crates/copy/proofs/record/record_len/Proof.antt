@@ -3,7 +3,7 @@ use Prim.Native.Nat.{_+_}
 use mathlib.Core.Path.{sym, _∙_}
 use native.Mathlib.Omega.{arith}
 use borrow.Author.Needs.{needs}
-use Rattle.copy.proofs.OperatorLaws.{operator-wide, plain-piece, absent-length, present-length}
+use Rattle.copy.proofs.OperatorLaws.{operator-wide, plain-copy, absent-length, present-length}
 use Rattle.copy.proofs.SpanLaws.{span-wide, same-length}
 use Rattle.copy.proofs.NumberCopyLaws.{unchanged-length}
 use Rattle.copy.proofs.record.record_len.Statement.{statement}
@@ -43,7 +43,7 @@ returns-3 : tie.Need-returns-3
 returns-3 c = sym (present-length (record { span = c .before .before .before .before .before .before .before .before .pre; kind = c .before .before .before .before .before .if1 .left; set = sym (c .before .before .before .is-set-operator .ensures) ∙ c .before .before .if2 .taken }) (c .if3 .left))
 
 returns-4 : tie.Need-returns-4
-returns-4 c = sym (same-length (c .before .before .before .before .before .before .pre) (plain-piece (c .before .before .before .before .before .before .pre) (c .before .before .before .if1 .left) (sym (c .before .is-set-operator .ensures) ∙ c .if2 .left)))
+returns-4 c = sym (same-length (c .before .before .before .before .before .before .pre) (plain-copy (c .before .before .before .before .before .before .pre) (c .before .before .before .if1 .left) (sym (c .before .is-set-operator .ensures) ∙ c .if2 .left)))
 
 pub record-len-spec : {M : Type 1} → statement M
 record-len-spec =

@@ -1,4 +1,4 @@
--- `walk::walk::judge_next` meets its contract: 2 where the stack is too short. Assumes nothing.
+-- `walk::judge_next` meets its contract: 2 where the stack is too short. Assumes nothing.
 use lib.ListN.{drop}
 use denote.Ref.{now}
 use native.Mathlib.Omega.{arith}
@@ -7,8 +7,8 @@ use Rattle.rules.specs.Stack.{heldOperands}
 use Rattle.rules.proofs.StackLaws.{stack-size}
 use Rattle.judge.proofs.RecordLaws.{judgement-short}
 use borrow.Author.Needs.{needs}
-use Rattle.walk.proofs.walk.judge_next.Statement.{statement}
-use Rattle.walk.proofs.walk.judge_next.Tie as tie
+use Rattle.walk.proofs.judge_next.Statement.{statement}
+use Rattle.walk.proofs.judge_next.Tie as tie
 
 sub-if1 : tie.Need-sub-if1
 sub-if1 c = search needs

@@ -1,8 +1,8 @@
--- `walk::check` meets its contract: the outcome is what the walk says. Assumes nothing.
+-- `walk::answer::check` meets its contract: the outcome is what the walk says. Assumes nothing.
 use Rattle.walk.proofs.CheckLaws.{accepts-contract, refused-contract}
 use borrow.Author.Needs.{needs}
-use Rattle.walk.proofs.check.Statement.{statement}
-use Rattle.walk.proofs.check.Tie as tie
+use Rattle.walk.proofs.answer.check.Statement.{statement}
+use Rattle.walk.proofs.answer.check.Tie as tie
 
 slice-aggregate-walk : tie.Need-slice-aggregate-walk
 slice-aggregate-walk c = search needs

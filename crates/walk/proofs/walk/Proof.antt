@@ -1,4 +1,4 @@
--- `walk::walk::walk` meets its contract. The invariant, and what each way through the loop's body makes of it, stand in `WalkedSoFar`; each
+-- `walk::walk` meets its contract. The invariant, and what each way through the loop's body makes of it, stand in `WalkedSoFar`; each
 -- answer here hands the values over. The measure is the records that a page may still have.
 use Prim.Native.Nat.{_-_}
 use mathlib.Core.Path.{_≡_, refl, ap, _∙_}
@@ -13,8 +13,8 @@ use Rattle.ast.specs.Operand.{operandKind}
 use Rattle.page.specs.Answers.{faultOf}
 use Rattle.walk.proofs.WalkedSoFar.{WalkedSoFar, Next, walked-start, too-long-refused, unfit, stepped, too-many, unreadable, ends-refused, ends-accepted}
 use borrow.Author.Needs.{needs}
-use Rattle.walk.proofs.walk.walk.Statement.{statement}
-use Rattle.walk.proofs.walk.walk.Tie as tie
+use Rattle.walk.proofs.walk.Statement.{statement}
+use Rattle.walk.proofs.walk.Tie as tie
 
 abbrev Inv-loop : tie.InvT-loop
 Inv-loop page starts₀ firsts₀ tags₀ values₀ bases₀ top₀ at₀ count₀ starts firsts tags values bases top at count = WalkedSoFar page starts₀ firsts₀ starts firsts tags values bases top at count

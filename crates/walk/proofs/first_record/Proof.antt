@@ -1,9 +1,9 @@
--- `walk::walk::first_record` meets its contract. Assumes nothing.
+-- `walk::first_record` meets its contract. Assumes nothing.
 use denote.Ref.{now}
 use Rattle.walk.proofs.BasesLaws.{firstOf-some}
 use borrow.Author.Needs.{needs}
-use Rattle.walk.proofs.walk.first_record.Statement.{statement}
-use Rattle.walk.proofs.walk.first_record.Tie as tie
+use Rattle.walk.proofs.first_record.Statement.{statement}
+use Rattle.walk.proofs.first_record.Tie as tie
 
 cast-result : tie.Need-cast-result
 cast-result c = search needs
