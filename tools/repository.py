@@ -1,4 +1,5 @@
 """What the tools share: the repository, its antt files, how changes are written, and the places that `rt dev` makes."""
+import os
 import re
 import subprocess
 import sys
@@ -20,7 +21,7 @@ def antt_files(names):
 def report(changes, only_check):
     """Writes each changed file and says whether there was one; or only prints its name, and ends with status 1."""
     for path, text in changes.items():
-        print(("would change " if only_check else "changed ") + path)
+        print("would change" if only_check else "changed", os.path.relpath(path))
         if not only_check:
             Path(path).write_text(text, encoding="utf-8")
     if only_check and changes:

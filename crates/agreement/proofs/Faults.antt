@@ -17,12 +17,14 @@ use Rattle.records.specs.Field.{has}
 use Rattle.records.specs.Modifier.{BinModifier}
 use Rattle.records.specs.Signature.{Function, Variadic, fixed, unlimited, upTo}
 use Rattle.ast.specs.Refusal.{Row, when, orElse, firstFault}
-use Rattle.ast.specs.CheckAst.{returnsBool, isJoint, isGrouped, hasMatchingLabels, isOperand, binaryRows, aggregateRows, arityRows, argsMatch, argsRows, callRows}
+use Rattle.ast.specs.CheckAst.{returnsBool, isJoint, isGrouped, hasMatchingLabels, isOperand, binaryRows, aggregateRows}
+use Rattle.ast.specs.CheckAst.{arityRows, argsMatch, argsRows, callRows}
 use Rattle.records.specs.LiteralException.{isExempt}
 use Rattle.working_out.specs.Asked.{Group, groupOf, isOperatorGroup, isAggregatorGroup, sidesAllowed, hasBool, argumentsAllowed, declaredKind, areDeclared}
 use Rattle.working_out.specs.Demand3.{kindRefusals}
 use Rattle.agreement.proofs.Bools.{both, not-not, neither-left, neither-right, either-right, fails-left, fails-right}
-use Rattle.agreement.proofs.Codes.{OperatorCase, isArithmetic, isComparing, isSet, operatorCase, AggregatorCase, isPlain, isCounting, isScaled, isLimiting, aggregatorCase}
+use Rattle.agreement.proofs.Codes.{OperatorCase, isArithmetic, isComparing, isSet, operatorCase, AggregatorCase}
+use Rattle.agreement.proofs.Codes.{isPlain, isCounting, isScaled, isLimiting, aggregatorCase}
 
 abbrev pub isKindRefusal : ℕ → Bool
 isKindRefusal n = any (eqb n) kindRefusals
@@ -38,7 +40,8 @@ pub record FaultClaim (ordinary inPlace allowed : Bool) (f : Option ℕ) : Type 
 
 -- a row of the table: what holds where its test passes, and where it fails
 module _ {o p a : Bool} where
-  pub row : (b : Bool) (n : ℕ) (f : Option ℕ) → (T b → T (isKindRefusal n) → T p × T (not a)) → (T (not b) → FaultClaim o p a f) → FaultClaim o p a (orElse (when b n) f)
+  pub row : (b : Bool) (n : ℕ) (f : Option ℕ) → (T b → T (isKindRefusal n) → T p × T (not a))
+      → (T (not b) → FaultClaim o p a f) → FaultClaim o p a (orElse (when b n) f)
   row true n f yes′ no′ = record { claim = yes′ tt }
   row false n f yes′ no′ = no′ tt
 
@@ -129,7 +132,8 @@ pub binaryClaim : (c : ℕ) (m : Option BinModifier) (l r : Kind)
     → FaultClaim true (isOperatorGroup (groupOf c)) (sidesAllowed (groupOf c) (hasBool m) l r) (firstFault (binaryRows c m l r))
 binaryClaim c m l r =
     (row (not (isOperator c)) 16 _ (λ h k. absurd k) λ h.
-    sides (groupOf c) (isComparison c) (isSetOperator c) (operatorCase c (not-not (isOperator c) h)) (returnsBool m) (isGrouped m) (hasMatchingLabels m) (isJoint m) l r)
+    sides (groupOf c) (isComparison c) (isSetOperator c) (operatorCase c (not-not (isOperator c) h)) (returnsBool m)
+    (isGrouped m) (hasMatchingLabels m) (isJoint m) l r)
 
 -- ## Aggregates
 
@@ -141,14 +145,16 @@ One g counts scaled limits e =
     ∷ when (counts && not (has isString none)) 25
     ∷ []))
 
-one : (g : Group) (counts scaled limits : Bool) → AggregatorCase g counts scaled limits → T (not ((counts || scaled) || limits)) → (e : Kind) → One g counts scaled limits e
+one : (g : Group) (counts scaled limits : Bool) → AggregatorCase g counts scaled limits
+    → T (not ((counts || scaled) || limits)) → (e : Kind) → One g counts scaled limits e
 one g counts scaled limits isPlain n e = row (not (isVector e)) 25 none (λ h k. (tt, h)) λ h. fine (λ o. (tt, not-not (isVector e) h))
 one g counts scaled limits isCounting n e = absurd n
 one g counts scaled limits isScaled n e = absurd n
 one g counts scaled limits isLimiting n e = absurd n
 
 -- an aggregate of one argument
-pub aggregateClaim : (c : ℕ) → T (not (hasParameter c)) → (e : Kind) → FaultClaim true (isAggregatorGroup (groupOf c)) (isVector e) (firstFault (aggregateRows c none e))
+pub aggregateClaim : (c : ℕ) → T (not (hasParameter c)) → (e : Kind)
+    → FaultClaim true (isAggregatorGroup (groupOf c)) (isVector e) (firstFault (aggregateRows c none e))
 aggregateClaim c n e =
     row (not (isAggregator c)) 24 _ (λ h k. absurd k) λ h.
     one (groupOf c) (isCountValues c) (rustAsksScalar c) (isLimit c) (aggregatorCase c (not-not (isAggregator c) h)) n e
@@ -178,7 +184,8 @@ two g counts scaled limits isLimiting p e =
 
 -- an aggregate of a parameter and an argument
 pub aggregateParamClaim : (c : ℕ) (p e : Kind)
-    → FaultClaim (not (isLimit c && not (isScalar p))) (isAggregatorGroup (groupOf c)) (argumentsAllowed (groupOf c) (p ∷ e ∷ [])) (firstFault (aggregateRows c (some p) e))
+    → FaultClaim (not (isLimit c && not (isScalar p))) (isAggregatorGroup (groupOf c))
+    (argumentsAllowed (groupOf c) (p ∷ e ∷ [])) (firstFault (aggregateRows c (some p) e))
 aggregateParamClaim c p e =
     row (not (isAggregator c)) 24 _ (λ h k. absurd k) λ h.
     two (groupOf c) (isCountValues c) (rustAsksScalar c) (isLimit c) (aggregatorCase c (not-not (isAggregator c) h)) p e
@@ -209,7 +216,9 @@ declared-first k ks = ap (λ (n : ℕ). getD (k ∷ ks) n vector) (zero-min (suc
 matches : (k : Kind) (ks args : List Kind) → argsMatch (k ∷ ks) args ≡ areDeclared (k ∷ ks) 0 args
 matches k ks [] = refl
 matches k [] (a ∷ more) = ap₂ (λ (d : Kind) (b : Bool). equalKind d a && b) (sym (declared-first k [])) (matches k [] more ∙ sym (are-last k 0 more))
-matches k (j ∷ js) (a ∷ more) = ap₂ (λ (d : Kind) (b : Bool). equalKind d a && b) (sym (declared-first k (j ∷ js))) (matches j js more ∙ sym (are-suc k j js 0 more))
+matches k (j ∷ js) (a ∷ more) =
+    ap₂ (λ (d : Kind) (b : Bool). equalKind d a && b) (sym (declared-first k (j ∷ js)))
+    (matches j js more ∙ sym (are-suc k j js 0 more))
 
 -- an argument list and a signature that do not end the working-out
 abbrev signed : List Kind → List Kind → Bool
@@ -228,7 +237,8 @@ exemptClaim : (ex : Bool) (p a : Bool) (rows : List Row) → FaultClaim true p a
 exemptClaim true p a rows h = fine (λ o. absurd o)
 exemptClaim false p a rows h = h
 
-arityClaim : (v : Variadic) (kinds args : ℕ) (o p a : Bool) (rows : List Row) → FaultClaim o p a (firstFault rows) → FaultClaim o p a (firstFault (arityRows v kinds args ++ rows))
+arityClaim : (v : Variadic) (kinds args : ℕ) (o p a : Bool) (rows : List Row) → FaultClaim o p a (firstFault rows)
+    → FaultClaim o p a (firstFault (arityRows v kinds args ++ rows))
 arityClaim fixed kinds args o p a rows h = row (not (eqb kinds args)) 26 _ (λ _ k. absurd k) (λ _. h)
 arityClaim unlimited kinds args o p a rows h = row (ltb args (kinds - 1)) 27 _ (λ _ k. absurd k) (λ _. h)
 arityClaim (upTo n) kinds args o p a rows h =

@@ -44,7 +44,8 @@ module _ {C : Type 0} where
   nothing = record { steps = []; finish = ended }
 
   -- a record that gave an expression: the claim of the records after it, one record on
-  after : (i : ℕ) (aside asked : Bool) (w : WorkedOut C) (c : Checked Expr) → (T (not aside) → T asked) → Claim (suc i) w c → Claim i (stepOf true aside asked w) c
+  after : (i : ℕ) (aside asked : Bool) (w : WorkedOut C) (c : Checked Expr) → (T (not aside) → T asked)
+      → Claim (suc i) w c → Claim i (stepOf true aside asked w) c
   after i aside asked w (accepted e n) h f =
       λ g.
       let rest : RunsClean (valueType e) w = f (right-of (not aside) (nothingSetAside (w .steps)) g) in
@@ -68,7 +69,8 @@ module _ {C : Type 0} where
         λ g. absurd (h (left-of (not aside) (nothingSetAside (take (f k .0) [])) g)),
       )
 
-  step : (x : Ending) (count i : ℕ) (aside p a : Bool) (k : Kind) (l : Option Literal) (w : WorkedOut C) (below : List Expr) (rs : List Record) (r : Result Expr)
+  step : (x : Ending) (count i : ℕ) (aside p a : Bool) (k : Kind) (l : Option Literal) (w : WorkedOut C)
+      (below : List Expr) (rs : List Record) (r : Result Expr)
       → NodeClaim (not aside) p a k l r
       → ((e : Expr) → k ≡ valueType e → l ≡ scalarValue e → T (isFormed e) → Claim (suc i) w (finished x count (walk apply (suc i) (e ∷ below) rs)))
       → Claim i (stepOf p aside a w) (finished x count (proceed i (pushed below r) (λ s. walk apply (suc i) s rs)))
@@ -118,7 +120,8 @@ module _ {C : Type 0} (contents : ℕ → C) where
       → Claim i (worked x i vs bare rs) (finished x count (walk apply i stack rs))
   right x count [] i stack vs bare q₁ q₂ h = last x count i stack vs bare q₁
   right x count (r ∷ rs) i stack vs bare q₁ q₂ h =
-      subst (λ (s : Result (List Expr)). Claim i (worked x i vs bare (r ∷ rs)) (finished x count (proceed i s (λ s. walk apply (suc i) s rs)))) (sym (apply-operands r stack))
+      subst (λ (s : Result (List Expr)). Claim i (worked x i vs bare (r ∷ rs))
+      (finished x count (proceed i s (λ s. walk apply (suc i) s rs)))) (sym (apply-operands r stack))
       (tested x count i (leb (operands r) (length stack)) (leb (operands r) (length vs)) (ap (leb (operands r)) lengths)
       (stepOf (isInPlace r) aside asked rest)
       (pushed (drop (operands r) stack) (operandOf r (operandsOf (operands r) stack)))
@@ -158,7 +161,8 @@ module _ {C : Type 0} (contents : ℕ → C) where
       below-bare = ap (drop (operands r)) q₂ ∙ sym (map-drop scalarValue (operands r) stack)
 
       LaidOut : List Kind → List (Option Literal) → Type 0
-      LaidOut k b = NodeClaim (not (isSetAside r k b)) (isInPlace r) (areAsAsked r k) (kindGiven r k) (bareNumber r b) (operandOf r (operandsOf (operands r) stack))
+      LaidOut k b = NodeClaim (not (isSetAside r k b)) (isInPlace r) (areAsAsked r k) (kindGiven r k)
+          (bareNumber r b) (operandOf r (operandsOf (operands r) stack))
 
       seen : T (leb (operands r) (length stack)) → LaidOut (operandsOf (operands r) (kinds vs)) (operandsOf (operands r) bare)
       seen enough =
@@ -170,7 +174,8 @@ module _ {C : Type 0} (contents : ℕ → C) where
 
 module _ {C : Type 0} (contents : ℕ → C) where
   -- the check's answer or refusal, from the claim at record 0
-  fromClaim : (page : List ℕ) (c : Checked Expr) → Claim 0 (workPage isSetAside contents (readPage page)) c → KindsRightWith isSetAside kindRefusals contents page (outcomeOf c)
+  fromClaim : (page : List ℕ) (c : Checked Expr) → Claim 0 (workPage isSetAside contents (readPage page)) c
+      → KindsRightWith isSetAside kindRefusals contents page (outcomeOf c)
   fromClaim page (accepted e n) f = f
   fromClaim page (refusedAt n j) f =
       λ k g. subst (λ (d : ℕ). MeetsFirst d steps) (same k) (f k .2 (subst (λ (d : ℕ). T (nothingSetAside (take d steps))) (sym (same k)) g))
@@ -185,4 +190,6 @@ module _ {C : Type 0} (contents : ℕ → C) where
   pub kindsRightWith : (page : List ℕ) → KindsRightWith isSetAside kindRefusals contents page (check page)
   unfolding checkPage
   kindsRightWith page =
-      fromClaim page (checkPage page) (right contents (readPage page .ending) (length (readPage page .records)) (readPage page .records) 0 [] [] [] refl refl tt)
+      fromClaim page (checkPage page)
+      (right contents (readPage page .ending) (length (readPage page .records)) (readPage page .records) 0 [] []
+      [] refl refl tt)

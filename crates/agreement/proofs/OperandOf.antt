@@ -15,7 +15,8 @@ use Rattle.records.specs.Literal.{Literal}
 use Rattle.ast.specs.Refusal.{Result, refused, ok, unless, andThen}
 use Rattle.records.specs.Record.{Record, leaf, wrapper, binary, aggregate, call, operands}
 use Rattle.records.specs.Stack.{operandsOf}
-use Rattle.ast.specs.Expr.{Expr, Aggregate, AggregateParam, Unary, Binary, Paren, Subquery, NumberLiteral, StringLiteral, VectorSelector, MatrixSelector, Call, valueType, scalarValue, argsOf}
+use Rattle.ast.specs.Expr.{Expr, Aggregate, AggregateParam, Unary, Binary, Paren, Subquery, NumberLiteral}
+use Rattle.ast.specs.Expr.{StringLiteral, VectorSelector, MatrixSelector, Call, valueType, scalarValue, argsOf}
 use Rattle.ast.specs.Construct.{newAggregate}
 use Rattle.ast.specs.CheckAst.{checkAst}
 use Rattle.ast.specs.CheckPage.{leafExpr, wrap, apply}
@@ -50,7 +51,9 @@ enough : {A : Type 0} (b : Bool) (x y : A) → b ≡ true → x ≡ pick b x y
 enough b x y e = ap (λ (c : Bool). pick c x y) (sym e)
 
 pub apply-operands : (r : Record) (stack : List Expr)
-    → apply r stack ≡ pick (leb (operands r) (length stack)) (andThen (operandOf r (operandsOf (operands r) stack)) (λ e. ok (e ∷ drop (operands r) stack))) (refused 2)
+    → apply r stack
+    ≡ pick (leb (operands r) (length stack))
+    (andThen (operandOf r (operandsOf (operands r) stack)) (λ e. ok (e ∷ drop (operands r) stack))) (refused 2)
 unfolding apply
 apply-operands (leaf l) stack = enough (leb 0 (length stack)) _ _ (le-leb 0 (length stack) (omega arith))
 apply-operands (wrapper w) [] = refl

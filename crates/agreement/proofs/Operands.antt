@@ -15,7 +15,8 @@ use Rattle.records.specs.Literal.{Literal}
 use Rattle.records.specs.Modifier.{LabelModifier, BinModifier}
 use Rattle.records.specs.Signature.{Function}
 use Rattle.ast.specs.Refusal.{firstFault, andThen}
-use Rattle.records.specs.Record.{Leaf, number, string as stringLeaf, selector, Wrapper, range, subquery, at, offset, unary, paren, Record, leaf, wrapper, binary, aggregate, call, operands}
+use Rattle.records.specs.Record.{Leaf, number, string as stringLeaf, selector, Wrapper, range, subquery, at, offset}
+use Rattle.records.specs.Record.{unary, paren, Record, leaf, wrapper, binary, aggregate, call, operands}
 use Rattle.ast.specs.Expr.{Expr, Aggregate, AggregateParam, Binary, Subquery, Call, valueType, scalarValue, argsOf}
 use Rattle.ast.specs.Construct.{newAggregateOf, noTimes}
 use Rattle.ast.specs.CheckAst.{checkAst, checkedModifier, kindsOf, firstLiteral, callRows}
@@ -77,15 +78,25 @@ callNode f es =
     o : Bool
     o = not (isExempt (f .name) (getD (map scalarValue es) 0 none))
 
-    counted : FaultClaim o (eqb (length es) 0 || not (isEmpty (f .argTypes))) (areDeclared (f .argTypes) 0 (map valueType es)) (firstFault (callRows f (getD (map scalarValue es) 0 none) (map valueType es)))
+    counted : FaultClaim o (eqb (length es) 0 || not (isEmpty (f .argTypes)))
+        (areDeclared (f .argTypes) 0 (map valueType es))
+        (firstFault (callRows f (getD (map scalarValue es) 0 none) (map valueType es)))
     counted =
-        subst (λ (n : ℕ). FaultClaim o (eqb n 0 || not (isEmpty (f .argTypes))) (areDeclared (f .argTypes) 0 (map valueType es)) (firstFault (callRows f (getD (map scalarValue es) 0 none) (map valueType es))))
+        subst (λ (n : ℕ). FaultClaim o (eqb n 0 || not (isEmpty (f .argTypes)))
+        (areDeclared (f .argTypes) 0 (map valueType es))
+        (firstFault (callRows f (getD (map scalarValue es) 0 none) (map valueType es))))
         (length-map es valueType) (callClaim f (getD (map scalarValue es) 0 none) (map valueType es))
 
-    claimed : FaultClaim o (eqb (length es) 0 || not (isEmpty (f .argTypes))) (areDeclared (f .argTypes) 0 (map valueType es)) (firstFault (callRows f (firstLiteral (argsOf es)) (kindsOf (argsOf es))))
+    claimed : FaultClaim o (eqb (length es) 0 || not (isEmpty (f .argTypes)))
+        (areDeclared (f .argTypes) 0 (map valueType es))
+        (firstFault (callRows f (firstLiteral (argsOf es)) (kindsOf (argsOf es))))
     claimed =
-        subst (λ (ks : List Kind). FaultClaim o (eqb (length es) 0 || not (isEmpty (f .argTypes))) (areDeclared (f .argTypes) 0 (map valueType es)) (firstFault (callRows f (firstLiteral (argsOf es)) ks))) (sym (kinds-args es))
-        (subst (λ (l : Option Literal). FaultClaim o (eqb (length es) 0 || not (isEmpty (f .argTypes))) (areDeclared (f .argTypes) 0 (map valueType es)) (firstFault (callRows f l (map valueType es)))) (sym (first-args es))
+        subst (λ (ks : List Kind). FaultClaim o (eqb (length es) 0 || not (isEmpty (f .argTypes)))
+        (areDeclared (f .argTypes) 0 (map valueType es)) (firstFault (callRows f (firstLiteral (argsOf es)) ks)))
+        (sym (kinds-args es))
+        (subst (λ (l : Option Literal). FaultClaim o (eqb (length es) 0 || not (isEmpty (f .argTypes)))
+        (areDeclared (f .argTypes) 0 (map valueType es)) (firstFault (callRows f l (map valueType es))))
+        (sym (first-args es))
         counted)
 
 -- ## Every record

@@ -34,7 +34,8 @@ module _ {C : Type 0} (aside : Record → List Kind → List (Option Literal) �
   step e r rs more h true false isAside asked vs q = never vs q
   step e r rs more h false inPlace isAside asked vs q = never vs q
 
-  pub workRecords-left : (e : Ending) (rs : List Record) (i : ℕ) (stack : List (Value C)) (bare : List (Option Literal)) → RanToEnd e rs (workRecords aside contents e i stack bare rs)
+  pub workRecords-left : (e : Ending) (rs : List Record) (i : ℕ) (stack : List (Value C))
+      (bare : List (Option Literal)) → RanToEnd e rs (workRecords aside contents e i stack bare rs)
   workRecords-left e [] i stack bare = last e i stack bare
   workRecords-left e (r ∷ rs) i stack bare =
       step e r rs (workRecords aside contents e (suc i) (putBack aside contents i r stack) (putBare r bare) rs)

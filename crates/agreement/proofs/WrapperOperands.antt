@@ -12,7 +12,9 @@ use Rattle.records.specs.Matcher.{Selector}
 use Rattle.records.specs.Time.{Times, AtModifier, Offset}
 use Rattle.ast.specs.Refusal.{unless, when, orElse, firstFault, andThen}
 use Rattle.records.specs.Record.{range, at, offset, unary, wrapper}
-use Rattle.ast.specs.Expr.{Expr, Aggregate, AggregateParam, Unary, Binary, Paren, Subquery, NumberLiteral, StringLiteral, VectorSelector, MatrixSelector, Call, valueType, scalarValue, timesOf, withTimes}
+use Rattle.ast.specs.Expr.{Expr, Aggregate, AggregateParam, Unary, Binary, Paren, Subquery, NumberLiteral}
+use Rattle.ast.specs.Expr.{StringLiteral, VectorSelector, MatrixSelector, Call, valueType, scalarValue, timesOf}
+use Rattle.ast.specs.Expr.{withTimes}
 use Rattle.records.specs.Matcher.{isNameMatcher, matchesEmpty}
 use Rattle.ast.specs.CheckAst.{checkAst, unaryRows, selectorRows}
 use Rattle.ast.proofs.ConstructLaws.{newMatrixSelector-by, atExpr-by, offsetExpr-by, timesOf-by}
@@ -83,7 +85,9 @@ unaryNode e =
     (row (not (isNumeric (valueType e))) 31 none (λ h k. (tt, h)) λ h. fine (λ o. (tt, not-not (isNumeric (valueType e)) h)))
     tt
 
-pub unaryOne : (e : Expr) → NodeClaim true true (isNumeric (valueType e)) (valueType e) (wrapperNumber unary (scalarValue e)) (operandOf (wrapper unary) (e ∷ []))
+pub unaryOne : (e : Expr)
+    → NodeClaim true true (isNumeric (valueType e)) (valueType e) (wrapperNumber unary (scalarValue e))
+    (operandOf (wrapper unary) (e ∷ []))
 unfolding checkAst
 unaryOne (Aggregate c m e) = unaryNode (Aggregate c m e)
 unaryOne (AggregateParam c m p e) = unaryNode (AggregateParam c m p e)

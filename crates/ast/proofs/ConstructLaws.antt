@@ -6,7 +6,8 @@ use mathlib.Core.Option.{Option, none, some, Option·none-ne-some, Option·some-
 use Rattle.records.specs.Matcher.{Selector}
 use Rattle.records.specs.Time.{Times, AtModifier, Offset}
 use Rattle.ast.specs.Refusal.{Result, refused, ok}
-use Rattle.ast.specs.Expr.{Expr, Aggregate, AggregateParam, Unary, Binary, Paren, Subquery, NumberLiteral, StringLiteral, VectorSelector, MatrixSelector, Call, timesOf, withTimes}
+use Rattle.ast.specs.Expr.{Expr, Aggregate, AggregateParam, Unary, Binary, Paren, Subquery, NumberLiteral}
+use Rattle.ast.specs.Expr.{StringLiteral, VectorSelector, MatrixSelector, Call, timesOf, withTimes}
 use Rattle.ast.specs.Construct.{rangeAfter, newMatrixSelector, setAt, atWith, atExpr, setOffset, offsetWith, offsetExpr}
 
 module _ {ℓ} (P : Result Expr → Type ℓ) where

@@ -155,7 +155,9 @@ module _ (page : List ℕ) (bytes : T (all isByte page)) (i : ℕ) where
       rest = writeOption writeLiteral (m .fillValues .lhs) ++ (writeOption writeLiteral (m .fillValues .rhs) ++ at .rest)
 
       here : fromRecord i page ≡ toFills c m rest
-      here = at .isRecord ∙ fields-apart (9 ∷ []) (writeNumber c) (1 ∷ []) (writeFlag (m .returnBool)) (writeLabelModifier (m .matching)) (writeCardinality (m .card))
+      here = at .isRecord
+          ∙ fields-apart (9 ∷ []) (writeNumber c) (1 ∷ []) (writeFlag (m .returnBool))
+          (writeLabelModifier (m .matching)) (writeCardinality (m .card))
           (writeOption writeLiteral (m .fillValues .lhs)) (writeOption writeLiteral (m .fillValues .rhs)) (at .rest)
 
       shared : Shared (onLabels (m .matching)) (groupLabels (m .card)) rest
@@ -174,12 +176,18 @@ module _ (page : List ℕ) (bytes : T (all isByte page)) (i : ℕ) where
       whole =
           at .isWhole
           ∙ ap (λ (s : List ℕ). writeAll writeRecord (take i (readPage page .records)) ++ s) here
-          ∙ ap (λ (s : List ℕ). writeAll writeRecord (take i (readPage page .records)) ++ (9 ∷ (writeNumber c ++ (1 ∷ (writeFlag (m .returnBool) ++ (writeLabelModifier (m .matching) ++ (s ++ rest)))))))
+          ∙ ap (λ (s : List ℕ). writeAll writeRecord (take i (readPage page .records))
+          ++ (9
+          ∷ (writeNumber c
+          ++ (1 ∷ (writeFlag (m .returnBool) ++ (writeLabelModifier (m .matching) ++ (s ++ rest)))))))
           (group-apart (m .card) (shared .earlier) (shared .label) (shared .more) (shared .isGroup))
-          ∙ label-apart (writeAll writeRecord (take i (readPage page .records))) (9 ∷ []) (writeNumber c) (1 ∷ []) (writeFlag (m .returnBool)) (writeLabelModifier (m .matching))
-          (writeGroupHead (m .card)) (writeAll writeText (shared .earlier)) (writeNumber (length (shared .label))) (shared .label) (writeAll writeText (shared .more)) rest
+          ∙ label-apart (writeAll writeRecord (take i (readPage page .records))) (9 ∷ []) (writeNumber c) (1 ∷ [])
+          (writeFlag (m .returnBool)) (writeLabelModifier (m .matching))
+          (writeGroupHead (m .card)) (writeAll writeText (shared .earlier)) (writeNumber (length (shared .label)))
+          (shared .label) (writeAll writeText (shared .more)) rest
 
-  record-found : (r : Record) (later : List Record) → drop i (readPage page .records) ≡ r ∷ later → T (isOfRecord r 19) → HoldsJointLabel page i (labelPart page (refusal 19 i))
+  record-found : (r : Record) (later : List Record) → drop i (readPage page .records) ≡ r ∷ later
+      → T (isOfRecord r 19) → HoldsJointLabel page i (labelPart page (refusal 19 i))
   record-found (leaf l) later e h = absurd h
   record-found (wrapper w) later e h = absurd h
   record-found (binary c none) later e h = absurd h
@@ -217,7 +225,9 @@ split-unique test (a ∷ xs) [] x y more others e p q h k =
 split-unique test (a ∷ xs) (b ∷ ys) x y more others e p q h k =
     let first : a ≡ b = cc in
     let tails : xs ++ (x ∷ more) ≡ ys ++ (y ∷ others) = cc in
-    let same = split-unique test xs ys x y more others tails p q (right-of (not (test a)) (all (λ t. not (test t)) xs) h) (right-of (not (test b)) (all (λ t. not (test t)) ys) k) in
+    let same = split-unique test xs ys x y more others tails p q
+    (right-of (not (test a)) (all (λ t. not (test t)) xs) h)
+    (right-of (not (test b)) (all (λ t. not (test t)) ys) k) in
     (ap₂ {C = Labels} (λ t ts. t ∷ ts) first (same .0), same .1)
 
 module _ {page : List ℕ} {i : ℕ} {part : Part} (h : HoldsJointLabel page i part) where
@@ -233,7 +243,9 @@ label-unique {page} {i} {part} {other} h k =
     let records : binary (h .code) (some (h .modifier)) ∷ h .later ≡ binary (k .code) (some (k .modifier)) ∷ k .later = sym (h .isRecord) ∙ k .isRecord in
     let code : h .code ≡ k .code = cc in
     let modifier : h .modifier ≡ k .modifier = cc in
-    let group : h .earlier ++ (h .label ∷ h .more) ≡ k .earlier ++ (k .label ∷ k .more) = sym (h .isGroup) ∙ ap (λ (m : BinModifier). groupLabels (m .card)) modifier ∙ k .isGroup in
+    let group : h .earlier ++ (h .label ∷ h .more)
+    ≡ k .earlier ++ (k .label ∷ k .more) = sym (h .isGroup)
+    ∙ ap (λ (m : BinModifier). groupLabels (m .card)) modifier ∙ k .isGroup in
     let same =
     split-unique (hasLabel (onLabels (h .modifier .matching))) (h .earlier) (k .earlier) (h .label) (k .label) (h .more) (k .more) group
     (h .isShared) (rw (← modifier) at (k .isShared)) (h .isFirst) (rw (← modifier) at (k .isFirst)) in

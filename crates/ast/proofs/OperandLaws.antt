@@ -20,15 +20,21 @@ use Rattle.records.specs.Modifier.{LabelModifier, BinModifier}
 use Rattle.records.specs.Time.{Times, AtModifier, Offset}
 use Rattle.records.specs.Signature.{Function}
 use Rattle.records.specs.Stack.{operandsOf}
-use Rattle.records.specs.Record.{Leaf, number, string, selector, Wrapper, range, subquery, at, offset, unary, paren, Record, leaf, wrapper, binary, aggregate, call}
+use Rattle.records.specs.Record.{Leaf, number, string, selector, Wrapper, range, subquery, at, offset, unary, paren}
+use Rattle.records.specs.Record.{Record, leaf, wrapper, binary, aggregate, call}
 use Rattle.records.proofs.FloatLaws.{float-negate, float-isNan, float-isInfinite, float-atMostZero}
 use Rattle.ast.specs.Refusal.{firstFault, Result, refused, ok, unless, andThen}
-use Rattle.ast.specs.Expr.{Expr, Aggregate, AggregateParam, Unary, Binary, Paren, Subquery, NumberLiteral, StringLiteral, VectorSelector, MatrixSelector, Call, argsOf, valueType, scalarValue, withTimes}
+use Rattle.ast.specs.Expr.{Expr, Aggregate, AggregateParam, Unary, Binary, Paren, Subquery, NumberLiteral}
+use Rattle.ast.specs.Expr.{StringLiteral, VectorSelector, MatrixSelector, Call, argsOf, valueType, scalarValue}
+use Rattle.ast.specs.Expr.{withTimes}
 use Rattle.ast.specs.Construct.{newUnary, newMatrixSelector, rangeAfter, setAt, atExpr, setOffset, offsetExpr, newAggregate, newAggregateOf, noTimes}
-use Rattle.ast.specs.CheckAst.{binaryRows, checkedModifier, aggregateRows, callRows, kindsOf, firstLiteral, unaryRows, subqueryRows, selectorRows, checkAst}
+use Rattle.ast.specs.CheckAst.{binaryRows, checkedModifier, aggregateRows, callRows, kindsOf, firstLiteral}
+use Rattle.ast.specs.CheckAst.{unaryRows, subqueryRows, selectorRows, checkAst}
 use Rattle.ast.specs.CheckPage.{leafExpr, wrap, push, apply}
 use Rattle.ast.specs.Operand.{Operand, numberOperand, selectorOperand, rangeOperand, subqueryOperand, otherOperand, operandKind, isSet, operandOf}
-use Rattle.ast.specs.Judge.{put, judgeUnary, rangeAfterMarks, judgeRange, setMark, judgeAt, judgeOffset, judgeWrapper, judgeBinary, judgeArguments, judgeAggregate, isExemptFloat, isExemptOperand, isExemptCall, judgeCall, judgeLeaf, judgement, judged}
+use Rattle.ast.specs.Judge.{put, judgeUnary, rangeAfterMarks, judgeRange, setMark, judgeAt, judgeOffset}
+use Rattle.ast.specs.Judge.{judgeWrapper, judgeBinary, judgeArguments, judgeAggregate, isExemptFloat}
+use Rattle.ast.specs.Judge.{isExemptOperand, isExemptCall, judgeCall, judgeLeaf, judgement, judged}
 use Rattle.ast.proofs.StackLaws.{map-drop, map-operandsOf}
 use Rattle.ast.proofs.SoundLaws.{Sound, AllSound, sound-operandsOf}
 
@@ -97,7 +103,8 @@ passed : {A : Type 0} {f : Option ℕ} → f ≡ none → (a : A) → ok a ≡ u
 passed e a = sym (ap {B = Result _} (λ g. unless g a) e)
 
 at-marks : (a : AtModifier) (x : Option AtModifier) (t : Times) (e : Expr) (y : Operand)
-    → ok y ≡ mapResult operandOf (checkAst (withTimes (record { at = some a; offset = t .offset }) e)) → setMark 10 (isSet x) y ≡ mapResult operandOf (andThen (setAt a x t e) checkAst)
+    → ok y ≡ mapResult operandOf (checkAst (withTimes (record { at = some a; offset = t .offset }) e))
+    → setMark 10 (isSet x) y ≡ mapResult operandOf (andThen (setAt a x t e) checkAst)
 at-marks a none t e y h = h
 at-marks a (some b) t e y h = refl
 
@@ -120,7 +127,8 @@ judgeAt-operand a (MatrixSelector s t r) h = at-marks a (t .at) t (MatrixSelecto
 judgeAt-operand a (Call f es) h = refl
 
 offset-marks : (o : Offset) (x : Option Offset) (t : Times) (e : Expr) (y : Operand)
-    → ok y ≡ mapResult operandOf (checkAst (withTimes (record { at = t .at; offset = some o }) e)) → setMark 12 (isSet x) y ≡ mapResult operandOf (andThen (setOffset o x t e) checkAst)
+    → ok y ≡ mapResult operandOf (checkAst (withTimes (record { at = t .at; offset = some o }) e))
+    → setMark 12 (isSet x) y ≡ mapResult operandOf (andThen (setOffset o x t e) checkAst)
 offset-marks o none t e y h = h
 offset-marks o (some b) t e y h = refl
 
@@ -155,7 +163,9 @@ judgeWrapper-operand paren e h = ap {B = Result Operand} (λ k. ok (otherOperand
 
 -- ## Two operands, and arguments
 
-judgeBinary-operand : (c : ℕ) (m : Option BinModifier) (l r : Expr) → judgeBinary c m (operandKind (operandOf l)) (operandKind (operandOf r)) ≡ mapResult operandOf (checkAst (Binary c m l r))
+judgeBinary-operand : (c : ℕ) (m : Option BinModifier) (l r : Expr)
+    → judgeBinary c m (operandKind (operandOf l)) (operandKind (operandOf r))
+    ≡ mapResult operandOf (checkAst (Binary c m l r))
 unfolding checkAst
 judgeBinary-operand c m l r =
     ap₂ {C = Result Operand} (λ j k. judgeBinary c m j k) (operandOf-kind l) (operandOf-kind r)
@@ -201,7 +211,15 @@ kinds-args (e ∷ es) = ap {B = List Kind} (λ ks. valueType e ∷ ks) (kinds-ar
 
 judgeCall-operand : (f : Function) (es : List Expr) → AllSound es → judgeCall f (map operandOf es) ≡ mapResult operandOf (checkAst (Call f (argsOf es)))
 unfolding checkAst
-judgeCall-operand f es h = rw (exempt-call (f .name) es h, kinds-operands es, length-map es operandOf, ← length-map es valueType, kinds-args es) (unless-operand (firstFault (callRows f (firstLiteral (argsOf es)) (kindsOf (argsOf es)))) (Call f (argsOf es)))
+judgeCall-operand f es h =
+    rw (
+      exempt-call (f .name) es h,
+      kinds-operands es,
+      length-map es operandOf,
+      ← length-map es valueType,
+      kinds-args es,
+    )
+    (unless-operand (firstFault (callRows f (firstLiteral (argsOf es)) (kindsOf (argsOf es)))) (Call f (argsOf es)))
 
 -- ## A record
 

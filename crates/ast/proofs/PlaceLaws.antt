@@ -33,7 +33,8 @@ module _ {A B : Type 0} (f : A → Reader B) where
   onward h rest = ap (λ (m : Read A). andThen m f) (h .reads rest)
 
 -- a label before others that are read
-first-placed : (t : Text) (ts : Labels) (rest : List ℕ) → IsAnyText t → repeat (length ts) readPlaced (writeAll writeText ts ++ rest) ≡ got (placed ts rest) rest
+first-placed : (t : Text) (ts : Labels) (rest : List ℕ) → IsAnyText t
+    → repeat (length ts) readPlaced (writeAll writeText ts ++ rest) ≡ got (placed ts rest) rest
     → repeat (length (t ∷ ts)) readPlaced (writeText t ++ (writeAll writeText ts ++ rest)) ≡ got (placed (t ∷ ts) rest) rest
 first-placed t ts rest h more =
     ap (λ (m : Read Placed). andThen m (λ p s. andThen (repeat (length ts) readPlaced s) (λ ps u. got (p ∷ ps) u)))
@@ -52,7 +53,8 @@ list-placed ts rest h =
     ∙ onward (λ n. repeat n readPlaced) (readCount-back (length ts) (h .0)) (writeAll writeText ts ++ rest)
     ∙ repeat-placed ts rest (h .1)
 
-cardinality-placed : (c : Cardinality) (rest : List ℕ) → IsCardinality c → readChoice placedForms (writeCardinality c ++ rest) ≡ got (placed (groupLabels c) rest) rest
+cardinality-placed : (c : Cardinality) (rest : List ℕ) → IsCardinality c
+    → readChoice placedForms (writeCardinality c ++ rest) ≡ got (placed (groupLabels c) rest) rest
 cardinality-placed oneToOne rest h = refl
 cardinality-placed manyToMany rest h = refl
 cardinality-placed (manyToOne ls) rest h = list-placed ls rest h

@@ -31,7 +31,9 @@ none-there : {A : Type 0} {B : Type 0} (k : ℕ) (x : A) (xs : List A) → drop 
 none-there k x xs e = absurd (cons-ne-nil x xs (sym e ∙ drop-nil k))
 
 abbrev ReadsAt : ℕ → Type 0
-ReadsAt n = (s : List ℕ) → T (all isByte s) → (k : ℕ) (r : Record) (later : List Record) → drop k (readRecords n s .records) ≡ r ∷ later → RecordAt s k (readRecords n s .records) r
+ReadsAt n =
+    (s : List ℕ) → T (all isByte s) → (k : ℕ) (r : Record) (later : List Record)
+    → drop k (readRecords n s .records) ≡ r ∷ later → RecordAt s k (readRecords n s .records) r
 
 readRecords-at : (n : ℕ) → ReadsAt n
 readRecords-at zero [] h k r later e = none-there k r later e
@@ -58,7 +60,8 @@ readRecords-at (suc n) (b ∷ bs) h k r later e = by k (readRecord (b ∷ bs)) r
           isAllowed = found .isAllowed;
         }
 
-pub readPage-at : (page : List ℕ) → T (all isByte page) → (k : ℕ) (r : Record) (later : List Record) → drop k (readPage page .records) ≡ r ∷ later → RecordAt page k (readPage page .records) r
+pub readPage-at : (page : List ℕ) → T (all isByte page) → (k : ℕ) (r : Record) (later : List Record)
+    → drop k (readPage page .records) ≡ r ∷ later → RecordAt page k (readPage page .records) r
 unfolding readPage
 readPage-at page h k r later = by (leb (length page) pageLimit)
   where

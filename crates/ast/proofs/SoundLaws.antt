@@ -14,11 +14,15 @@ use Rattle.records.specs.Float.{IsExact}
 use Rattle.records.specs.Modifier.{LabelModifier}
 use Rattle.records.specs.Time.{Times, AtModifier, Offset}
 use Rattle.records.specs.Stack.{operandsOf}
-use Rattle.records.specs.Record.{Leaf, number, string, selector, Wrapper, range, subquery, at, offset, unary, paren, Record, leaf, wrapper, binary, aggregate, call}
+use Rattle.records.specs.Record.{Leaf, number, string, selector, Wrapper, range, subquery, at, offset, unary, paren}
+use Rattle.records.specs.Record.{Record, leaf, wrapper, binary, aggregate, call}
 use Rattle.ast.specs.Refusal.{firstFault, Result, refused, ok, unless, andThen}
-use Rattle.ast.specs.Expr.{Expr, Aggregate, AggregateParam, Unary, Binary, Paren, Subquery, NumberLiteral, StringLiteral, VectorSelector, MatrixSelector, Call, argsOf, valueType, timesOf, withTimes}
+use Rattle.ast.specs.Expr.{Expr, Aggregate, AggregateParam, Unary, Binary, Paren, Subquery, NumberLiteral}
+use Rattle.ast.specs.Expr.{StringLiteral, VectorSelector, MatrixSelector, Call, argsOf, valueType, timesOf}
+use Rattle.ast.specs.Expr.{withTimes}
 use Rattle.ast.specs.Construct.{newUnary, newMatrixSelector, atExpr, offsetExpr, newAggregate, newAggregateOf}
-use Rattle.ast.specs.CheckAst.{binaryRows, checkedModifier, aggregateRows, callRows, kindsOf, firstLiteral, unaryRows, subqueryRows, selectorRows, checkAst}
+use Rattle.ast.specs.CheckAst.{binaryRows, checkedModifier, aggregateRows, callRows, kindsOf, firstLiteral}
+use Rattle.ast.specs.CheckAst.{unaryRows, subqueryRows, selectorRows, checkAst}
 use Rattle.ast.specs.CheckPage.{leafExpr, wrap, push, apply}
 use Rattle.records.specs.Allowed.{IsAllowed}
 use Rattle.ast.proofs.ConstructLaws.{newMatrixSelector-by, atExpr-by, offsetExpr-by, timesOf-by}
@@ -182,6 +186,7 @@ apply-sound (binary c m) [] x h = tt
 apply-sound (binary c m) (r ∷ []) x h = tt
 apply-sound (binary c m) (r ∷ l ∷ below) x h = push-sound (ok (Binary c m l r)) below tt (h .1 .1)
 apply-sound (aggregate c m n) stack x h =
-    arguments-sound (leb n (length stack)) (newAggregate c m (operandsOf n stack)) (drop n stack) (aggregate-exact (hasParameter c) c m (operandsOf n stack)) (sound-drop n stack h)
+    arguments-sound (leb n (length stack)) (newAggregate c m (operandsOf n stack)) (drop n stack)
+    (aggregate-exact (hasParameter c) c m (operandsOf n stack)) (sound-drop n stack h)
 apply-sound (call f n) stack x h =
     arguments-sound (leb n (length stack)) (ok (Call f (argsOf (operandsOf n stack)))) (drop n stack) tt (sound-drop n stack h)

@@ -17,7 +17,8 @@ use Rattle.records.specs.LiteralException.{isExp, isLogarithm}
 use Rattle.records.specs.Modifier.{BinModifier}
 use Rattle.records.specs.Signature.{Function}
 use Rattle.records.specs.Stack.{operandsOf}
-use Rattle.records.specs.Record.{Leaf, number, string, selector, Wrapper, range, subquery, at, offset, unary, paren, Record, leaf, wrapper, binary, aggregate, call, operands}
+use Rattle.records.specs.Record.{Leaf, number, string, selector, Wrapper, range, subquery, at, offset, unary, paren}
+use Rattle.records.specs.Record.{Record, leaf, wrapper, binary, aggregate, call, operands}
 use Rattle.ast.specs.Refusal.{Row, firstFault, Result, refused, ok, unless, andThen}
 use Rattle.ast.specs.Expr.{binaryKind}
 use Rattle.ast.specs.CheckAst.{binaryRows, aggregateRows, arityRows, argsRows, unaryRows, subqueryRows, selectorRows}

@@ -6,7 +6,8 @@ use lib.Ieee.{Float}
 use Rattle.records.specs.Kind.{Kind, vector, scalar, matrix, string}
 use Rattle.records.specs.Float.{float}
 use Rattle.records.specs.Time.{Times}
-use Rattle.ast.specs.Expr.{Expr, Aggregate, AggregateParam, Unary, Binary, Paren, Subquery, NumberLiteral, StringLiteral, VectorSelector, MatrixSelector, Call, valueType}
+use Rattle.ast.specs.Expr.{Expr, Aggregate, AggregateParam, Unary, Binary, Paren, Subquery, NumberLiteral}
+use Rattle.ast.specs.Expr.{StringLiteral, VectorSelector, MatrixSelector, Call, valueType}
 
 pub data Operand : Type 0 where
   numberOperand : Float → Operand

@@ -92,7 +92,8 @@ canonical-room page {e} {n} bytes h =
     )
 
 -- a buffer of 65,536 bytes is never too short for it
-pub canonicalText-fits : (page buffer : List ℕ) → T (all isByte page) → 65536 ≤ length buffer → (i : ℕ) → canonicalText page buffer .outcome ≡ refusal tooShort i → ⊥
+pub canonicalText-fits : (page buffer : List ℕ) → T (all isByte page) → 65536 ≤ length buffer → (i : ℕ)
+    → canonicalText page buffer .outcome ≡ refusal tooShort i → ⊥
 canonicalText-fits page buffer bytes room i = by (checkPage page) refl (checkPage-in page)
   where
     never : (k : ℕ) → T (isOfCheck k) → k ≡ tooShort → ⊥
@@ -106,4 +107,5 @@ canonicalText-fits page buffer bytes room i = by (checkPage page) refl (checkPag
 
     by : (c : Checked Expr) → checkPage page ≡ c → CheckedIn (length (readPage page .records)) c → writing display c buffer .outcome ≡ refusal tooShort i → ⊥
     by (refusedAt k j) h g q = never k (g .0) (number k j q)
-    by (accepted e n) h g q = answered (valueType e) (length (display e)) (rw (le-leb (length (display e)) (length buffer) (omega (arith, canonical-room page bytes h))) at q)
+    by (accepted e n) h g q = answered (valueType e) (length (display e))
+        (rw (le-leb (length (display e)) (length buffer) (omega (arith, canonical-room page bytes h))) at q)

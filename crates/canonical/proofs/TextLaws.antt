@@ -16,7 +16,8 @@ use Rattle.text.proofs.NodeLaws.{display-pieces}
 use Rattle.text.proofs.LengthLaws.{len-node}
 use Rattle.text.proofs.WriteLaws.{run-three}
 
-pub run-node : {page : List ℕ} {i : ℕ} {own : Layout} {end count : ℕ} → LaidOut page i own end count → (o : List ℕ) (at : ℕ) → at + length (display (treeAt page i)) ≤ length o
+pub run-node : {page : List ℕ} {i : ℕ} {own : Layout} {end count : ℕ} → LaidOut page i own end count
+    → (o : List ℕ) (at : ℕ) → at + length (display (treeAt page i)) ≤ length o
     → Run o o at (display (treeAt page i)) (front own ∷ joined (between own) display display (operandsOf count (stackAt page end)) ∷ rear own ∷ []) at
 run-node s o at h = run-three _ _ _ o at (display-pieces s) h
 

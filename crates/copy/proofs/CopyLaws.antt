@@ -15,7 +15,9 @@ use Rattle.records.specs.Kind.{Kind}
 use Rattle.records.specs.Code.{isSetOperator}
 use Rattle.records.specs.Literal.{Literal, negate}
 use Rattle.records.specs.Modifier.{Cardinality, oneToOne, manyToMany, manyToOne, oneToMany, BinModifier}
-use Rattle.records.specs.Record.{number, string, selector, range, subquery, at, offset, unary, paren, Record, leaf, wrapper, binary, aggregate, call, writeRecord, Ending, end, unreadable, Records, readPage}
+use Rattle.records.specs.Record.{number, string, selector, range, subquery, at, offset, unary, paren, Record, leaf}
+use Rattle.records.specs.Record.{wrapper, binary, aggregate, call, writeRecord, Ending, end, unreadable, Records}
+use Rattle.records.specs.Record.{readPage}
 use Rattle.records.proofs.PageLaws.{whole, writeRecords-injective, readPage-back, readPage-allowed}
 use Rattle.records.specs.Allowed.{IsAllowed}
 use Rattle.records.specs.Outcome.{answer, refusal}
@@ -57,7 +59,8 @@ checkedModifier-rows c m l r = by (isSetOperator c)
 checkAst-once : (c : ℕ) (m : Option BinModifier) (l r : Expr) → checkAst (Binary c (checkedModifier c m) l r) ≡ checkAst (Binary c m l r)
 unfolding checkAst
 checkAst-once c m l r =
-    ap₂ (λ (rows : List Row) (x : Option BinModifier). unless (firstFault rows) (Binary c x l r)) (checkedModifier-rows c m (valueType l) (valueType r)) (checkedModifier-once c m)
+    ap₂ (λ (rows : List Row) (x : Option BinModifier). unless (firstFault rows) (Binary c x l r))
+    (checkedModifier-rows c m (valueType l) (valueType r)) (checkedModifier-once c m)
 
 pub apply-once : (c : ℕ) (m : Option BinModifier) (s : List Expr) → apply (binary c (checkedModifier c m)) s ≡ apply (binary c m) s
 unfolding apply
@@ -144,17 +147,21 @@ module _ (page : List ℕ) (short : length (copyPage page) ≤ pageLimit) where
       readPage-back (copyRecords (readPage page .records)) (copyRecords-allowed (readPage page .records) (readPage-allowed page))
       (few (copyRecords-length (readPage page .records)) (page-limit page)) short
     where
-      few : length (copyRecords (readPage page .records)) ≤ length (readPage page .records) → length (readPage page .records) ≤ recordLimit → length (copyRecords (readPage page .records)) ≤ recordLimit
+      few : length (copyRecords (readPage page .records)) ≤ length (readPage page .records)
+          → length (readPage page .records) ≤ recordLimit
+          → length (copyRecords (readPage page .records)) ≤ recordLimit
       few h k = omega arith
 
   -- it is its own copy
   pub copyPage-once : copyPage (copyPage page) ≡ copyPage page
   unfolding copyPage
   copyPage-once =
-      ap (λ (x : Records). writeAll writeRecord (copyRecords (x .records))) copyPage-read ∙ ap (writeAll writeRecord) (copyRecords-once (readPage page .records))
+      ap (λ (x : Records). writeAll writeRecord (copyRecords (x .records))) copyPage-read
+      ∙ ap (writeAll writeRecord) (copyRecords-once (readPage page .records))
 
   -- it is accepted with the checked tree
-  pub copyPage-checkPage : (e : Expr) (n : ℕ) → checkPage page ≡ accepted e n → checkPage (copyPage page) ≡ accepted e (length (copyRecords (readPage page .records)))
+  pub copyPage-checkPage : (e : Expr) (n : ℕ) → checkPage page ≡ accepted e n
+      → checkPage (copyPage page) ≡ accepted e (length (copyRecords (readPage page .records)))
   unfolding checkPage
   copyPage-checkPage e n h =
       ap (walkPage apply) copyPage-read

@@ -51,7 +51,9 @@ setOperatorModifier-once (some m) =
 pub checkedModifier-once : (c : ℕ) (m : Option BinModifier) → checkedModifier c (checkedModifier c m) ≡ checkedModifier c m
 checkedModifier-once c m = by (isSetOperator c)
   where
-    by : (b : Bool) → pick b (some (setOperatorModifier (pick b (some (setOperatorModifier m)) m))) (pick b (some (setOperatorModifier m)) m) ≡ pick b (some (setOperatorModifier m)) m
+    by : (b : Bool)
+        → pick b (some (setOperatorModifier (pick b (some (setOperatorModifier m)) m)))
+        (pick b (some (setOperatorModifier m)) m) ≡ pick b (some (setOperatorModifier m)) m
     by true = ap some (setOperatorModifier-once m)
     by false = refl
 
@@ -133,7 +135,8 @@ pub copyRecords-length : (rs : List Record) → length (copyRecords rs) ≤ leng
 copyRecords-length [] = omega arith
 copyRecords-length (r ∷ rs) = further (copyRecord-length r (copyRecords rs)) (copyRecords-length rs)
   where
-    further : length (copyRecord r (copyRecords rs)) ≤ suc (length (copyRecords rs)) → length (copyRecords rs) ≤ length rs → length (copyRecord r (copyRecords rs)) ≤ suc (length rs)
+    further : length (copyRecord r (copyRecords rs)) ≤ suc (length (copyRecords rs))
+        → length (copyRecords rs) ≤ length rs → length (copyRecord r (copyRecords rs)) ≤ suc (length rs)
     further h k = omega arith
 
 copyRecord-once : (r : Record) (rs : List Record) → copyRecords rs ≡ rs → copyRecords (copyRecord r rs) ≡ copyRecord r rs

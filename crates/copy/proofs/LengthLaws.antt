@@ -15,7 +15,8 @@ use Rattle.page.proofs.NumberLaws.{isByte}
 use Rattle.records.specs.Code.{isCode, isSetOperator}
 use Rattle.records.specs.Literal.{Literal, whole, infinite, plus, minus, nan, negate, writeLiteral}
 use Rattle.records.specs.Modifier.{BinModifier}
-use Rattle.records.specs.Record.{number, string, selector, range, subquery, at, offset, unary, paren, Record, leaf, wrapper, binary, aggregate, call, writeRecord, readPage}
+use Rattle.records.specs.Record.{number, string, selector, range, subquery, at, offset, unary, paren, Record, leaf}
+use Rattle.records.specs.Record.{wrapper, binary, aggregate, call, writeRecord, readPage}
 use Rattle.records.specs.Stack.{operandsOf}
 use Rattle.records.specs.Allowed.{IsAllowed}
 use Rattle.records.proofs.PageLaws.{readPage-written, readPage-allowed}
@@ -114,7 +115,8 @@ copyNumber-bytes l (aggregate c m n ∷ rs) = omega (arith, bytesOf-more (leaf (
 copyNumber-bytes l (call f n ∷ rs) = omega (arith, bytesOf-more (leaf (number l)) (call f n ∷ rs), number-length l)
 
 -- a binary record
-modifier-bytes : (c : ℕ) → T (isCode c) → (m : Option BinModifier) → length (writeRecord (binary c (some (setOperatorModifier m)))) ≤ length (writeRecord (binary c m)) + 5
+modifier-bytes : (c : ℕ) → T (isCode c) → (m : Option BinModifier)
+    → length (writeRecord (binary c (some (setOperatorModifier m)))) ≤ length (writeRecord (binary c m)) + 5
 modifier-bytes c h none =
     omega (arith, ap length (binary-written c h none), ap length (binary-written c h (some (setOperatorModifier none))))
 modifier-bytes c h (some m) =
@@ -133,13 +135,38 @@ binary-bytes c h m = by (isSetOperator c)
 
 copyRecords-bytes : (rs : List Record) → Each IsAllowed rs → bytesOf (copyRecords rs) ≤ bytesOf rs + 5 * binaries rs
 copyRecords-bytes [] h = omega arith
-copyRecords-bytes (leaf (number l) ∷ rs) (g, h) = omega (arith, copyNumber-bytes l (copyRecords rs), copyRecords-bytes rs h, bytesOf-more (leaf (number l)) rs, number-length l)
-copyRecords-bytes (leaf (string t) ∷ rs) (g, h) = omega (arith, copyRecords-bytes rs h, bytesOf-more (leaf (string t)) rs, bytesOf-more (leaf (string t)) (copyRecords rs))
-copyRecords-bytes (leaf (selector s) ∷ rs) (g, h) = omega (arith, copyRecords-bytes rs h, bytesOf-more (leaf (selector s)) rs, bytesOf-more (leaf (selector s)) (copyRecords rs))
+copyRecords-bytes (leaf (number l) ∷ rs) (g, h) =
+    omega (
+      arith,
+      copyNumber-bytes l (copyRecords rs),
+      copyRecords-bytes rs h,
+      bytesOf-more (leaf (number l)) rs,
+      number-length l,
+    )
+copyRecords-bytes (leaf (string t) ∷ rs) (g, h) =
+    omega (
+      arith,
+      copyRecords-bytes rs h,
+      bytesOf-more (leaf (string t)) rs,
+      bytesOf-more (leaf (string t)) (copyRecords rs),
+    )
+copyRecords-bytes (leaf (selector s) ∷ rs) (g, h) =
+    omega (
+      arith,
+      copyRecords-bytes rs h,
+      bytesOf-more (leaf (selector s)) rs,
+      bytesOf-more (leaf (selector s)) (copyRecords rs),
+    )
 copyRecords-bytes (wrapper w ∷ rs) (g, h) = omega (arith, copyRecords-bytes rs h, bytesOf-more (wrapper w) rs, bytesOf-more (wrapper w) (copyRecords rs))
 copyRecords-bytes (binary c m ∷ rs) (g, h) =
     omega (arith, copyRecords-bytes rs h, bytesOf-more (binary c m) rs, bytesOf-more (binary c (checkedModifier c m)) (copyRecords rs), binary-bytes c (g .0) m)
-copyRecords-bytes (aggregate c m n ∷ rs) (g, h) = omega (arith, copyRecords-bytes rs h, bytesOf-more (aggregate c m n) rs, bytesOf-more (aggregate c m n) (copyRecords rs))
+copyRecords-bytes (aggregate c m n ∷ rs) (g, h) =
+    omega (
+      arith,
+      copyRecords-bytes rs h,
+      bytesOf-more (aggregate c m n) rs,
+      bytesOf-more (aggregate c m n) (copyRecords rs),
+    )
 copyRecords-bytes (call f n ∷ rs) (g, h) = omega (arith, copyRecords-bytes rs h, bytesOf-more (call f n) rs, bytesOf-more (call f n) (copyRecords rs))
 
 -- ## The copy of an accepted page

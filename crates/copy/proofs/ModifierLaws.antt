@@ -67,7 +67,9 @@ modifier-written c h m =
     binary-written c h (some m)
     ∙ simp (cardinality-written, append-assoc)
 
-pub modifier-set : (c : ℕ) → T (isCode c) → (m : BinModifier) → writeRecord (binary c (some (setOperatorModifier (some m)))) ≡ before c m ++ (setCardinality (formOf (m .card)) ∷ after m)
+pub modifier-set : (c : ℕ) → T (isCode c) → (m : BinModifier)
+    → writeRecord (binary c (some (setOperatorModifier (some m))))
+    ≡ before c m ++ (setCardinality (formOf (m .card)) ∷ after m)
 modifier-set c h m =
     binary-written c h (some (setOperatorModifier (some m)))
     ∙ simp (cardinality-set, append-assoc)

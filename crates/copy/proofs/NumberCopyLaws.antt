@@ -13,7 +13,8 @@ use Rattle.page.specs.Bytes.{pick}
 use Rattle.page.specs.Number.{writeNumber}
 use Rattle.page.proofs.ReaderLaws.{append-nil}
 use Rattle.records.specs.Literal.{Literal, whole, infinite, plus, minus, nan, negate, writeLiteral}
-use Rattle.records.specs.Record.{number, string, selector, range, subquery, at, offset, unary, paren, Record, leaf, wrapper, binary, aggregate, call, writeRecord, recordKind}
+use Rattle.records.specs.Record.{number, string, selector, range, subquery, at, offset, unary, paren, Record, leaf}
+use Rattle.records.specs.Record.{wrapper, binary, aggregate, call, writeRecord, recordKind}
 use Rattle.copy.specs.RecordCopy.{unaries, negated, copied, recordCopy, absorbedOf, absorbed, negatedForm, formAfter}
 use Rattle.copy.specs.Span.{Spans}
 use Rattle.copy.proofs.SpanLaws.{part-is, part-ends, part-length, span-written, span-kind, span-copy, span-absorbed, same-length, other-copy}
@@ -100,7 +101,10 @@ module _ {page : List ℕ} {start next : ℕ} (span : Spans page start next) whe
       omega (arith, part-ends page (0 ∷ formOf l ∷ magnitudeOf l) start next (span .inside) (omega arith) (number-written l (number-at h .1)))
 
   pub number-copy : getD page start 0 ≡ 0
-      → recordCopy (drop start page) ≡ join ((0 ∷ []) ∷ (formAfter (getD page (start + 1) 0) (drop next page) ∷ []) ∷ take (next - (start + 2)) (drop (start + 2) page) ∷ [])
+      → recordCopy (drop start page)
+      ≡ join
+      ((0 ∷ []) ∷ (formAfter (getD page (start + 1) 0) (drop next page) ∷ [])
+      ∷ take (next - (start + 2)) (drop (start + 2) page) ∷ [])
   unfolding writeRecord join
   number-copy h =
       let l = number-at h .0 in
@@ -116,7 +120,8 @@ module _ {page : List ℕ} {start next : ℕ} (span : Spans page start next) whe
   unfolding join
   number-length h =
       ap length (number-copy h)
-      ∙ ap (λ (s : List ℕ). length (0 ∷ formAfter (getD page (start + 1) 0) (drop next page) ∷ s)) (append-nil (take (next - (start + 2)) (drop (start + 2) page)))
+      ∙ ap (λ (s : List ℕ). length (0 ∷ formAfter (getD page (start + 1) 0) (drop next page) ∷ s))
+      (append-nil (take (next - (start + 2)) (drop (start + 2) page)))
       ∙ omega (arith, number-wide h, part-length page (start + 2) next (span .inside))
 
   -- all but binaries keep their length

@@ -18,7 +18,8 @@ use Rattle.page.proofs.ReadBackLaws.{Got}
 use Rattle.records.specs.Code.{isCode, isSetOperator}
 use Rattle.records.specs.Field.{writeFlag, writeOption}
 use Rattle.records.specs.Modifier.{LabelModifier, BinModifier, readLabelModifier, writeLabelModifier, writeBinModifier}
-use Rattle.records.specs.Record.{number, string, selector, range, subquery, at, offset, unary, paren, Record, leaf, wrapper, binary, aggregate, call, writeRecord, recordKind}
+use Rattle.records.specs.Record.{number, string, selector, range, subquery, at, offset, unary, paren, Record, leaf}
+use Rattle.records.specs.Record.{wrapper, binary, aggregate, call, writeRecord, recordKind}
 use Rattle.records.specs.Allowed.{IsOptionOf, IsBinModifier, IsAllowed}
 use Rattle.records.proofs.AllowedLaws.{readRecord-gives}
 use Rattle.records.proofs.ReadBackLaws.{readLabelModifier-back}
@@ -93,7 +94,8 @@ module _ (page : List ℕ) (start next : ℕ) (span : Spans page start next) whe
         ∙ readLabelModifier-back (m .matching) (allowed c (some m) is .1 .0) .reads ((formOf (m .card) ∷ after m) ++ drop next page)
       where
         four : (f : ℕ) × (writeFlag (m .returnBool) ≡ f ∷ [])
-            → drop 4 (before c m ++ ((formOf (m .card) ∷ after m) ++ drop next page)) ≡ writeLabelModifier (m .matching) ++ ((formOf (m .card) ∷ after m) ++ drop next page)
+            → drop 4 (before c m ++ ((formOf (m .card) ∷ after m) ++ drop next page))
+            ≡ writeLabelModifier (m .matching) ++ ((formOf (m .card) ∷ after m) ++ drop next page)
         four (f, e) = rw e
 
     module _ (cut : ℕ) (tail : drop cut page ≡ (formOf (m .card) ∷ after m) ++ drop next page) where
@@ -104,7 +106,8 @@ module _ (page : List ℕ) (start next : ℕ) (span : Spans page start next) whe
       cut-front = part-is page (before c m) start cut (omega (arith, cut-inside)) (some-written ∙ ap (λ (s : List ℕ). before c m ++ s) (sym tail))
 
       cut-start : start + length (before c m) ≡ cut
-      cut-start = part-ends page (before c m) start cut (omega (arith, cut-inside)) (omega arith) (some-written ∙ ap (λ (s : List ℕ). before c m ++ s) (sym tail))
+      cut-start = part-ends page (before c m) start cut (omega (arith, cut-inside)) (omega arith)
+          (some-written ∙ ap (λ (s : List ℕ). before c m ++ s) (sym tail))
 
       cut-form : getD page cut 0 ≡ formOf (m .card)
       cut-form = ap (λ (k : ℕ). getD page k 0) (sym (add-zero cut)) ∙ sym (getD-drop cut page 0 0) ∙ ap (λ (s : List ℕ). getD s 0 0) tail
@@ -116,7 +119,10 @@ module _ (page : List ℕ) (start next : ℕ) (span : Spans page start next) whe
       cut-end = omega (arith, part-ends page (formOf (m .card) ∷ after m) cut next (span .inside) (omega arith) tail)
 
       cut-copy : isSetOperator (getD page (start + 1) 0) ≡ true
-          → recordCopy (drop start page) ≡ join (take (cut - start) (drop start page) ∷ (setCardinality (getD page cut 0) ∷ []) ∷ take (next - (cut + 1)) (drop (cut + 1) page) ∷ [])
+          → recordCopy (drop start page)
+          ≡ join
+          (take (cut - start) (drop start page) ∷ (setCardinality (getD page cut 0) ∷ [])
+          ∷ take (next - (cut + 1)) (drop (cut + 1) page) ∷ [])
       unfolding join
       cut-copy h =
           copy-set c (some m) is h ∙ modifier-set c (allowed c (some m) is .0) m
@@ -187,10 +193,13 @@ module _ {page : List ℕ} {start next : ℕ} (operator : SetOperator page start
     pub present-wide : start + 4 ≤ next
     present-wide = omega (arith, some-end page start next (operator .span) code-at (modifier-at .0) (modifier-at .1))
 
-    matching-at : readLabelModifier (drop (start + 4) page) ≡ got (modifier-at .0 .matching) ((formOf (modifier-at .0 .card) ∷ after (modifier-at .0)) ++ drop next page)
+    matching-at : readLabelModifier (drop (start + 4) page)
+        ≡ got (modifier-at .0 .matching)
+        ((formOf (modifier-at .0 .card) ∷ after (modifier-at .0)) ++ drop next page)
     matching-at = some-matching page start next (operator .span) code-at (modifier-at .0) (modifier-at .1)
 
-    pub present-cardinality : (cut : ℕ) {l : Option LabelModifier} → got l (drop cut page) ≡ readLabelModifier (drop (start + 4) page) → CardinalityAt page start next cut
+    pub present-cardinality : (cut : ℕ) {l : Option LabelModifier}
+        → got l (drop cut page) ≡ readLabelModifier (drop (start + 4) page) → CardinalityAt page start next cut
     present-cardinality cut e =
         let (m, is) = modifier-at in
         let read = e ∙ matching-at in

@@ -12,7 +12,9 @@ use Rattle.page.specs.Bytes.{pick, all}
 use Rattle.page.specs.Read.{Read, refused, got}
 use Rattle.page.proofs.NumberLaws.{Written, isByte, right-of}
 use Rattle.records.specs.Literal.{Literal, negate}
-use Rattle.records.specs.Record.{number, string, selector, range, subquery, at, offset, unary, paren, Record, leaf, wrapper, binary, aggregate, call, readRecord, writeRecord, end, Records, followed, readRecords}
+use Rattle.records.specs.Record.{number, string, selector, range, subquery, at, offset, unary, paren, Record, leaf}
+use Rattle.records.specs.Record.{wrapper, binary, aggregate, call, readRecord, writeRecord, end, Records, followed}
+use Rattle.records.specs.Record.{readRecords}
 use Rattle.records.proofs.RecordLaws.{record-law}
 use Rattle.copy.specs.Copy.{copyNumber, copyRecord, copyRecords}
 use Rattle.copy.specs.RecordCopy.{unaries, negated, copied, absorbed}
@@ -26,7 +28,8 @@ ReadsTo s (r ∷ rs) = (t : List ℕ) × (got r t ≡ readRecord s) × ReadsTo t
 abbrev ReadsAll : List ℕ → Records → Type 0
 ReadsAll s rs = rs .ending ≡ end → ReadsTo s (rs .records)
 
-followed-reads : (s : List ℕ) (m : Read Record) → m ≡ readRecord s → (more : List ℕ → Records) → ((t : List ℕ) → ReadsAll t (more t)) → ReadsAll s (followed m more)
+followed-reads : (s : List ℕ) (m : Read Record) → m ≡ readRecord s → (more : List ℕ → Records)
+    → ((t : List ℕ) → ReadsAll t (more t)) → ReadsAll s (followed m more)
 followed-reads s (refused f) e more g q = absurd (let z : _≡_ {A = ℕ} 0 1 = cc in omega arith)
 followed-reads s (got r t) e more g q = (t, e, g t q)
 
@@ -97,8 +100,12 @@ copyNumber-unaries (b ∷ bs) l [] h g = absurd (let z : _≡_ {A = ℕ} 0 1 = c
 copyNumber-unaries (b ∷ bs) l (r ∷ rs) h g = by (eqb b 7) refl (copyNumber-unaries bs)
   where
     by : (c : Bool) → eqb b 7 ≡ c
-        → ((m : Literal) (ms : List Record) → T (all isByte bs) → ReadsTo bs ms → copyNumber m (copyRecords ms) ≡ leaf (number (negated (unaries bs) m)) ∷ copyRecords (drop (unaries bs) ms))
-        → copyNumber l (copyRecord r (copyRecords rs)) ≡ leaf (number (negated (pick c (suc (unaries bs)) 0) l)) ∷ copyRecords (drop (pick c (suc (unaries bs)) 0) (r ∷ rs))
+        → ((m : Literal) (ms : List Record) → T (all isByte bs) → ReadsTo bs ms
+        → copyNumber m (copyRecords ms)
+        ≡ leaf (number (negated (unaries bs) m)) ∷ copyRecords (drop (unaries bs) ms))
+        → copyNumber l (copyRecord r (copyRecords rs))
+        ≡ leaf (number (negated (pick c (suc (unaries bs)) 0) l))
+        ∷ copyRecords (drop (pick c (suc (unaries bs)) 0) (r ∷ rs))
     by true q next = unary-taken l b bs r rs (eqb-true b 7 q) g (λ m more. next m rs (right-of (isByte b) (all isByte bs) h) more)
     by false q next = unary-left l b bs r rs h q g
 

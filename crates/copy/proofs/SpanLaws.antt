@@ -11,7 +11,8 @@ use lib.Seq.{getD-drop, take-at, length-take-le}
 use lib.Dec.{eqb}
 use Rattle.page.specs.Bytes.{pick}
 use Rattle.page.proofs.NumberLaws.{Written}
-use Rattle.records.specs.Record.{number, string, selector, range, subquery, at, offset, unary, paren, Record, leaf, wrapper, binary, aggregate, call, writeRecord, recordKind}
+use Rattle.records.specs.Record.{number, string, selector, range, subquery, at, offset, unary, paren, Record, leaf}
+use Rattle.records.specs.Record.{wrapper, binary, aggregate, call, writeRecord, recordKind}
 use Rattle.records.proofs.RecordLaws.{record-law}
 use Rattle.copy.specs.RecordCopy.{unaries, copied, copyOfRead, recordCopy, absorbedRead, absorbedOf, absorbed}
 use Rattle.copy.specs.Span.{Spans}

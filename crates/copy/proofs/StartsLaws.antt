@@ -101,11 +101,15 @@ module _ {page starts : List ℕ} {n : ℕ} (held : Starts page starts n) where
   unfolding copyFrom
   copyFrom-cut i l =
       let s = drop (getD starts i 0) page in
-      let reads : ReadsTo s (drop i (readPage page .records)) = subst (λ (x : List ℕ). ReadsTo x (drop i (readPage page .records))) (sym (held .stands i l)) (reads-at i (omega arith)) in
+      let reads : ReadsTo s (drop i (readPage page .records)) = subst
+      (λ (x : List ℕ). ReadsTo x (drop i (readPage page .records))) (sym (held .stands i l))
+      (reads-at i (omega arith)) in
       record {
         is =
             copy-front s (drop i (readPage page .records)) (drop-bytes (getD starts i 0) page (held .bytes)) (more-at i l) reads
-            ∙ ap (λ (x : List Record). recordCopy s ++ writeAll writeRecord (copyRecords x)) (drop-drop (suc (absorbedOf s)) i (readPage page .records) ∙ ap (λ (k : ℕ). drop k (readPage page .records)) (further (absorbedOf s)));
+            ∙ ap (λ (x : List Record). recordCopy s ++ writeAll writeRecord (copyRecords x))
+            (drop-drop (suc (absorbedOf s)) i (readPage page .records)
+            ∙ ap (λ (k : ℕ). drop k (readPage page .records)) (further (absorbedOf s)));
       }
     where
       further : (k : ℕ) → i + suc k ≡ i + 1 + k
@@ -118,7 +122,8 @@ module _ {page starts : List ℕ} {n : ℕ} (held : Starts page starts n) where
 
   pub copyFrom-end : (i : ℕ) → n ≤ i → copyFrom page i ≡ []
   unfolding copyFrom
-  copyFrom-end i h = ap (λ (x : List Record). writeAll writeRecord (copyRecords x)) (drop-of-length-le (readPage page .records) {i = i} (omega (arith, held .count)))
+  copyFrom-end i h = ap (λ (x : List Record). writeAll writeRecord (copyRecords x))
+      (drop-of-length-le (readPage page .records) {i = i} (omega (arith, held .count)))
 
   -- ## Starts
 
@@ -145,7 +150,8 @@ module _ {page starts : List ℕ} {n : ℕ} (held : Starts page starts n) where
   starts-inside i h = by-lt (getD starts i 0) (length page) (λ l. l) (λ l. beyond (drop i (readPage page .records)) (more-at i h) (at-end l))
     where
       at-end : length page ≤ getD starts i 0 → ReadsTo [] (drop i (readPage page .records))
-      at-end l = subst (λ (x : List ℕ). ReadsTo x (drop i (readPage page .records))) (sym (held .stands i h) ∙ drop-of-length-le page {i = getD starts i 0} l) (reads-at i (omega arith))
+      at-end l = subst (λ (x : List ℕ). ReadsTo x (drop i (readPage page .records)))
+          (sym (held .stands i h) ∙ drop-of-length-le page {i = getD starts i 0} l) (reads-at i (omega arith))
 
       beyond : (rs : List Record) → 0 < length rs → ReadsTo [] rs → getD starts i 0 < length page
       beyond [] k g = absurd (let z : ⊥ = omega arith in z)
@@ -159,7 +165,11 @@ module _ {page starts : List ℕ} {n : ℕ} (held : Starts page starts n) where
 
   -- the last one ends where the page ends
   pub starts-last : (i : ℕ) → i < n → n ≤ i + 1 → Spans page (getD starts i 0) (length page)
-  starts-last i h l = starts-spans i (length page) h (omega arith) (drop-length page ∙ sym (none (drop (suc i) (readPage page .records)) (drop-of-length-le (readPage page .records) {i = suc i} (omega (arith, held .count))) (reads-at (suc i) (omega arith))))
+  starts-last i h l = starts-spans i (length page) h (omega arith)
+      (drop-length page
+      ∙ sym (none (drop (suc i) (readPage page .records))
+      (drop-of-length-le (readPage page .records) {i = suc i} (omega (arith, held .count)))
+      (reads-at (suc i) (omega arith))))
     where
       none : (rs : List Record) → rs ≡ [] → ReadsTo (fromRecord (suc i) page) rs → fromRecord (suc i) page ≡ []
       none [] e g = g
@@ -167,12 +177,16 @@ module _ {page starts : List ℕ} {n : ℕ} (held : Starts page starts n) where
 
   -- ## Whether the copy fits: what is left of the room, for the records that are left
 
-  pub fits-not : (i left size : ℕ) → i < n → size ≡ length (recordCopy (drop (getD starts i 0) page)) → left < size → leb (length (copyFrom page i)) left ≡ false
+  pub fits-not : (i left size : ℕ) → i < n → size ≡ length (recordCopy (drop (getD starts i 0) page)) → left < size
+      → leb (length (copyFrom page i)) left ≡ false
   fits-not i left size h e l = lt-leb (length (copyFrom page i)) left (omega (arith, cut-length (copyFrom-cut i h)))
 
-  pub fits-more : (i left size taken : ℕ) → i < n → size ≡ length (recordCopy (drop (getD starts i 0) page)) → taken ≡ absorbedOf (drop (getD starts i 0) page) → size ≤ left
+  pub fits-more : (i left size taken : ℕ) → i < n → size ≡ length (recordCopy (drop (getD starts i 0) page))
+      → taken ≡ absorbedOf (drop (getD starts i 0) page) → size ≤ left
       → leb (length (copyFrom page i)) left ≡ leb (length (copyFrom page (i + 1 + taken))) (left - size)
-  fits-more i left size taken h e q l = fits-rest _ size _ left (cut-length (copyFrom-next i taken h q) ∙ ap (λ (k : ℕ). k + length (copyFrom page (i + 1 + taken))) (sym e)) l
+  fits-more i left size taken h e q l = fits-rest _ size _ left
+      (cut-length (copyFrom-next i taken h q) ∙ ap (λ (k : ℕ). k + length (copyFrom page (i + 1 + taken))) (sym e))
+      l
 
   pub fits-end : (i left : ℕ) → n ≤ i → leb (length (copyFrom page i)) left ≡ true
   fits-end i left h = le-leb (length (copyFrom page i)) left (omega (arith, ap length (copyFrom-end i h)))
@@ -180,7 +194,8 @@ module _ {page starts : List ℕ} {n : ℕ} (held : Starts page starts n) where
 -- ## Accepted pages
 
 -- the walk's table of an accepted page
-pub accepted-starts : {page starts firsts : List ℕ} {n : ℕ} {e : Expr} → T (all isByte page) → Tables page starts firsts n → checkPage page ≡ accepted e n → Starts page starts n
+pub accepted-starts : {page starts firsts : List ℕ} {n : ℕ} {e : Expr} → T (all isByte page)
+    → Tables page starts firsts n → checkPage page ≡ accepted e n → Starts page starts n
 unfolding checkPage
 accepted-starts {page} {n = n} {e = e} bytes tables h =
     record {

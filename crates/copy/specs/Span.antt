@@ -45,4 +45,7 @@ IsPresent page start = getD page (start + 2) 0 ≡ 0 → ⊥
 pub record CardinalityAt (page : List ℕ) (start next cut : ℕ) : Type 0 where
   pub behind : start ≤ cut
   pub inside : cut + 1 ≤ next
-  pub copy : recordCopy (drop start page) ≡ join (take (cut - start) (drop start page) ∷ (setCardinality (getD page cut 0) ∷ []) ∷ take (next - (cut + 1)) (drop (cut + 1) page) ∷ [])
+  pub copy : recordCopy (drop start page)
+      ≡ join
+      (take (cut - start) (drop start page) ∷ (setCardinality (getD page cut 0) ∷ [])
+      ∷ take (next - (cut + 1)) (drop (cut + 1) page) ∷ [])

@@ -28,7 +28,8 @@ module _ {page starts : List ℕ} {j : ℕ} (s : Starts page starts (suc j)) whe
   part-offset k e t = setsOffset (one-field s k readOffset (λ o. wrapper (offset o)) (λ t. refl) e) t
 
 -- a record attached that is no range and no @ is an offset
-pub last-part : {page starts : List ℕ} {j kind : ℕ} → AttachedAt page starts j → KindAt page starts j kind → (kind ≡ 3 → ⊥) → (kind ≡ 5 → ⊥) → KindAt page starts j 6
+pub last-part : {page starts : List ℕ} {j kind : ℕ} → AttachedAt page starts j → KindAt page starts j kind
+    → (kind ≡ 3 → ⊥) → (kind ≡ 5 → ⊥) → KindAt page starts j 6
 last-part {page} {starts} {j} {kind} p k a b =
     let part : isAttached kind ≡ true = ap isAttached (sym (k .same) ∙ kind-same (p .stands) (k .reads)) ∙ p .part in
     subst (KindAt page starts j) (eqb-true kind 6 (rw (ne-eqb kind 3 a, ne-eqb kind 5 b) at part)) k

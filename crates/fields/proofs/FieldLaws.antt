@@ -66,7 +66,8 @@ module _ {page starts : List ℕ} {node : Node} (n : NodeAt page starts node) wh
       differ h = let z : _≡_ {A = ℕ} 0 1 = cc in omega arith
 
   module _ (f : node .foot ≡ foot.String) where
-    pub string-reads : {t : Text} {rest : List ℕ} → got t rest ≡ readAnyText (fieldsAt page starts (node .base)) → Reads page starts (node .base) (leaf (string t))
+    pub string-reads : {t : Text} {rest : List ℕ} → got t rest ≡ readAnyText (fieldsAt page starts (node .base))
+        → Reads page starts (node .base) (leaf (string t))
     string-reads = one-field base-known (foot-is f) readAnyText (λ t. leaf (string t)) (λ s. refl)
 
     pub string-there : {x : FieldFault} → refused x ≡ readAnyText (fieldsAt page starts (node .base)) → ⊥
@@ -81,13 +82,16 @@ module _ {page starts : List ℕ} {node : Node} (n : NodeAt page starts node) wh
         ≡ andThen (andThen m (λ k. repeat k matcher.readMatcher)) (λ ms. return (leaf (selector (record { name = t; matchers = ms }))))
     selector-fields {t} e h =
         first-field base-known (foot-is f) readMetricName selectorMore (λ s. refl) e
-        ∙ ap (λ (m : Read ℕ). andThen (andThen m (λ k. repeat k matcher.readMatcher)) (λ ms. return (leaf (selector (record { name = t; matchers = ms }))))) (sym h)
+        ∙ ap (λ (m : Read ℕ). andThen (andThen m (λ k. repeat k matcher.readMatcher))
+        (λ ms. return (leaf (selector (record { name = t; matchers = ms }))))) (sym h)
 
     pub selector-reads : {t : Text} {r r′ : List ℕ} {count : ℕ} → got t r ≡ readMetricName (fieldsAt page starts (node .base)) → got count r′ ≡ readCount r
         → Reads page starts (node .base) (leaf (selector (record { name = t; matchers = listed matcher.readMatcher count r′ })))
         × AllRead matcher.readMatcher count r′
     selector-reads {t} {r} {r′} {count} e h =
-        readable base-known (repeat count matcher.readMatcher r′) (λ ms. return (leaf (selector (record { name = t; matchers = ms })))) (selector-fields e h) (λ ms rest q is.
+        readable base-known (repeat count matcher.readMatcher r′)
+        (λ ms. return (leaf (selector (record { name = t; matchers = ms })))) (selector-fields e h)
+        (λ ms rest q is.
         let same = read-listed matcher.readMatcher count r′ (sym q) in (
           record { rest = rest; reads = ap (λ (x : List matcher.Matcher). got (leaf (selector (record { name = t; matchers = x }))) rest) same ∙ sym is },
           ap length same ∙ read-length matcher.readMatcher count r′ (sym q),
@@ -106,7 +110,8 @@ module _ {page starts : List ℕ} {node : Node} (n : NodeAt page starts node) wh
     spacing-fields : {d : ℕ} {r : List ℕ} {m : Read (Option ℕ)} → got d r ≡ readNumber (fieldsAt page starts (node .base)) → m ≡ readOption readNumber r
         → readRecord (recordAt page starts (node .base)) ≡ andThen m (λ s. return (wrapper (subquery d s)))
     spacing-fields {d} e h =
-        first-field base-known (foot-is f) readNumber spacingMore (λ s. refl) e ∙ ap (λ (m : Read (Option ℕ)). andThen m (λ s. return (wrapper (subquery d s)))) (sym h)
+        first-field base-known (foot-is f) readNumber spacingMore (λ s. refl) e
+        ∙ ap (λ (m : Read (Option ℕ)). andThen m (λ s. return (wrapper (subquery d s)))) (sym h)
 
     pub spacing-reads : {d : ℕ} {r r′ : List ℕ} {s : Option ℕ} → got d r ≡ readNumber (fieldsAt page starts (node .base)) → got s r′ ≡ readOption readNumber r
         → Reads page starts (node .base) (wrapper (subquery d s))
@@ -125,7 +130,8 @@ module _ {page starts : List ℕ} {node : Node} (n : NodeAt page starts node) wh
     operator-fields : {c : ℕ} {r : List ℕ} {m : Read (Option modifier.BinModifier)} → got c r ≡ readCode (fieldsAt page starts (node .base))
         → m ≡ readOption modifier.readBinModifier r → readRecord (recordAt page starts (node .base)) ≡ andThen m (λ o. return (binary c o))
     operator-fields {c} e h =
-        first-field base-known (foot-is f) readCode operatorMore (λ s. refl) e ∙ ap (λ (m : Read (Option modifier.BinModifier)). andThen m (λ o. return (binary c o))) (sym h)
+        first-field base-known (foot-is f) readCode operatorMore (λ s. refl) e
+        ∙ ap (λ (m : Read (Option modifier.BinModifier)). andThen m (λ o. return (binary c o))) (sym h)
 
     pub operator-reads : {c : ℕ} {r r′ : List ℕ} {m : Option modifier.BinModifier} → got c r ≡ readCode (fieldsAt page starts (node .base))
         → got m r′ ≡ readOption modifier.readBinModifier r → Reads page starts (node .base) (binary c m)
@@ -186,7 +192,8 @@ module _ {page starts : List ℕ} {node : Node} (n : NodeAt page starts node) wh
     abbrev called : Read signature.Function → Read Record
     called m = andThen m (λ g. readCount >>= λ k. return (call g k))
 
-    function-fields : {m : Read Text} → m ≡ readFunctionName (fieldsAt page starts (node .base)) → readRecord (recordAt page starts (node .base)) ≡ called (andThen m named)
+    function-fields : {m : Read Text} → m ≡ readFunctionName (fieldsAt page starts (node .base))
+        → readRecord (recordAt page starts (node .base)) ≡ called (andThen m named)
     function-fields e = fields base-known (foot-is f) ∙ ap (λ (m : Read Text). called (andThen m named)) (sym e)
 
     -- a field of the signature can be read

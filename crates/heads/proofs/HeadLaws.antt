@@ -19,20 +19,28 @@ use Rattle.records.specs.declared.modifier.Modifier.the-variants.{None, Some}
 use Rattle.records.specs.declared.modifier.BinModifier.{BinModifier as CodeModifier}
 use Rattle.float.specs.Exact.{FillsExact, ModifierExact}
 use Rattle.label.specs.Label.{displayMatchers}
-use Rattle.text.specs.Display.{displayBool, displayMatching, displayCardinality, displayFills, displayModifier, displayOperator, displayGrouping, displayAggregator, displayBraces, displaySelector}
+use Rattle.text.specs.Display.{displayBool, displayMatching, displayCardinality, displayFills, displayModifier}
+use Rattle.text.specs.Display.{displayOperator, displayGrouping, displayAggregator, displayBraces, displaySelector}
 use Rattle.tokens.proofs.LabelledLaws.{four, never, none-listed, some-listed}
 
 -- ## displayModifier
 
 pub modifier-pieces : (m : BinModifier)
-    → displayModifier m ≡ join (displayBool (m .returnBool) ∷ displayMatching (m .matching) ∷ displayCardinality (m .card) ∷ displayFills (m .fillValues .lhs) (m .fillValues .rhs) ∷ [])
+    → displayModifier m
+    ≡ join
+    (displayBool (m .returnBool) ∷ displayMatching (m .matching) ∷ displayCardinality (m .card)
+    ∷ displayFills (m .fillValues .lhs) (m .fillValues .rhs) ∷ [])
 unfolding join
 modifier-pieces m =
     four (displayBool (m .returnBool)) (displayMatching (m .matching)) (displayCardinality (m .card)) (displayFills (m .fillValues .lhs) (m .fillValues .rhs))
-    ∙ ap (λ (l : List ℕ). displayBool (m .returnBool) ++ (displayMatching (m .matching) ++ (displayCardinality (m .card) ++ l))) (sym (append-nil (displayFills (m .fillValues .lhs) (m .fillValues .rhs))))
+    ∙ ap (λ (l : List ℕ). displayBool (m .returnBool)
+    ++ (displayMatching (m .matching) ++ (displayCardinality (m .card) ++ l)))
+    (sym (append-nil (displayFills (m .fillValues .lhs) (m .fillValues .rhs))))
 
 length-modifier : (m : BinModifier)
-    → length (displayModifier m) ≡ length (displayBool (m .returnBool)) + length (displayMatching (m .matching)) + length (displayCardinality (m .card)) + length (displayFills (m .fillValues .lhs) (m .fillValues .rhs))
+    → length (displayModifier m)
+    ≡ length (displayBool (m .returnBool)) + length (displayMatching (m .matching))
+    + length (displayCardinality (m .card)) + length (displayFills (m .fillValues .lhs) (m .fillValues .rhs))
 length-modifier m =
     let a = displayBool (m .returnBool) in
     let b = displayMatching (m .matching) in
@@ -57,7 +65,8 @@ module _ (page : List ℕ) (c : ℕ) (m : Modifier) where
   operator-modified own e = record { is = rw e }
 
 -- the fills of a modifier that is there
-pub operator-exact : (page : List ℕ) (m : Modifier) (own : CodeModifier) → m ≡ Some own → ModifierExact (modifierOn page m) → FillsExact (binModifierOn page own)
+pub operator-exact : (page : List ℕ) (m : Modifier) (own : CodeModifier) → m ≡ Some own
+    → ModifierExact (modifierOn page m) → FillsExact (binModifierOn page own)
 operator-exact page m own e h = subst (λ (x : Modifier). ModifierExact (modifierOn page x)) e h
 
 -- ## displayBraces, displaySelector: n matchers from s on

@@ -46,14 +46,16 @@ pub infixed-len : (level : ℕ) (o : List ℕ) (cap x y r : ℕ) → x ≡ min (
 infixed-len level o cap x y r p q e = omega (arith, led (indent level) o cap x y p q, length-append (indent level ++ o) (bytes "\n"))
 
 -- a line feed, the indentation and a bracket
-pub closed-len : (level cap x r : ℕ) → x ≡ min (length (indent level)) cap → r ≡ min (x + 2) cap → r ≡ min (length (bytes "\n" ++ indent level ++ bytes ")")) cap
+pub closed-len : (level cap x r : ℕ) → x ≡ min (length (indent level)) cap → r ≡ min (x + 2) cap
+    → r ≡ min (length (bytes "\n" ++ indent level ++ bytes ")")) cap
 closed-len level cap x r p e = omega (arith, length-append (indent level) (bytes ")"))
 
 four : (a b c d : List ℕ) → a ++ b ++ c ++ d ≡ join (a ∷ b ∷ c ∷ d ∷ [])
 unfolding join
 four a b c d = simp (append-assoc, append-nil)
 
-pub run-infixed : {text : List ℕ} (level : ℕ) (o : List ℕ) (out : List ℕ) (at : ℕ) → text ≡ bytes "\n" ++ indent level ++ o ++ bytes "\n" → at + length text ≤ length out
+pub run-infixed : {text : List ℕ} (level : ℕ) (o : List ℕ) (out : List ℕ) (at : ℕ)
+    → text ≡ bytes "\n" ++ indent level ++ o ++ bytes "\n" → at + length text ≤ length out
     → Run out out at text (bytes "\n" ∷ indent level ∷ o ∷ bytes "\n" ∷ []) at
 run-infixed level o out at e h = start h (e ∙ four (bytes "\n") (indent level) o (bytes "\n"))
 

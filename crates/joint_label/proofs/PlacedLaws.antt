@@ -61,7 +61,8 @@ placedPart size on placed = partIn size (got (firstIn on placed) [])
 
 first-part : (size : ℕ) (on : Labels) (n : ℕ) (s : List ℕ) (m : Read Text) → m ≡ readAnyText s
     → ((t : List ℕ) → placedPart size on (listed readPlaced n t) ≡ partAt size (fromJoint on n t))
-    → placedPart size on (before (andThen m (λ t u. got (placedAs t u) u)) (λ t. listed readPlaced n t)) ≡ partAt size (fromLabel on s m (λ t. fromJoint on n t))
+    → placedPart size on (before (andThen m (λ t u. got (placedAs t u) u)) (λ t. listed readPlaced n t))
+    ≡ partAt size (fromLabel on s m (λ t. fromJoint on n t))
 first-part size on n s (refused f) e more = refl
 first-part size on n s (got a t) e more = by (hasLabel on a)
   where
@@ -91,7 +92,9 @@ passed-placed (suc n) s = first-passed n (readAnyText s) (passed-placed n)
 pub repeat-placed : (n : ℕ) (s : List ℕ) → repeat n readPlaced s ≡ andThen (repeat n readAnyText s) (λ ls t. got (listed readPlaced n s) t)
 repeat-placed n s = repeat-listed readPlaced n s ∙ rw (passed-placed n s, repeat-listed readAnyText n s) (by (passed readAnyText n s))
   where
-    by : (m : Read (Unit {0})) → andThen m (λ v u. got (listed readPlaced n s) u) ≡ andThen (andThen m (λ v u. got (listed readAnyText n s) u)) (λ ls t. got (listed readPlaced n s) t)
+    by : (m : Read (Unit {0}))
+        → andThen m (λ v u. got (listed readPlaced n s) u)
+        ≡ andThen (andThen m (λ v u. got (listed readAnyText n s) u)) (λ ls t. got (listed readPlaced n s) t)
     by (refused f) = refl
     by (got v u) = refl
 
@@ -128,7 +131,8 @@ no-group page on (suc (suc (suc (suc n)))) s h k = refl
 
 -- ## The part of a page refused with 19
 
-pub part-joint : (page : List ℕ) (n i at : ℕ) → n ≡ 19 → drop at page ≡ fromRecord i page → labelPart page (refusal n i) ≡ partIn (length page) (readJoint (drop at page))
+pub part-joint : (page : List ℕ) (n i at : ℕ) → n ≡ 19 → drop at page ≡ fromRecord i page
+    → labelPart page (refusal n i) ≡ partIn (length page) (readJoint (drop at page))
 unfolding labelPart
 part-joint page n i at is e = rw (is, e)
 

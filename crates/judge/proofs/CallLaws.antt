@@ -68,7 +68,8 @@ module _ (f : Function) (args : List Operand) {kinds count : ℕ} (kinds-is : ki
       pub call-undeclared : kinds ≡ 0 → (count ≡ 0 → ⊥) → refused 29 ≡ judgeCall f args
       call-undeclared bare any = sym (tested ∙ go (f .argTypes) args (sym kinds-is ∙ bare) (λ z. any (count-is ∙ z)))
         where
-          go : (ks : List Kind) (xs : List Operand) → length ks ≡ 0 → (length xs ≡ 0 → ⊥) → put (argsRows ks (map operandKind xs)) (otherOperand (f .returnType)) ≡ refused 29
+          go : (ks : List Kind) (xs : List Operand) → length ks ≡ 0 → (length xs ≡ 0 → ⊥)
+              → put (argsRows ks (map operandKind xs)) (otherOperand (f .returnType)) ≡ refused 29
           go [] [] z h = absurd (h refl)
           go [] (x ∷ xs) z h = refl
           go (k ∷ ks) xs z h = absurd (omega arith)
@@ -84,7 +85,8 @@ module _ (f : Function) (args : List Operand) {kinds count : ℕ} (kinds-is : ki
           go (k ∷ ks) false h is = rw (← is)
 
 -- without arguments nothing is asked after the arity
-pub call-empty : (f : Function) (args : List Operand) {kinds count : ℕ} → kinds ≡ length (f .argTypes) → count ≡ length args → none ≡ firstFault (arityRows (f .variadic) kinds count)
+pub call-empty : (f : Function) (args : List Operand) {kinds count : ℕ} → kinds ≡ length (f .argTypes)
+    → count ≡ length args → none ≡ firstFault (arityRows (f .variadic) kinds count)
     → count ≡ 0 → ok (otherOperand (f .returnType)) ≡ judgeCall f args
 call-empty f [] k c fine z = sym (later f [] k c fine ∙ go (f .argTypes))
   where
@@ -96,7 +98,9 @@ call-empty f (x ∷ xs) k c fine z = absurd (omega arith)
 
 -- the first of some arguments lies deepest
 pub exempt-first : {tags : List ℕ} {values : List Float} → Sized tags values → (name : Text) (top count : ℕ) → (count ≡ 0 → ⊥) → top + count ≤ 256
-    → isExemptOperand name (getD (heldOperands tags values) (top + (count - 1)) stringOperand) ≡ isExemptCall name (operandsOf count (drop top (heldOperands tags values)))
+    → isExemptOperand name (getD (heldOperands tags values) (top + (count - 1)) stringOperand)
+    ≡ isExemptCall name (operandsOf count (drop top (heldOperands tags values)))
 exempt-first {tags} {values} sized name top count any h =
     let one : count ≡ (count - 1) + 1 = omega arith in
-    sym (ap (λ (n : ℕ). isExemptCall name (operandsOf n (drop top (heldOperands tags values)))) one ∙ ap (isExemptCall name) (operands-first tags values sized top (count - 1) (omega arith)))
+    sym (ap (λ (n : ℕ). isExemptCall name (operandsOf n (drop top (heldOperands tags values)))) one
+    ∙ ap (isExemptCall name) (operands-first tags values sized top (count - 1) (omega arith)))

@@ -67,7 +67,8 @@ module _ {tags : List ℕ} {values : List Float} (sized : Sized tags values) (to
   arguments : map operandKind (operandsOf left (drop top (heldOperands tags values))) ≡ first ∷ rest
   arguments =
       let one : left ≡ (left - 1) + 1 = omega arith in
-      ap (λ (n : ℕ). map operandKind (operandsOf n (drop top (heldOperands tags values)))) one ∙ ap (map operandKind) (operands-first tags values sized top (left - 1) (omega arith))
+      ap (λ (n : ℕ). map operandKind (operandsOf n (drop top (heldOperands tags values)))) one
+      ∙ ap (map operandKind) (operands-first tags values sized top (left - 1) (omega arith))
 
   module _ {whole : Bool} (inv : whole ≡ argsMatch ks (map operandKind (operandsOf left (drop top (heldOperands tags values))))) where
     by-next : {k : Kind} {js : List Kind} → next k js ≡ nextKind ks → whole ≡ equalKind k first && argsMatch js rest

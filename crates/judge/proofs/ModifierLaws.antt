@@ -13,7 +13,8 @@ use Rattle.ast.specs.Judge.{judgeBinary}
 use Rattle.rules.specs.declared.binary.ModifierFacts.{ModifierFacts}
 use Rattle.rules.specs.ModifierFacts.{ModifierFactsOf, judgeSides}
 
-pub judgeSides-facts : {m : Option BinModifier} {facts : ModifierFacts} → ModifierFactsOf m facts → (c : ℕ) (l r : Kind) → judgeSides c facts l r ≡ judgeBinary c m l r
+pub judgeSides-facts : {m : Option BinModifier} {facts : ModifierFacts} → ModifierFactsOf m facts
+    → (c : ℕ) (l r : Kind) → judgeSides c facts l r ≡ judgeBinary c m l r
 judgeSides-facts is c l r = rw (is .bool, is .joint, is .grouped, is .labelled)
 
 -- no label is in an empty list

@@ -31,7 +31,8 @@ on-one : (w : Wrapper) (x : Operand) (below : List Operand) → judgement (wrapp
 unfolding judgement
 on-one w x below = refl
 
-on-two : (c : ℕ) (m : Option BinModifier) (r l : Operand) (below : List Operand) → judgement (binary c m) (r ∷ l ∷ below) ≡ judgeBinary c m (operandKind l) (operandKind r)
+on-two : (c : ℕ) (m : Option BinModifier) (r l : Operand) (below : List Operand)
+    → judgement (binary c m) (r ∷ l ∷ below) ≡ judgeBinary c m (operandKind l) (operandKind r)
 unfolding judgement
 on-two c m r l below = refl
 
@@ -67,10 +68,12 @@ module _ {tags : List ℕ} {values : List Float} (sized : Sized tags values) (to
   judgement-wrapper w h = sym (ap (judgement (wrapper w)) (stack-top tags values sized top (omega arith)) ∙ on-one w _ _)
 
   pub judgement-binary : (c : ℕ) (m : Option BinModifier) → top + 2 ≤ 256
-      → judgeBinary c m (operandKind (getD (heldOperands tags values) (top + 1) stringOperand)) (operandKind (getD (heldOperands tags values) top stringOperand)) ≡ judgement (binary c m) stack
+      → judgeBinary c m (operandKind (getD (heldOperands tags values) (top + 1) stringOperand))
+      (operandKind (getD (heldOperands tags values) top stringOperand)) ≡ judgement (binary c m) stack
   judgement-binary c m h =
       sym (ap (judgement (binary c m)) (stack-top tags values sized top (omega arith)
-      ∙ ap {B = List Operand} (λ below. getD (heldOperands tags values) top stringOperand ∷ below) (stack-top tags values sized (top + 1) (omega arith))) ∙ on-two c m _ _ _)
+      ∙ ap {B = List Operand} (λ below. getD (heldOperands tags values) top stringOperand ∷ below)
+      (stack-top tags values sized (top + 1) (omega arith))) ∙ on-two c m _ _ _)
 
   pub judgement-aggregate : (c : ℕ) (m : Option LabelModifier) (n : ℕ) → top + n ≤ 256
       → judgeAggregate c (map operandKind (operandsOf n stack)) ≡ judgement (aggregate c m n) stack

@@ -112,7 +112,14 @@ module _ {page : List ℕ} {all : List Matcher} {before keys : List ℕ} {left :
         record {
           size = simp length-set (w .size);
           room = let r = w .room in let e = ap length more in simp length-set (omega arith);
-          texts = rw (front, keyTexts-append page (take i keys) (k ∷ []), keyTexts-one page k, append-assoc (keyTexts page (take i keys)) (keyText page k ∷ []) (map displayMatcher (listed readMatcher (left - 1) rest)), text)
+          texts = rw (
+            front,
+            keyTexts-append page (take i keys) (k ∷ []),
+            keyTexts-one page k,
+            append-assoc (keyTexts page (take i keys)) (keyText page k ∷ [])
+                (map displayMatcher (listed readMatcher (left - 1) rest)),
+            text,
+          )
               (ap (λ (l : List Matcher). keyTexts page (take i keys) ++ map displayMatcher l) (sym more) ∙ w .texts);
           areKeys = rw front (areKeys-append page (take i keys) (k ∷ []) (w .areKeys) (areKeys-one page k (rw packed (prints .prints))));
         }
@@ -121,7 +128,8 @@ module _ {page : List ℕ} {all : List Matcher} {before keys : List ℕ} {left :
   collect-end h =
       let none = listed-none readMatcher left s h in
       record {
-        texts = sym (append-nil (keyTexts page (take i keys))) ∙ ap (λ (l : List Matcher). keyTexts page (take i keys) ++ map displayMatcher l) (sym none) ∙ w .texts;
+        texts = sym (append-nil (keyTexts page (take i keys)))
+            ∙ ap (λ (l : List Matcher). keyTexts page (take i keys) ++ map displayMatcher l) (sym none) ∙ w .texts;
         areKeys = w .areKeys;
         inside = let r = w .room in omega arith;
       }

@@ -83,11 +83,17 @@ displayMatchers-length ms = joined-length (sort (map displayMatcher ms)) ∙ ap 
 
 -- ## So many matchers from s on: their length up to a cap
 
-pub matcher-length : (m : Matcher) → length (displayMatcher m) ≡ length (displayLabel (m .name)) + length (operatorToken (matchOpNumber (m .op))) + length (quote (m .value))
+pub matcher-length : (m : Matcher)
+    → length (displayMatcher m)
+    ≡ length (displayLabel (m .name)) + length (operatorToken (matchOpNumber (m .op))) + length (quote (m .value))
 unfolding matcherText
 matcher-length m =
     sym (ap length (displayMatcher-parts m))
-    ∙ omega (arith, length-append (displayLabel (m .name)) (operatorToken (matchOpNumber (m .op)) ++ quote (m .value)), length-append (operatorToken (matchOpNumber (m .op))) (quote (m .value)))
+    ∙ omega (
+      arith,
+      length-append (displayLabel (m .name)) (operatorToken (matchOpNumber (m .op)) ++ quote (m .value)),
+      length-append (operatorToken (matchOpNumber (m .op))) (quote (m .value)),
+    )
 
 module _ (n : ℕ) (s : List ℕ) where
   pub matchers-none : n ≤ 0 → length (moreByCommas (map displayMatcher (listed readMatcher n s))) ≡ 0

@@ -47,7 +47,9 @@ bit-small false = omega arith
 
 -- the packed number, from its lowest digit on
 pub unpacked-packed : (p : Printed) (bit : ℕ) → Bounded p → bit ≡ pick (p .bare) 1 0
-    → unpacked ((((((p .name .start * 256 + (p .name .end - p .name .start)) * 32768 + p .value .start) * 256 + (p .value .end - p .value .start)) * 4) + p .op) * 2 + bit) ≡ p
+    → unpacked
+    ((((((p .name .start * 256 + (p .name .end - p .name .start)) * 32768 + p .value .start) * 256
+    + (p .value .end - p .value .start)) * 4) + p .op) * 2 + bit) ≡ p
 unfolding unpacked
 unpacked-packed p bit b is =
     let names = p .name .start * 256 + (p .name .end - p .name .start) in
@@ -93,4 +95,7 @@ keyText-prints page k a is w = rw is w
 pub keyText-pieces : (page : List ℕ) (k : ℕ) (a : Printed) → a ≡ unpacked k
     → keyText page k ≡ join (displayLabel (spanOn page (a .name)) ∷ operatorToken (a .op) ∷ quote (spanOn page (a .value)) ∷ [])
 unfolding keyText printedText matcherText join
-keyText-pieces page k a is = rw (← is) (ap (λ (l : List ℕ). displayLabel (spanOn page (a .name)) ++ (operatorToken (a .op) ++ l)) (sym (append-nil (quote (spanOn page (a .value))))))
+keyText-pieces page k a is =
+    rw (← is)
+    (ap (λ (l : List ℕ). displayLabel (spanOn page (a .name)) ++ (operatorToken (a .op) ++ l))
+    (sym (append-nil (quote (spanOn page (a .value))))))

@@ -14,7 +14,8 @@ use Rattle.page.specs.Text.{isAlpha, isAlphaNumeric, isLabel}
 use Rattle.leaves.specs.Escape.{escapeByte, escape}
 use Rattle.label.specs.Label.{displayLabel, atMost}
 use Rattle.label.specs.Symbols.{symbol, symbols, operatorToken, matcherText, nameSymbols, matcherSymbols}
-use Rattle.label.proofs.SymbolLaws.{flat, flat-order, flat-append, flat-plain, flat-quoted, Valids, valids-append, valids-plain, valids-quoted, symbols-length}
+use Rattle.label.proofs.SymbolLaws.{flat, flat-order, flat-append, flat-plain, flat-quoted, Valids}
+use Rattle.label.proofs.SymbolLaws.{valids-append, valids-plain, valids-quoted, symbols-length}
 
 -- ## A label has nothing to escape
 
@@ -87,7 +88,8 @@ flat-matcher bare name op value e =
 valids-matcher : (bare : Bool) (name : List ℕ) (op : ℕ) (value : List ℕ) → Valids (matcherSymbols bare name op value)
 unfolding matcherSymbols
 valids-matcher bare name op value =
-    valids-append (nameSymbols bare name) _ (valids-name bare name) (valids-append (map symbol (operatorToken op)) _ (valids-plain (operatorToken op)) (valids-quoted value))
+    valids-append (nameSymbols bare name) _ (valids-name bare name)
+    (valids-append (map symbol (operatorToken op)) _ (valids-plain (operatorToken op)) (valids-quoted value))
 
 -- the order of two matchers' texts is that of their symbols
 pub matcher-order : (bare : Bool) (name : List ℕ) (op : ℕ) (value : List ℕ) (bare′ : Bool) (name′ : List ℕ) (op′ : ℕ) (value′ : List ℕ)
@@ -181,7 +183,8 @@ quoted-symbol false t j r e is = is
 
 -- ## An operator's bytes, by its number
 
-pub op-symbol : (op j o b r : ℕ) → o ≡ length (operatorToken op) → j < o → b ≡ getD (operatorToken op) j 0 → r ≡ symbol b → r ≡ getD (map symbol (operatorToken op)) j 0
+pub op-symbol : (op j o b r : ℕ) → o ≡ length (operatorToken op) → j < o → b ≡ getD (operatorToken op) j 0
+    → r ≡ symbol b → r ≡ getD (map symbol (operatorToken op)) j 0
 op-symbol op j o b r eo h e is = is ∙ ap symbol e ∙ sym (bare-at (operatorToken op) j (omega arith))
 
 -- the words as lists of bytes

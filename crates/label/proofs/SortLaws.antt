@@ -83,7 +83,13 @@ place-on {page} {item} {o = o} {j = j} r w h is no· =
       inside = simp length-set h;
       size = simp length-set (w .size);
       keys = rw rest (subst (AreKeys page) (next o j h) (w .keys) .1);
-      goal = rw (rest, front, append-assoc (take j o) (x ∷ []) (placed f item (drop (j + 1 + 1) o)), ← later f item x (drop (j + 1 + 1) o) (sym is ∙ no·), ← next o j h) (w .goal);
+      goal = rw (
+        rest,
+        front,
+        append-assoc (take j o) (x ∷ []) (placed f item (drop (j + 1 + 1) o)),
+        ← later f item x (drop (j + 1 + 1) o) (sym is ∙ no·),
+        ← next o j h,
+      ) (w .goal);
     }
 
 -- stored at j, before what stands after it

@@ -112,13 +112,16 @@ unfolding countOf
 days-short rest h = displayCounts-short (timeUnit "d" 86400000 false) (drop 3 units) rest 8 14 (omega arith) (hours-short _ (omega arith))
 
 weeks-short : (rest : ℕ) → rest ≤ numberLimit → length (TextFrom 1 rest) ≤ 33
-weeks-short rest h = displayCounts-short (timeUnit "w" 604800000 true) (drop 2 units) rest 7 24 (omega (arith, countOf-within true 604800000 rest)) (days-short _ (omega arith))
+weeks-short rest h =
+    displayCounts-short (timeUnit "w" 604800000 true) (drop 2 units) rest 7 24
+    (omega (arith, countOf-within true 604800000 rest)) (days-short _ (omega arith))
 
 pub displayDuration-short : (ms : ℕ) → ms ≤ numberLimit → length (displayDuration ms) ≤ 40
 unfolding displayDuration durationCounts
 displayDuration-short zero h = omega arith
 displayDuration-short (suc ms) h =
-    displayCounts-short (timeUnit "y" 31536000000 true) (drop 1 units) (suc ms) 5 33 (omega (arith, countOf-within true 31536000000 (suc ms))) (weeks-short _ (omega arith))
+    displayCounts-short (timeUnit "y" 31536000000 true) (drop 1 units) (suc ms) 5 33
+    (omega (arith, countOf-within true 31536000000 (suc ms))) (weeks-short _ (omega arith))
 
 -- ## @ times and offsets
 

@@ -40,7 +40,9 @@ ascend-placed letters low (n ∷ ns) zero t h =
       inside = leb→le n (length letters) (right-of (leb low n && leb (n - low) longestName) (leb n (length letters)) near);
     }
 ascend-placed letters low (n ∷ ns) (suc i) t h =
-    ascend-placed letters n ns i (right-of (leb low n && leb (n - low) longestName && leb n (length letters)) (ascend n (length letters) ns) t) (le-of-suc-le-suc h)
+    ascend-placed letters n ns i
+    (right-of (leb low n && leb (n - low) longestName && leb n (length letters)) (ascend n (length letters) ns)
+    t) (le-of-suc-le-suc h)
 
 pub placed : (letters starts : List ℕ) (i : ℕ) → T (isTable letters starts) → i < length starts - 1 → Placed letters (getD starts i 0) (getD starts (i + 1) 0)
 placed letters [] i t h = absurd t

@@ -31,7 +31,8 @@ KeepsCalled before c = Keeps before (c .outcome) (c .buffer)
 -- where the text fits, and where it does not
 abbrev chosen : Kind → ℕ → List ℕ → List ℕ → Bool → Called
 chosen k records text buffer b =
-    pick b (record { outcome = answer k (length text); buffer = text ++ drop (length text) buffer }) (record { outcome = refusal tooShort records; buffer = buffer })
+    pick b (record { outcome = answer k (length text); buffer = text ++ drop (length text) buffer })
+    (record { outcome = refusal tooShort records; buffer = buffer })
 
 drop-written : (text rest : List ℕ) → drop (length text) (text ++ rest) ≡ rest
 drop-written [] rest = refl
@@ -60,7 +61,8 @@ written-agrees k records text buffer = by (leb (length text) (length buffer))
     by true = refl
     by false = refl
 
-written-in : (page : List ℕ) (k : Kind) (records : ℕ) (text buffer : List ℕ) → records ≤ recordCount page → InTable isInTable page (written k records text buffer .outcome)
+written-in : (page : List ℕ) (k : Kind) (records : ℕ) (text buffer : List ℕ) → records ≤ recordCount page
+    → InTable isInTable page (written k records text buffer .outcome)
 written-in page k records text buffer h = by (leb (length text) (length buffer))
   where
     by : (b : Bool) → InTable isInTable page (chosen k records text buffer b .outcome)
@@ -78,7 +80,8 @@ module _ (textOf : Expr → List ℕ) where
   writing-agrees (accepted e n) buffer = written-agrees (valueType e) n (textOf e) buffer
   writing-agrees (refusedAt n i) buffer = (refl, refl)
 
-  writing-in : (page : List ℕ) (c : Checked Expr) → CheckedIn (recordCount page) c → (buffer : List ℕ) → InTable isInTable page (writing textOf c buffer .outcome)
+  writing-in : (page : List ℕ) (c : Checked Expr) → CheckedIn (recordCount page) c → (buffer : List ℕ)
+      → InTable isInTable page (writing textOf c buffer .outcome)
   writing-in page (accepted e n) g buffer = written-in page (valueType e) n (textOf e) buffer (at-most g)
     where
       at-most : n ≡ recordCount page → n ≤ recordCount page
@@ -101,7 +104,8 @@ isInTable-small n = among tableNumbers tt
   where
     among : (ns : List ℕ) → T (all (λ m. leb m 255) ns) → T (any (eqb n) ns) → n ≤ 255
     among [] g h = absurd h
-    among (m ∷ ns) g h = by (eqb n m) (eqb→eq n m) (leb→le m 255 (left-of (leb m 255) (all (λ m. leb m 255) ns) g)) (among ns (right-of (leb m 255) (all (λ m. leb m 255) ns) g)) h
+    among (m ∷ ns) g h = by (eqb n m) (eqb→eq n m) (leb→le m 255 (left-of (leb m 255) (all (λ m. leb m 255) ns) g))
+        (among ns (right-of (leb m 255) (all (λ m. leb m 255) ns) g)) h
       where
         by : (b : Bool) → (T b → n ≡ m) → m ≤ 255 → (T (any (eqb n) ns) → n ≤ 255) → T (b || any (eqb n) ns) → n ≤ 255
         by true e l others h = omega (arith, e tt)

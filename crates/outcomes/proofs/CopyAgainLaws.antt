@@ -50,7 +50,8 @@ module _ (page buffer : List ℕ) (k : Kind) (n : ℕ) where
                 (take-append-seam (copyPage page) (drop (length (copyPage page)) buffer));
           }
 
-      from : (c : Checked Expr) → checkPage page ≡ c → writing (λ e. copyPage page) c buffer .outcome ≡ answer k n → Wrote page k n (writing (λ e. copyPage page) c buffer .buffer)
+      from : (c : Checked Expr) → checkPage page ≡ c → writing (λ e. copyPage page) c buffer .outcome ≡ answer k n
+          → Wrote page k n (writing (λ e. copyPage page) c buffer .buffer)
       from (refusedAt m i) h q = absurd (never m i q)
       from (accepted e m) h q = fits (valueType e) m (ap outcomeOf h) (leb (length (copyPage page)) (length buffer)) q
 

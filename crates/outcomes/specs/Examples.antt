@@ -63,7 +63,8 @@ examples =
     -- 1500 ms
     ∷ example (hex "0202757000 03dc0b") (gives matrix "up[1s500ms]" (hex "0202757000 03dc0b"))
     -- fills NaN and NaN
-    ∷ example (hex "0202757000 0202757000 09010100000001020102") (gives vector "up + fill_left (NaN) fill_right (NaN) up" (hex "0202757000 0202757000 09010100000001020102"))
+    ∷ example (hex "0202757000 0202757000 09010100000001020102")
+    (gives vector "up + fill_left (NaN) fill_right (NaN) up" (hex "0202757000 0202757000 09010100000001020102"))
     ∷ []
 
 -- a buffer with bytes of its own, long enough for each example
@@ -100,5 +101,8 @@ unfolding readRecord readPage writeRecord checkAst apply checkPage copyPage disp
 tooShortForUp = tt
 
 starred : T (all holds examples)
-unfolding readRecord readPage writeRecord checkAst apply checkPage copyPage digits decimal escapeByte escape quote countOf countsOf durationCounts displayCount displayCounts displayDuration displayNumber displayLiteral displayFill displayLabel displayLabels displayMatcher atMost insert sort joinedByCommas displayMatchers display pretty programOutput
+unfolding readRecord readPage writeRecord checkAst apply checkPage copyPage digits decimal escapeByte escape quote
+    countOf countsOf durationCounts displayCount displayCounts displayDuration displayNumber displayLiteral
+    displayFill displayLabel displayLabels displayMatcher atMost insert sort joinedByCommas displayMatchers display
+    pretty programOutput
 starred = tt

@@ -127,7 +127,9 @@ module _ (page : List ℕ) (at limit : ℕ) (inside : at < length page) where
     zero-behind {v} {t} e z = sym (more ∙ ap (joined limit (getD page at 0)) (sym e) ∙ ap (λ (n : ℕ). joined limit (getD page at 0) (got n t)) z)
 
     not-zero : (w : ℕ) (t : List ℕ) → (w ≡ 0 → ⊥)
-        → joined limit (getD page at 0) (got w t) ≡ pick (leb (getD page at 0 - 128 + 128 * w) limit) (got (getD page at 0 - 128 + 128 * w) t) (refused badField)
+        → joined limit (getD page at 0) (got w t)
+        ≡ pick (leb (getD page at 0 - 128 + 128 * w) limit) (got (getD page at 0 - 128 + 128 * w) t)
+        (refused badField)
     not-zero zero t h = absurd (h refl)
     not-zero (suc w) t h = refl
 

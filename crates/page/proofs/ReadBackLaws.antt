@@ -11,7 +11,8 @@ use lib.Dec.{T, leb, leb→le, le→leb}
 use borrow.Author.Tests.{leb-true, le-leb}
 use Rattle.page.specs.Bytes.{pick}
 use Rattle.page.specs.Limits.{numberLimit, countLimit}
-use Rattle.page.specs.Read.{FieldFault, badField, pastLimit, badText, Read, refused, got, Reader, andThen, _>>=_, return, refuse, ensure, readerAt, repeat, readBytes}
+use Rattle.page.specs.Read.{FieldFault, badField, pastLimit, badText, Read, refused, got, Reader, andThen, _>>=_}
+use Rattle.page.specs.Read.{return, refuse, ensure, readerAt, repeat, readBytes}
 use Rattle.page.specs.Number.{readGroups, readNumber, readChoice, writeNumber}
 use Rattle.page.specs.Text.{Text, readText, readCount, readList, writeText, writeAll, writeList}
 use Rattle.page.specs.Allowed.{IsNumber, IsCount, IsTextOf, Each, IsListOf}
@@ -90,7 +91,8 @@ module _ {A B : Type 0} where
       then (refused x) g = tt
       then (got a rest) g = k a g .gives rest
 
-  pub gives-field : {r : Reader A} {P : A → Type 0} {Q : B → Type 0} (make : A → B) → Gives r P → ((a : A) → P a → Q (make a)) → Gives (r >>= λ a. return (make a)) Q
+  pub gives-field : {r : Reader A} {P : A → Type 0} {Q : B → Type 0} (make : A → B) → Gives r P
+      → ((a : A) → P a → Q (make a)) → Gives (r >>= λ a. return (make a)) Q
   gives-field make h k = gives-bind (λ a. return (make a)) h (λ a g. gives-return (make a) (k a g))
 
 -- ## Numbers and choices of forms
@@ -149,7 +151,8 @@ module _ (limit : ℕ) (allowed : Text → Bool) where
   readText-back h t k =
       reads-bind _ (readNumber-back (length t) (omega (arith, k .0)))
       (reads-as (reads-bind _ (readBytes-back t)
-      (reads-bind _ (reads-ensure (leb (length t) limit) pastLimit t (le→leb (length t) limit (k .0))) (reads-ensure (allowed t) badText t (k .1)))) (append-nil t))
+      (reads-bind _ (reads-ensure (leb (length t) limit) pastLimit t (le→leb (length t) limit (k .0)))
+      (reads-ensure (allowed t) badText t (k .1)))) (append-nil t))
 
   pub readText-gives : Gives (readText limit allowed) (IsTextOf limit allowed)
   readText-gives =

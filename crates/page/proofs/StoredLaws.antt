@@ -104,11 +104,15 @@ module _ {A : Type 0} (rs : List (Reader A)) (page : List ℕ) (at : ℕ) where
               let form = next-readable readNumber (readerAt rs) (drop at page) readable one in
               record {
                 inside = inside;
-                known = by-lt (getD page at 0) (length rs) (λ g. g) (λ g. no-refusal (readerAt rs (getD page at 0)) (drop (at + 1) page) form (no-form rs (getD page at 0) (drop (at + 1) page) g));
+                known = by-lt (getD page at 0) (length rs) (λ g. g)
+                    (λ g. no-refusal (readerAt rs (getD page at 0)) (drop (at + 1) page) form
+                    (no-form rs (getD page at 0) (drop (at + 1) page) g));
                 is = ap (λ (m : Read ℕ). andThen m (readerAt rs)) (sym one);
               }
 
           high : 128 ≤ getD page at 0 → Chosen
           high h =
               let large = high-number page at numberLimit inside h (number .reads) in
-              no-refusal (readerAt rs (number .value)) (number .rest) (next-readable readNumber (readerAt rs) (drop at page) readable (number .reads)) (no-form rs (number .value) (number .rest) (omega (arith, few, large)))
+              no-refusal (readerAt rs (number .value)) (number .rest)
+              (next-readable readNumber (readerAt rs) (drop at page) readable (number .reads))
+              (no-form rs (number .value) (number .rest) (omega (arith, few, large)))

@@ -8,7 +8,8 @@ use Rattle.base.specs.Splice.{join}
 use Rattle.base.proofs.SpliceLaws.{Run, start}
 use Rattle.page.specs.Bytes.{bytes}
 
-pub sum-three : (a b c : List ℕ) (cap x y z r : ℕ) → x ≡ min (length a) cap → y ≡ length b → z ≡ length c → r ≡ min (x + (y + z)) cap → r ≡ min (length (a ++ (b ++ c))) cap
+pub sum-three : (a b c : List ℕ) (cap x y z r : ℕ) → x ≡ min (length a) cap → y ≡ length b → z ≡ length c
+    → r ≡ min (x + (y + z)) cap → r ≡ min (length (a ++ (b ++ c))) cap
 sum-three a b c cap x y z r p q s e = omega (arith, length-append a (b ++ c), length-append b c)
 
 pub bracketed-len : (d : List ℕ) → length (bytes "[" ++ d ++ bytes "]") ≡ length d + 2

@@ -38,7 +38,8 @@ lineOf c = programLine (c .outcome) (c .buffer)
 -- where the text fits, and where it does not
 abbrev chosenLine : Kind → ℕ → List ℕ → List ℕ → Bool → List ℕ
 chosenLine k records text buffer fits =
-    lineOf (pick fits (record { outcome = answer k (length text); buffer = text ++ drop (length text) buffer }) (record { outcome = refusal tooShort records; buffer = buffer }))
+    lineOf (pick fits (record { outcome = answer k (length text); buffer = text ++ drop (length text) buffer })
+    (record { outcome = refusal tooShort records; buffer = buffer }))
 
 written-line : (k : Kind) (records : ℕ) (text a b : List ℕ) → length a ≡ length b → lineOf (written k records text a) ≡ lineOf (written k records text b)
 written-line k records text a b h = ap (λ (n : ℕ). chosenLine k records text a (leb (length text) n)) h ∙ same (leb (length text) (length b))
@@ -165,4 +166,5 @@ module _ (page out : List ℕ) (size : 65537 ≡ length out) where
 
     pub refused-line : {last : List ℕ} {r : ℕ} → Wrote (after ++ rest) last 0 (refusedLine n i) r → Wrote out last 0 (programOutput page) r
     refused-line {last} {r} w =
-        subst (λ (l : List ℕ). Wrote out last 0 l r) (sym (output page lent d lent-size)) (subst (λ (l : List ℕ). Wrote l last 0 (refusedLine n i) r) same-buffer w)
+        subst (λ (l : List ℕ). Wrote out last 0 l r) (sym (output page lent d lent-size))
+        (subst (λ (l : List ℕ). Wrote l last 0 (refusedLine n i) r) same-buffer w)

@@ -8,7 +8,8 @@ use Rattle.page.specs.Listed.{AllRead}
 use Rattle.page.specs.Answers.{faultOf, spanOn, Lies}
 use Rattle.records.specs.Matcher as matcher
 use Rattle.records.specs.Record as spec
-use Rattle.records.specs.Answers.{matchersOn, literalOf, labelModifierOn, LabelModifierStored, modifierOn, ModifierStored, atModifierOf, offsetOf, optionalDurationOf}
+use Rattle.records.specs.Answers.{matchersOn, literalOf, labelModifierOn, LabelModifierStored, modifierOn}
+use Rattle.records.specs.Answers.{ModifierStored, atModifierOf, offsetOf, optionalDurationOf}
 use Rattle.records.specs.MatcherFacts.{ListFacts}
 use Rattle.records.specs.SignatureAnswers.{functionOn, FunctionLies}
 use Rattle.reader.specs.declared.Selector.{Selector}

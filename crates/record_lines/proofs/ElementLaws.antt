@@ -34,7 +34,8 @@ span-read : (page from : List ℕ) (s : Span) → Answered page from (Got s) →
 unfolding readLabelNumbers
 span-read page from s a =
     let size : length (spanOn page s) ≡ s .end - s .start = span-length page s (a .1) in
-    let start : length page - length (drop (s .end) page) - length (spanOn page s) ≡ s .start = omega (arith, length-drop (s .end) page, a .1 .ordered, a .1 .inside) in
+    let start : length page - length (drop (s .end) page) - length (spanOn page s)
+    ≡ s .start = omega (arith, length-drop (s .end) page, a .1 .ordered, a .1 .inside) in
     rw (← a .0, start, size)
 
 pub label-read : (page from : List ℕ) {r : Text} {s : Span} → r ≡ Got s → Answered page from r

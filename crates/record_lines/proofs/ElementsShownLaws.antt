@@ -23,13 +23,15 @@ rest (refused f) = refused f
 rest (got a t) = got tt t
 
 module _ {A B C : Type 0} where
-  rest-then : (m : Read A) (f : A → Reader B) (g : A → Reader C) → ((a : A) (t : List ℕ) → rest (f a t) ≡ rest (g a t)) → rest (andThen m f) ≡ rest (andThen m g)
+  rest-then : (m : Read A) (f : A → Reader B) (g : A → Reader C)
+      → ((a : A) (t : List ℕ) → rest (f a t) ≡ rest (g a t)) → rest (andThen m f) ≡ rest (andThen m g)
   rest-then (refused x) f g h = refl
   rest-then (got a t) f g h = h a t
 
 -- ## Labels
 
-module _ {A B : Type 0} (page : List ℕ) (f : List ℕ → Reader A) (g : Text → Reader B) (h : (n : List ℕ) (t : Text) (u : List ℕ) → rest (f n u) ≡ rest (g t u)) where
+module _ {A B : Type 0} (page : List ℕ) (f : List ℕ → Reader A) (g : Text → Reader B)
+    (h : (n : List ℕ) (t : Text) (u : List ℕ) → rest (f n u) ≡ rest (g t u)) where
   label-then : (s : List ℕ) → rest (andThen (readLabelNumbers page s) f) ≡ rest (andThen (readAnyText s) g)
   unfolding readLabelNumbers
   label-then s = by (readAnyText s)

@@ -9,7 +9,8 @@ use Rattle.page.specs.Read.{Reader, _>>=_, return, ensure, badField, pastLimit}
 use Rattle.page.specs.Number.{readNumber}
 use Rattle.page.specs.Text.{Text, isText, isLabel, isSelectorName, readAnyText}
 use Rattle.page.specs.Allowed.{IsNumber}
-use Rattle.page.proofs.ReadBackLaws.{Gives, gives-return, gives-ensure, gives-bind, gives-field, _also_, noMore, gives-choice, readNumber-gives, readText-gives, readCount-gives, readList-gives}
+use Rattle.page.proofs.ReadBackLaws.{Gives, gives-return, gives-ensure, gives-bind, gives-field, _also_, noMore}
+use Rattle.page.proofs.ReadBackLaws.{gives-choice, readNumber-gives, readText-gives, readCount-gives, readList-gives}
 use Rattle.records.specs.Kind.{vector, scalar, matrix, string}
 use Rattle.records.specs.Code.{isCode}
 use Rattle.records.specs.Literal.{whole, infinite, plus, minus, nan, readLiteral}
@@ -19,8 +20,12 @@ use Rattle.records.specs.Matcher.{MatchOp, equal, notEqual, re, notRe, M
 use Rattle.records.specs.Modifier.{include, exclude, readLabelModifier, oneToOne, manyToMany, manyToOne, oneToMany, readCardinality, readBinModifier}
 use Rattle.records.specs.Time.{pos, neg, readOffset, start, end, after, before, readTime, readAtModifier}
 use Rattle.records.specs.Signature.{fixed, unlimited, upTo, readVariadic, readFunction}
-use Rattle.records.specs.Record.{number, string as stringLeaf, range, subquery, at, offset, unary, paren, leaf, wrapper, binary, aggregate, call, readCode, readSelector, readSubquery, readBinary, readAggregate, readCall, readRecord}
-use Rattle.records.specs.Allowed.{IsOptionOf, IsAnyText, AreLabels, IsMatcher, IsLabelModifier, IsCardinality, IsFill, IsBinModifier, IsOffset, IsAtModifier, IsVariadic, IsKind, IsFunction, IsAllowed}
+use Rattle.records.specs.Record.{number, string as stringLeaf, range, subquery, at, offset, unary, paren, leaf}
+use Rattle.records.specs.Record.{wrapper, binary, aggregate, call, readCode, readSelector, readSubquery}
+use Rattle.records.specs.Record.{readBinary, readAggregate, readCall, readRecord}
+use Rattle.records.specs.Allowed.{IsOptionOf, IsAnyText, AreLabels, IsMatcher, IsLabelModifier, IsCardinality}
+use Rattle.records.specs.Allowed.{IsFill, IsBinModifier, IsOffset, IsAtModifier, IsVariadic, IsKind, IsFunction}
+use Rattle.records.specs.Allowed.{IsAllowed}
 
 -- ## Fields that serve many records
 

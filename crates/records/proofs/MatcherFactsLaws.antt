@@ -13,7 +13,8 @@ use Rattle.page.specs.Listed.{listed}
 use Rattle.page.proofs.FieldLaws.{no-form}
 use Rattle.page.proofs.ListLaws.{passed, passed-more, listed-more, listed-none}
 use Rattle.records.specs.Field.{readFlag}
-use Rattle.records.specs.Matcher.{MatchOp, Matcher, matcherOf, equal, notEqual, re, notRe, matcherForms, readMatcher, isMetricLabel, isNameMatcher, matchesEmpty}
+use Rattle.records.specs.Matcher.{MatchOp, Matcher, matcherOf, equal, notEqual, re, notRe, matcherForms}
+use Rattle.records.specs.Matcher.{readMatcher, isMetricLabel, isNameMatcher, matchesEmpty}
 use Rattle.records.specs.MatcherFacts.{matcherFacts, readMatcherFacts, patternFacts, factForms, ListFacts}
 
 -- ## One matcher
@@ -140,8 +141,12 @@ facts-more n s left t u named empty name accepts inv h e =
     let more : listed readMatcher left t ≡ m .matcher ∷ listed readMatcher (left - 1) u = listed-more readMatcher left t h (m .reads) in
     record {
       passes = inv .passes ∙ passed-more readMatcher left t h (m .reads);
-      names = inv .names ∙ ap (λ (l : List Matcher). named || any isNameMatcher l) more ∙ or-assoc named (isNameMatcher (m .matcher)) _ ∙ ap (λ (b : Bool). (named || b) || any isNameMatcher (listed readMatcher (left - 1) u)) (sym (m .names));
-      accept = inv .accept ∙ ap (λ (l : List Matcher). empty && all matchesEmpty l) more ∙ and-assoc empty (matchesEmpty (m .matcher)) _ ∙ ap (λ (b : Bool). (empty && b) && all matchesEmpty (listed readMatcher (left - 1) u)) (sym (m .accept));
+      names = inv .names ∙ ap (λ (l : List Matcher). named || any isNameMatcher l) more
+          ∙ or-assoc named (isNameMatcher (m .matcher)) _
+          ∙ ap (λ (b : Bool). (named || b) || any isNameMatcher (listed readMatcher (left - 1) u)) (sym (m .names));
+      accept = inv .accept ∙ ap (λ (l : List Matcher). empty && all matchesEmpty l) more
+          ∙ and-assoc empty (matchesEmpty (m .matcher)) _
+          ∙ ap (λ (b : Bool). (empty && b) && all matchesEmpty (listed readMatcher (left - 1) u)) (sym (m .accept));
     }
 
 pub facts-all : (n : ℕ) (s : List ℕ) (left : ℕ) (t : List ℕ) (named empty : Bool) → FactsSoFar n s left t named empty → left ≤ 0

@@ -29,7 +29,8 @@ whole rs = record { records = rs; ending = end }
 -- ## readRecords
 
 -- a record that can be read is not past the page's end
-readRecords-got : (n : ℕ) (s : List ℕ) (r : Record) (rest : List ℕ) → readRecord s ≡ got r rest → readRecords (suc n) s ≡ followed (got r rest) (λ t. readRecords n t)
+readRecords-got : (n : ℕ) (s : List ℕ) (r : Record) (rest : List ℕ) → readRecord s ≡ got r rest
+    → readRecords (suc n) s ≡ followed (got r rest) (λ t. readRecords n t)
 unfolding readRecord
 readRecords-got n [] r rest e = absurd (never e)
   where
@@ -54,7 +55,8 @@ writeRecords-injective xs ys h k e =
     ∙ ap (readRecords (length xs + length ys)) e
     ∙ readRecords-back (length xs + length ys) ys (omega arith) k)
 
-follow-allowed : (m : Read Record) → Got IsAllowed m → (more : List ℕ → Records) → ((t : List ℕ) → Each IsAllowed (more t .records)) → Each IsAllowed (followed m more .records)
+follow-allowed : (m : Read Record) → Got IsAllowed m → (more : List ℕ → Records)
+    → ((t : List ℕ) → Each IsAllowed (more t .records)) → Each IsAllowed (followed m more .records)
 follow-allowed (refused f) h more k = tt
 follow-allowed (got r rest) h more k = (h, k rest)
 

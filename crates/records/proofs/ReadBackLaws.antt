@@ -14,18 +14,29 @@ use Rattle.page.specs.Text.{Text, isText, isLabel, isSelectorName, readAnyText,
 use Rattle.page.specs.Allowed.{IsNumber, IsCount}
 use Rattle.page.proofs.NumberLaws.{right-of}
 use Rattle.page.proofs.ReaderLaws.{append-nil}
-use Rattle.page.proofs.ReadBackLaws.{Reads, ReadsBack, reads-return, reads-ensure, reads-as, reads-bind, reads-field, reads-tested, reads-choice, readNumber-back, readText-back, readCount-back, readList-back}
+use Rattle.page.proofs.ReadBackLaws.{Reads, ReadsBack, reads-return, reads-ensure, reads-as, reads-bind, reads-field}
+use Rattle.page.proofs.ReadBackLaws.{reads-tested, reads-choice, readNumber-back, readText-back, readCount-back}
+use Rattle.page.proofs.ReadBackLaws.{readList-back}
 use Rattle.records.specs.Kind.{vector, scalar, matrix, string}
 use Rattle.records.specs.Code.{isCode}
 use Rattle.records.specs.Literal.{whole, infinite, plus, minus, nan, literalForms, readLiteral, writeLiteral}
 use Rattle.records.specs.Float.{IsExact}
-use Rattle.records.specs.Field.{flagForms, readFlag, writeFlag, optionForms, readOption, writeOption, kindForms, readKind, writeKind, readLabels, writeLabels}
+use Rattle.records.specs.Field.{flagForms, readFlag, writeFlag, optionForms, readOption, writeOption, kindForms}
+use Rattle.records.specs.Field.{readKind, writeKind, readLabels, writeLabels}
 use Rattle.records.specs.Matcher.{MatchOp, equal, notEqual, re, notRe, Matcher, Selector, matcherForms, readMatcher, writeMatcher}
-use Rattle.records.specs.Modifier.{LabelModifier, include, exclude, labelModifierForms, readLabelModifier, writeLabelModifier, oneToOne, manyToMany, manyToOne, oneToMany, cardinalityForms, readCardinality, writeCardinality, BinModifier, readBinModifier, writeBinModifier}
+use Rattle.records.specs.Modifier.{LabelModifier, include, exclude, labelModifierForms, readLabelModifier}
+use Rattle.records.specs.Modifier.{writeLabelModifier, oneToOne, manyToMany, manyToOne, oneToMany}
+use Rattle.records.specs.Modifier.{cardinalityForms, readCardinality, writeCardinality, BinModifier}
+use Rattle.records.specs.Modifier.{readBinModifier, writeBinModifier}
 use Rattle.records.specs.Time.{pos, neg, offsetForms, readOffset, writeOffset, start, end, after, before, atForms, readAtModifier, writeAtModifier}
 use Rattle.records.specs.Signature.{fixed, unlimited, upTo, variadicForms, readVariadic, writeVariadic, Function, readFunction, writeFunction}
-use Rattle.records.specs.Record.{number, string as stringLeaf, selector, range, subquery, at, offset, unary, paren, leaf, wrapper, binary, aggregate, call, readCode, readSelector, readSubquery, readBinary, readAggregate, readCall, recordForms, readRecord, writeRecord}
-use Rattle.records.specs.Allowed.{IsOptionOf, IsAnyText, AreLabels, IsMatcher, IsSelector, IsLabelModifier, IsCardinality, IsFill, IsBinModifier, IsOffset, IsAtModifier, IsVariadic, IsKind, IsFunction, IsAllowed}
+use Rattle.records.specs.Record.{number, string as stringLeaf, selector, range, subquery, at, offset, unary}
+use Rattle.records.specs.Record.{paren, leaf, wrapper, binary, aggregate, call, readCode, readSelector}
+use Rattle.records.specs.Record.{readSubquery, readBinary, readAggregate, readCall, recordForms, readRecord}
+use Rattle.records.specs.Record.{writeRecord}
+use Rattle.records.specs.Allowed.{IsOptionOf, IsAnyText, AreLabels, IsMatcher, IsSelector, IsLabelModifier}
+use Rattle.records.specs.Allowed.{IsCardinality, IsFill, IsBinModifier, IsOffset, IsAtModifier, IsVariadic}
+use Rattle.records.specs.Allowed.{IsKind, IsFunction, IsAllowed}
 
 -- ## Fields that serve many records
 
@@ -66,14 +77,19 @@ plain-back : (o : MatchOp) (n v : Text) → IsAnyText n → IsAnyText v
 plain-back o n v h k = reads-bind _ (readAnyText-back n h) (reads-field _ (readAnyText-back v k))
 
 pattern-back : (o : Bool → MatchOp) (n v : Text) (b : Bool) → IsAnyText n → IsAnyText v
-    → Reads (readAnyText >>= λ n. readAnyText >>= λ v. readFlag >>= λ b. return (matcher (o b) n v)) (writeText n ++ (writeText v ++ writeFlag b)) (matcher (o b) n v)
+    → Reads (readAnyText >>= λ n. readAnyText >>= λ v. readFlag >>= λ b. return (matcher (o b) n v))
+    (writeText n ++ (writeText v ++ writeFlag b)) (matcher (o b) n v)
 pattern-back o n v b h k = reads-bind _ (readAnyText-back n h) (reads-bind _ (readAnyText-back v k) (reads-field _ (readFlag-back b tt)))
 
 op-back : (o : MatchOp) (n v : Text) → IsAnyText n → IsAnyText v → Reads readMatcher (writeMatcher (matcher o n v)) (matcher o n v)
 op-back equal n v h k = reads-as (reads-choice matcherForms 0 (omega arith) (plain-back equal n v h k)) (sym (append-nil _))
 op-back notEqual n v h k = reads-as (reads-choice matcherForms 1 (omega arith) (plain-back notEqual n v h k)) (sym (append-nil _))
-op-back (re b) n v h k = reads-as (reads-choice matcherForms 2 (omega arith) (pattern-back re n v b h k)) (sym (append-assoc (2 ∷ writeText n) (writeText v) (writeFlag b)))
-op-back (notRe b) n v h k = reads-as (reads-choice matcherForms 3 (omega arith) (pattern-back notRe n v b h k)) (sym (append-assoc (3 ∷ writeText n) (writeText v) (writeFlag b)))
+op-back (re b) n v h k =
+    reads-as (reads-choice matcherForms 2 (omega arith) (pattern-back re n v b h k))
+    (sym (append-assoc (2 ∷ writeText n) (writeText v) (writeFlag b)))
+op-back (notRe b) n v h k =
+    reads-as (reads-choice matcherForms 3 (omega arith) (pattern-back notRe n v b h k))
+    (sym (append-assoc (3 ∷ writeText n) (writeText v) (writeFlag b)))
 
 pub readMatcher-back : ReadsBack readMatcher writeMatcher IsMatcher
 readMatcher-back m h = op-back (m .op) (m .name) (m .value) (h .0) (h .1)
@@ -122,7 +138,9 @@ pub readAtModifier-back : ReadsBack readAtModifier writeAtModifier IsAtModifier
 readAtModifier-back start h = reads-choice atForms 0 (omega arith) (reads-return start)
 readAtModifier-back end h = reads-choice atForms 1 (omega arith) (reads-return end)
 readAtModifier-back (after n) h =
-    reads-choice atForms 2 (omega arith) (reads-field after (reads-tested (λ n. leb n timeLimit) pastLimit (readNumber-back n (omega arith)) (le→leb n timeLimit h)))
+    reads-choice atForms 2 (omega arith)
+    (reads-field after
+    (reads-tested (λ n. leb n timeLimit) pastLimit (readNumber-back n (omega arith)) (le→leb n timeLimit h)))
 readAtModifier-back (before n) h = reads-choice atForms 3 (omega arith) (reads-field before (from-one timeLimit n (omega arith) (h .0) (h .1)))
 
 -- ## Signatures
@@ -150,7 +168,8 @@ readSelector-back s h =
     reads-bind _ (readText-back textLimit isSelectorName (omega arith) (s .name) (h .0))
     (reads-field _ (readList-back readMatcher writeMatcher IsMatcher readMatcher-back (s .matchers) (h .1)))
 
-readSubquery-back : (r : ℕ) (s : Option ℕ) → IsNumber r → IsOptionOf IsNumber s → Reads readSubquery (writeNumber r ++ writeOption writeNumber s) (wrapper (subquery r s))
+readSubquery-back : (r : ℕ) (s : Option ℕ) → IsNumber r → IsOptionOf IsNumber s
+    → Reads readSubquery (writeNumber r ++ writeOption writeNumber s) (wrapper (subquery r s))
 readSubquery-back r s h k =
     reads-bind _ (readNumber-back r h) (reads-field (λ s. wrapper (subquery r s)) (readOption-back readNumber writeNumber IsNumber readNumber-back s k))
 

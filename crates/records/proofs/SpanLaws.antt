@@ -18,7 +18,9 @@ full [] h = absurd (h refl)
 full (x ∷ l) h = refl
 
 pub span-size : (page : List ℕ) (s : Span) → Lies page s → length (spanOn page s) ≡ s .end - s .start
-span-size page s lies = length-take-le (s .end - s .start) (drop (s .start) page) (rw (length-drop (s .start) page) (omega (arith, lies .ordered, lies .inside)))
+span-size page s lies =
+    length-take-le (s .end - s .start) (drop (s .start) page)
+    (rw (length-drop (s .start) page) (omega (arith, lies .ordered, lies .inside)))
 
 pub span-empty : (page : List ℕ) (s : Span) → s .start ≡ s .end → isEmpty (spanOn page s) ≡ true
 span-empty page s e = let z : s .end - s .start ≡ 0 = omega arith in rw z
@@ -31,4 +33,6 @@ span-full page s lies h = full (spanOn page s) (λ e. h (same (sym (span-size pa
 
 -- by the test of its ends
 pub span-test : (page : List ℕ) (s : Span) → Lies page s → eqb (s .start) (s .end) ≡ isEmpty (spanOn page s)
-span-test page s lies = by-eq (s .start) (s .end) (λ e. eq-eqb (s .start) (s .end) e ∙ sym (span-empty page s e)) (λ h. ne-eqb (s .start) (s .end) h ∙ sym (span-full page s lies h))
+span-test page s lies =
+    by-eq (s .start) (s .end) (λ e. eq-eqb (s .start) (s .end) e ∙ sym (span-empty page s e))
+    (λ h. ne-eqb (s .start) (s .end) h ∙ sym (span-full page s lies h))

@@ -86,5 +86,6 @@ module _ (page : List ℕ) (at : ℕ) (readable : Readable readMatcher (drop at 
         pub is-pattern : getD page at 0 ≡ 2 → got (matcherOf (re b) n v) w ≡ readMatcher (drop at page)
         is-pattern e = sym (by-form e ∙ rw (← name, ← value, ← flag))
 
-        pub is-negated : (getD page at 0 ≡ 0 → ⊥) → (getD page at 0 ≡ 1 → ⊥) → (getD page at 0 ≡ 2 → ⊥) → got (matcherOf (notRe b) n v) w ≡ readMatcher (drop at page)
+        pub is-negated : (getD page at 0 ≡ 0 → ⊥) → (getD page at 0 ≡ 1 → ⊥) → (getD page at 0 ≡ 2 → ⊥)
+            → got (matcherOf (notRe b) n v) w ≡ readMatcher (drop at page)
         is-negated none one two = sym (by-form {op = 3} (omega (arith, none, one, two, operator-few)) ∙ rw (← name, ← value, ← flag))

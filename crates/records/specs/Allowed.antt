@@ -15,7 +15,8 @@ use Rattle.records.specs.Matcher.{Matcher, Selector}
 use Rattle.records.specs.Modifier.{LabelModifier, include, exclude, Cardinality, oneToOne, manyToMany, manyToOne, oneToMany, BinModifier}
 use Rattle.records.specs.Time.{Offset, pos, neg, AtModifier, start, end, after, before}
 use Rattle.records.specs.Signature.{Variadic, fixed, unlimited, upTo, Function}
-use Rattle.records.specs.Record.{Leaf, number, string, selector, Wrapper, range, subquery, at, offset, unary, paren, Record, leaf, wrapper, binary, aggregate, call}
+use Rattle.records.specs.Record.{Leaf, number, string, selector, Wrapper, range, subquery, at, offset, unary}
+use Rattle.records.specs.Record.{paren, Record, leaf, wrapper, binary, aggregate, call}
 
 -- ## Fields
 

@@ -53,5 +53,7 @@ pub record ListFacts (ms : List matcher.Matcher) (named empty : Bool) : Type 0 w
 
 -- the facts are those of the list, and all of its matchers can be read again
 abbrev pub matchersStored : List ℕ → Matchers → Type 0
-matchersStored page (matchers-answer.Got list named empty next) = ListFacts (matchersOn page (list .start) (list .count)) named empty × AllRead matcher.readMatcher (list .count) (drop (list .start) page)
+matchersStored page (matchers-answer.Got list named empty next) =
+    ListFacts (matchersOn page (list .start) (list .count)) named empty
+    × AllRead matcher.readMatcher (list .count) (drop (list .start) page)
 matchersStored page (matchers-answer.Bad f) = Unit {0}

@@ -53,7 +53,16 @@ module _ {tags : List ℕ} {values : List Float} (sized : Sized tags values) (co
   plain-one has one h operand = rw (has, one, operands-first tags values sized top 0 (omega arith), add-zero top, ← operand)
 
   pub parameter-two : hasParameter code ≡ true → count ≡ 2 → top + count ≤ 256
-      → {j k : Kind} → j ≡ operandKind (getD (heldOperands tags values) (top + 1) stringOperand) → k ≡ operandKind (getD (heldOperands tags values) top stringOperand)
+      → {j k : Kind} → j ≡ operandKind (getD (heldOperands tags values) (top + 1) stringOperand)
+      → k ≡ operandKind (getD (heldOperands tags values) top stringOperand)
       → put (aggregateRows code (some j) k) (otherOperand vector) ≡ judgeAggregate code kinds
   parameter-two has two h parameter operand =
-      rw (has, two, operands-first tags values sized top 1 (omega arith), operands-first tags values sized top 0 (omega arith), add-zero top, ← parameter, ← operand)
+      rw (
+        has,
+        two,
+        operands-first tags values sized top 1 (omega arith),
+        operands-first tags values sized top 0 (omega arith),
+        add-zero top,
+        ← parameter,
+        ← operand,
+      )

@@ -57,7 +57,8 @@ heldOperands-getD (f ∷ fs) [] i d g y h l = absurd (let z : ⊥ = omega arith 
 heldOperands-getD (f ∷ fs) (x ∷ xs) zero d g y h l = refl
 heldOperands-getD (f ∷ fs) (x ∷ xs) (suc i) d g y h l = heldOperands-getD fs xs i d g y (omega arith) (omega arith)
 
-pub heldOperands-set : (fs : List ℕ) (xs : List Float) (i : ℕ) (f : ℕ) (x : Float) → heldOperands (set fs i f) (set xs i x) ≡ set (heldOperands fs xs) i (operandFrom f x)
+pub heldOperands-set : (fs : List ℕ) (xs : List Float) (i : ℕ) (f : ℕ) (x : Float)
+    → heldOperands (set fs i f) (set xs i x) ≡ set (heldOperands fs xs) i (operandFrom f x)
 heldOperands-set [] xs i f x = refl
 heldOperands-set (g ∷ fs) [] zero f x = refl
 heldOperands-set (g ∷ fs) [] (suc i) f x = refl
@@ -81,15 +82,20 @@ module _ (tags : List ℕ) (values : List Float) (sized : Sized tags values) whe
   pub stack-empty : (top : ℕ) → 256 ≤ top → drop top (heldOperands tags values) ≡ []
   stack-empty top h = drop-of-length-le (heldOperands tags values) {i = top} (rw heldOperands-size h)
 
-  pub stack-top : (top : ℕ) → top < 256 → drop top (heldOperands tags values) ≡ getD (heldOperands tags values) top stringOperand ∷ drop (top + 1) (heldOperands tags values)
+  pub stack-top : (top : ℕ) → top < 256
+      → drop top (heldOperands tags values)
+      ≡ getD (heldOperands tags values) top stringOperand ∷ drop (top + 1) (heldOperands tags values)
   stack-top top h = rw add-one (drop-cons (heldOperands tags values) top stringOperand (rw heldOperands-size h))
 
   -- the operands of a record
   pub operands-size : (top n : ℕ) → top + n ≤ 256 → length (operandsOf n (drop top (heldOperands tags values))) ≡ n
-  operands-size top n h = length-reverse (take n (drop top (heldOperands tags values))) ∙ length-take-le n (drop top (heldOperands tags values)) (rw (stack-size top) (omega arith))
+  operands-size top n h = length-reverse (take n (drop top (heldOperands tags values)))
+      ∙ length-take-le n (drop top (heldOperands tags values)) (rw (stack-size top) (omega arith))
 
   -- the first of n + 1 operands lies deepest
   pub operands-first : (top n : ℕ) → top + (n + 1) ≤ 256
-      → operandsOf (n + 1) (drop top (heldOperands tags values)) ≡ getD (heldOperands tags values) (top + n) stringOperand ∷ operandsOf n (drop top (heldOperands tags values))
+      → operandsOf (n + 1) (drop top (heldOperands tags values))
+      ≡ getD (heldOperands tags values) (top + n) stringOperand
+      ∷ operandsOf n (drop top (heldOperands tags values))
   operands-first top n h =
       rw (add-one, take-suc (drop top (heldOperands tags values)) n stringOperand (rw (stack-size top) (omega arith)), reverse-append, getD-drop)

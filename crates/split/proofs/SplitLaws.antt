@@ -27,15 +27,24 @@ over-line n r e h = omega arith
 
 -- ## On one line
 
-module _ {page starts firsts : List ℕ} {i : ℕ} (t : Tables page starts firsts (suc i)) (indents : Bool) (level : ℕ) (h : length (display (treeAt page i)) ≤ 100) where
-  pub len-line : (cap line lead r : ℕ) → line ≡ min (length (display (treeAt page i))) 101 → lead ≡ min (length (indentIf indents level)) cap → r ≡ min (lead + line) cap
+module _ {page starts firsts : List ℕ} {i : ℕ} (t : Tables page starts firsts (suc i)) (indents : Bool) (level : ℕ)
+    (h : length (display (treeAt page i)) ≤ 100) where
+  pub len-line : (cap line lead r : ℕ) → line ≡ min (length (display (treeAt page i))) 101
+      → lead ≡ min (length (indentIf indents level)) cap → r ≡ min (lead + line) cap
       → r ≡ min (length (prettyIndented indents level (treeAt page i))) cap
-  len-line cap line lead r e p q = omega (arith, h, ap length (prettyIndented-line t indents level h) ∙ length-append (indentIf indents level) (display (treeAt page i)))
+  len-line cap line lead r e p q = omega (
+    arith,
+    h,
+    ap length (prettyIndented-line t indents level h)
+        ∙ length-append (indentIf indents level) (display (treeAt page i)),
+  )
 
   pub run-line : (o : List ℕ) (at : ℕ) → at + length (prettyIndented indents level (treeAt page i)) ≤ length o
       → Run o o at (prettyIndented indents level (treeAt page i)) (indentIf indents level ∷ display (treeAt page i) ∷ []) at
   unfolding join
-  run-line o at room = start room (prettyIndented-line t indents level h ∙ ap (λ (s : List ℕ). indentIf indents level ++ s) (sym (append-nil (display (treeAt page i)))))
+  run-line o at room = start room
+      (prettyIndented-line t indents level h
+      ∙ ap (λ (s : List ℕ). indentIf indents level ++ s) (sym (append-nil (display (treeAt page i)))))
 
 -- ## By pieces
 
@@ -43,13 +52,19 @@ module _ {page starts firsts : List ℕ} {i : ℕ} {own : Layout} {end count : �
     (indents : Bool) (level : ℕ) (h : 100 < length (display (treeAt page i))) where
   pub len-split : (gap cap x y z : ℕ) → x ≡ min (length (frontAt indents level own)) cap
       → gap ≡ min (length (betweenAt level own)) (cap - x)
-      → Measured (λ separator. joined separator (prettyIndented (innerIndents indents own) (innerLevel level own)) (prettyIndented true (innerLevel level own)) (operandsOf count (stackAt page end))) gap (cap - x) y
+      → Measured
+      (λ separator. joined separator (prettyIndented (innerIndents indents own) (innerLevel level own))
+      (prettyIndented true (innerLevel level own)) (operandsOf count (stackAt page end))) gap (cap - x) y
       → z ≡ min (length (rearAt level own)) (cap - x - y)
       → x + y + z ≡ min (length (prettyIndented indents level (treeAt page i))) cap
   len-split gap cap x y z a b c d =
-      len-node (prettyIndented (innerIndents indents own) (innerLevel level own)) (prettyIndented true (innerLevel level own)) _ (frontAt indents level own) (betweenAt level own) (rearAt level own)
+      len-node (prettyIndented (innerIndents indents own) (innerLevel level own))
+      (prettyIndented true (innerLevel level own)) _ (frontAt indents level own) (betweenAt level own)
+      (rearAt level own)
       (prettyIndented-pieces s t indents level h) gap cap x y z a b c d
 
   pub run-split : (o : List ℕ) (at : ℕ) → at + length (prettyIndented indents level (treeAt page i)) ≤ length o
-      → Run o o at (prettyIndented indents level (treeAt page i)) (frontAt indents level own ∷ operandsAt own indents level count page end ∷ rearAt level own ∷ []) at
-  run-split o at room = run-three (frontAt indents level own) (operandsAt own indents level count page end) (rearAt level own) o at (prettyIndented-pieces s t indents level h) room
+      → Run o o at (prettyIndented indents level (treeAt page i))
+      (frontAt indents level own ∷ operandsAt own indents level count page end ∷ rearAt level own ∷ []) at
+  run-split o at room = run-three (frontAt indents level own) (operandsAt own indents level count page end)
+      (rearAt level own) o at (prettyIndented-pieces s t indents level h) room

@@ -29,7 +29,8 @@ capped-pieces f j r cap x y z p q s =
 fits : (n gap left : ℕ) → n ≡ gap → gap < left → gap ≡ min n left
 fits n gap left e h = omega arith
 
-module _ (joined· separator last· : List ℕ) (cap gap last : ℕ) (same : min (length separator) cap ≡ min gap cap) (measured : last ≡ min (length last·) cap) where
+module _ (joined· separator last· : List ℕ) (cap gap last : ℕ) (same : min (length separator) cap ≡ min gap cap)
+    (measured : last ≡ min (length last·) cap) where
   all : length (joined· ++ (separator ++ last·)) ≡ length joined· + (length separator + length last·)
   all = length-append joined· (separator ++ last·) ∙ ap (λ (n : ℕ). length joined· + n) (length-append separator last·)
 
@@ -41,10 +42,12 @@ module _ (joined· separator last· : List ℕ) (cap gap last : ℕ) (same : min
   pub capped-separator : gap < cap - last → length separator ≡ gap
   capped-separator h = omega arith
 
-  pub capped-more : (rest : ℕ) → gap < cap - last → rest ≡ min (length joined·) (cap - last - gap) → last + gap + rest ≡ min (length (joined· ++ (separator ++ last·))) cap
+  pub capped-more : (rest : ℕ) → gap < cap - last → rest ≡ min (length joined·) (cap - last - gap)
+      → last + gap + rest ≡ min (length (joined· ++ (separator ++ last·))) cap
   capped-more rest h r =
       let two = capped-then (length last·) (length separator) cap last gap measured (fits (length separator) gap (cap - last) (capped-separator h) h) in
-      let three = capped-then (length last· + length separator) (length joined·) cap (last + gap) rest two (r ∙ ap (min (length joined·)) (left cap last gap)) in
+      let three = capped-then (length last· + length separator) (length joined·) cap (last + gap) rest two
+      (r ∙ ap (min (length joined·)) (left cap last gap)) in
       three ∙ ap (λ (n : ℕ). min n cap) (sum _ (length joined·) (length separator) (length last·) all)
     where
       left : (cap last gap : ℕ) → cap - last - gap ≡ cap - (last + gap)
@@ -54,7 +57,8 @@ module _ (joined· separator last· : List ℕ) (cap gap last : ℕ) (same : min
       sum n a b c e = omega arith
 
 -- whatever the separator, the cap bounds the length
-pub measured-of : (text : List ℕ → List ℕ) (gap cap r : ℕ) → ((separator : List ℕ) → min (length separator) cap ≡ min gap cap → r ≡ min (length (text separator)) cap)
+pub measured-of : (text : List ℕ → List ℕ) (gap cap r : ℕ)
+    → ((separator : List ℕ) → min (length separator) cap ≡ min gap cap → r ≡ min (length (text separator)) cap)
     → Measured text gap cap r
 measured-of text gap cap r h =
     record { bound = omega (arith, h (replicate gap 0) (ap (λ (n : ℕ). min n cap) (length-replicate {A = ℕ} gap 0))); is = h }

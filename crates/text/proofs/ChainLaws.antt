@@ -7,7 +7,8 @@ use mathlib.Core.Option.{Option, none, some}
 use Rattle.records.specs.Time.{Times, AtModifier, Offset}
 use Rattle.records.specs.Record.{Wrapper, range, at, offset, wrapper}
 use Rattle.ast.specs.Refusal.{ok}
-use Rattle.ast.specs.Expr.{Expr, Aggregate, AggregateParam, Unary, Binary, Paren, Subquery, NumberLiteral, StringLiteral, VectorSelector, MatrixSelector, Call, timesOf, withTimes}
+use Rattle.ast.specs.Expr.{Expr, Aggregate, AggregateParam, Unary, Binary, Paren, Subquery, NumberLiteral}
+use Rattle.ast.specs.Expr.{StringLiteral, VectorSelector, MatrixSelector, Call, timesOf, withTimes}
 use Rattle.ast.specs.Construct.{newMatrixSelector, atExpr, offsetExpr, noTimes}
 use Rattle.ast.specs.CheckPage.{wrap}
 use Rattle.ast.specs.Tables.{treeAt, Tables}
@@ -51,7 +52,8 @@ at-settled a n u e node =
     let is : node ≡ withTimes (withAt a t) e = cc in
     rw is (settled-times n u (withAt a t) (withAt a u) e t q (rw free)))
 
-pub offset-settled : (o : Offset) (n : Option ℕ) (u : Times) (e node : Expr) → offsetExpr o e ≡ ok node → settled n u (checkedExpr node) ≡ settled n (withOffset o u) e
+pub offset-settled : (o : Offset) (n : Option ℕ) (u : Times) (e node : Expr) → offsetExpr o e ≡ ok node
+    → settled n u (checkedExpr node) ≡ settled n (withOffset o u) e
 offset-settled o n u e node =
     offsetExpr-by (λ made. made ≡ ok node → settled n u (checkedExpr node) ≡ settled n (withOffset o u) e) o e (λ h. cc) (λ h. cc)
     (λ t q free h.

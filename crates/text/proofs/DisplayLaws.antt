@@ -7,7 +7,8 @@ use mathlib.Core.Option.{Option, none, some}
 use Rattle.page.specs.Bytes.{pick, bytes, join}
 use Rattle.records.specs.Code.{token, isSetOperator}
 use Rattle.records.specs.Modifier.{BinModifier, Cardinality, oneToOne, manyToMany, manyToOne, oneToMany}
-use Rattle.ast.specs.Expr.{Expr, Args, noArgs, arg, Aggregate, AggregateParam, Unary, Binary, Paren, Subquery, NumberLiteral, StringLiteral, VectorSelector, MatrixSelector, Call}
+use Rattle.ast.specs.Expr.{Expr, Args, noArgs, arg, Aggregate, AggregateParam, Unary, Binary, Paren, Subquery}
+use Rattle.ast.specs.Expr.{NumberLiteral, StringLiteral, VectorSelector, MatrixSelector, Call}
 use Rattle.ast.specs.CheckAst.{manyToManyOf, setOperatorModifier, checkedModifier}
 use Rattle.text.specs.Display.{display, displayAll, displayOperator, displayModifier, optional}
 use Rattle.text.specs.Layout.{layoutOf, argsList, children, front, between, rear, joined}
@@ -44,7 +45,14 @@ displayOperator-checked c m = by (isSetOperator c)
     prints none = refl
     prints (some k) = card (k .card)
       where
-        card : (r : Cardinality) → displayModifier (record { returnBool = k .returnBool; matching = k .matching; card = manyToManyOf r; fillValues = k .fillValues })
+        card : (r : Cardinality)
+            → displayModifier
+            (record {
+              returnBool = k .returnBool;
+              matching = k .matching;
+              card = manyToManyOf r;
+              fillValues = k .fillValues;
+            })
             ≡ displayModifier (record { returnBool = k .returnBool; matching = k .matching; card = r; fillValues = k .fillValues })
         card oneToOne = refl
         card manyToMany = refl

@@ -14,7 +14,8 @@ use Rattle.page.specs.Read.{got}
 use Rattle.records.specs.Literal.{Literal, negate}
 use Rattle.records.specs.Record.{Leaf, number, string, selector, Wrapper, unary, Record, leaf, wrapper, operands, readPage}
 use Rattle.ast.specs.Refusal.{ok}
-use Rattle.ast.specs.Expr.{Expr, Aggregate, AggregateParam, Unary, Binary, Paren, Subquery, NumberLiteral, StringLiteral, VectorSelector, MatrixSelector, Call, scalarValue}
+use Rattle.ast.specs.Expr.{Expr, Aggregate, AggregateParam, Unary, Binary, Paren, Subquery, NumberLiteral}
+use Rattle.ast.specs.Expr.{StringLiteral, VectorSelector, MatrixSelector, Call, scalarValue}
 use Rattle.ast.specs.Construct.{newUnary}
 use Rattle.ast.specs.CheckPage.{leafExpr, wrap, apply}
 use Rattle.ast.specs.Tables.{newest as newestEntry, stackAt, treeAt, Entry, Tables}

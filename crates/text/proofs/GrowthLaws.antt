@@ -24,7 +24,8 @@ use Rattle.records.specs.Allowed.{IsLeaf, IsWrapper, IsOptionOf, IsBinModifier}
 use Rattle.leaves.specs.Duration.{displayDuration}
 use Rattle.leaves.proofs.LengthLaws.{quote-short, displayLiteral-short}
 use Rattle.ast.specs.Refusal.{ok}
-use Rattle.ast.specs.Expr.{Expr, Aggregate, AggregateParam, Unary, Binary, Paren, Subquery, NumberLiteral, StringLiteral, VectorSelector, MatrixSelector, Call, argsOf, scalarValue}
+use Rattle.ast.specs.Expr.{Expr, Aggregate, AggregateParam, Unary, Binary, Paren, Subquery, NumberLiteral}
+use Rattle.ast.specs.Expr.{StringLiteral, VectorSelector, MatrixSelector, Call, argsOf, scalarValue}
 use Rattle.ast.specs.Construct.{newAggregateOf, noTimes}
 use Rattle.ast.specs.CheckAst.{checkedModifier}
 use Rattle.ast.specs.CheckPage.{leafExpr, wrap}
@@ -36,7 +37,8 @@ use Rattle.text.proofs.TreeLaws.{checkedExpr}
 use Rattle.text.proofs.EntryLaws.{negated, UnaryOf, unary-of}
 use Rattle.text.proofs.LaidOutLaws.{number-is}
 use Rattle.text.proofs.ChainLaws.{settled-nothing, range-settled, at-settled, offset-settled}
-use Rattle.text.proofs.ShortLaws.{displayOperator-short, displayRange-short, at-times-short, offset-times-short, displaySuffix-short, times-short, displayLiteral-negate, displaySelector-short}
+use Rattle.text.proofs.ShortLaws.{displayOperator-short, displayRange-short, at-times-short, offset-times-short}
+use Rattle.text.proofs.ShortLaws.{displaySuffix-short, times-short, displayLiteral-negate, displaySelector-short}
 
 -- the texts of expressions, each with a separator
 unfoldable pub total : List Expr → ℕ
@@ -93,7 +95,8 @@ unfolding display total
 paren-short e = omega (arith, enclosed-short [] (e ∷ []))
 
 -- a range, @ and offset settled on a tree: its text gets no longer than by theirs
-settled-short : (n : Option ℕ) (u : Times) (e : Expr) → length (display (settled n u e)) ≤ length (display e) + length (displayRange n) + length (displayTimes u)
+settled-short : (n : Option ℕ) (u : Times) (e : Expr)
+    → length (display (settled n u e)) ≤ length (display e) + length (displayRange n) + length (displayTimes u)
 unfolding settled display
 settled-short n u (Aggregate c m e) = omega arith
 settled-short n u (AggregateParam c m p e) = omega arith

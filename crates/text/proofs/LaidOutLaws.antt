@@ -19,7 +19,8 @@ use Rattle.records.specs.Record.{number, string, selector, Wrapper, subquery, u
 use Rattle.leaves.specs.Numeral.{displayLiteral}
 use Rattle.leaves.specs.Escape.{quote}
 use Rattle.ast.specs.Refusal.{ok}
-use Rattle.ast.specs.Expr.{Expr, Aggregate, AggregateParam, Unary, Binary, Paren, Subquery, NumberLiteral, StringLiteral, VectorSelector, MatrixSelector, Call, argsOf, scalarValue}
+use Rattle.ast.specs.Expr.{Expr, Aggregate, AggregateParam, Unary, Binary, Paren, Subquery, NumberLiteral}
+use Rattle.ast.specs.Expr.{StringLiteral, VectorSelector, MatrixSelector, Call, argsOf, scalarValue}
 use Rattle.ast.specs.Construct.{newAggregateOf, noTimes}
 use Rattle.ast.specs.CheckAst.{checkedModifier}
 use Rattle.ast.specs.CheckPage.{wrap}
@@ -50,7 +51,8 @@ number-is (MatrixSelector s x r) l h = cc
 number-is (Call f es) l h = cc
 
 -- a node without operands
-leaf-laidOut : (page : List ℕ) (i j : ℕ) (text : List ℕ) (e : Expr) → treeAt page i ≡ e → layoutOf e ≡ whole text → children e ≡ [] → j ≤ i → LaidOut page i (whole text) j 0
+leaf-laidOut : (page : List ℕ) (i j : ℕ) (text : List ℕ) (e : Expr) → treeAt page i ≡ e → layoutOf e ≡ whole text
+    → children e ≡ [] → j ≤ i → LaidOut page i (whole text) j 0
 leaf-laidOut page i j text e tree own none· low =
     record { layout = ap layoutOf tree ∙ own; operands = ap children tree ∙ none·; enough = zero-le; low = low; unsigned = λ k. absurd (never k) }
   where
@@ -70,7 +72,8 @@ module _ {page starts firsts : List ℕ} {i : ℕ} (t : Tables page starts first
   unfolding settled
   laidOut-string x is = leaf-laidOut page i j (quote x) (StringLiteral x) (chain ∙ ap (settled n u) (leaf-tree below (string x) is)) refl refl low
 
-  pub laidOut-selector : (s : Selector) → Reads page starts j (leaf (selector s)) → LaidOut page i (whole (displaySelector s ++ (displayRange n ++ displayTimes u))) j 0
+  pub laidOut-selector : (s : Selector) → Reads page starts j (leaf (selector s))
+      → LaidOut page i (whole (displaySelector s ++ (displayRange n ++ displayTimes u))) j 0
   unfolding settled
   laidOut-selector s is = leaf-laidOut page i j _ (ranged n s u) (chain ∙ ap (settled n u) (leaf-tree below (selector s) is)) (own n) (none· n) low
     where
@@ -138,7 +141,8 @@ module _ {page starts firsts : List ℕ} {i : ℕ} (t : Tables page starts first
       none-inside (some l) h = cc
 
   -- on so many operands, all kept as the node's
-  many-laidOut : (count : ℕ) (own : Layout) (e : Expr) → treeAt page j ≡ e → settled n u e ≡ e → layoutOf e ≡ own → children e ≡ operandsOf count (stackAt page j)
+  many-laidOut : (count : ℕ) (own : Layout) (e : Expr) → treeAt page j ≡ e → settled n u e ≡ e → layoutOf e ≡ own
+      → children e ≡ operandsOf count (stackAt page j)
       → count ≤ length (stackAt page j) → (own ≡ negation → ⊥) → LaidOut page i own j count
   many-laidOut count own e made same is holds few not· =
       let tree : treeAt page i ≡ e = chain ∙ ap (settled n u) made ∙ same in
@@ -171,7 +175,8 @@ module _ {page starts firsts : List ℕ} {i : ℕ} (t : Tables page starts first
       back [] = refl
       back (e ∷ es) = ap (λ (r : List Expr). e ∷ r) (back es)
 
-  pub laidOut-aggregate : (c : ℕ) (m : Option LabelModifier) (count : ℕ) → Reads page starts j (aggregate c m count) → LaidOut page i (enclosed (displayAggregator c m)) j count
+  pub laidOut-aggregate : (c : ℕ) (m : Option LabelModifier) (count : ℕ) → Reads page starts j (aggregate c m count)
+      → LaidOut page i (enclosed (displayAggregator c m)) j count
   unfolding settled
   laidOut-aggregate c m count is =
       let p = aggregate-ok c m count (stackAt page j) _ (applies below is) in
@@ -183,7 +188,9 @@ module _ {page starts firsts : List ℕ} {i : ℕ} (t : Tables page starts first
       never k = let z : _≡_ {A = ℕ} 0 1 = cc in omega arith
 
       shape : (b : Bool) (es : List Expr) (node : Expr) → newAggregateOf b c m es ≡ ok node
-          → (settled n u (checkedExpr node) ≡ checkedExpr node) × (layoutOf (checkedExpr node) ≡ enclosed (displayAggregator c m)) × (children (checkedExpr node) ≡ es)
+          → (settled n u (checkedExpr node) ≡ checkedExpr node)
+          × (layoutOf (checkedExpr node) ≡ enclosed (displayAggregator c m))
+          × (children (checkedExpr node) ≡ es)
       shape true [] node h = absurd (let z : _≡_ {A = ℕ} 0 1 = cc in omega arith)
       shape false [] node h = absurd (let z : _≡_ {A = ℕ} 0 1 = cc in omega arith)
       shape true (p ∷ []) node h = absurd (let z : _≡_ {A = ℕ} 0 1 = cc in omega arith)

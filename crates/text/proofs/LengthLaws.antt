@@ -13,7 +13,8 @@ use Rattle.text.specs.Measured.{Measured}
 use Rattle.text.proofs.OperandLaws.{Newest, operands-some, operands-fewer, operands-none, operands-one, operands-more}
 use Rattle.text.proofs.CappedLaws.{capped-pieces, capped-full, capped-separator, capped-more, measured-of, own-gap}
 
-module _ (first other : Expr → List ℕ) {page starts firsts : List ℕ} {end : ℕ} (t : Tables page starts firsts end) (count : ℕ) (enough : count ≤ length (stackAt page end)) where
+module _ (first other : Expr → List ℕ) {page starts firsts : List ℕ} {end : ℕ} (t : Tables page starts firsts end)
+    (count : ℕ) (enough : count ≤ length (stackAt page end)) where
   abbrev Text : List ℕ → List ℕ
   Text separator = joined separator first other (operandsOf count (stackAt page end))
 
@@ -28,10 +29,15 @@ module _ (first other : Expr → List ℕ) {page starts firsts : List ℕ} {end 
       measured-of Text gap cap last (λ separator k. e ∙ ap (λ (s : List ℕ). min (length s) cap) (sym (operands-one separator first other t count enough z)))
 
   module _ (n0 : count ≡ 0 → ⊥) (n1 : count ≡ 1 → ⊥) (gap cap last : ℕ) (measured : last ≡ min (length (other (treeAt page (end - 1)))) cap) where
-    more : (r : ℕ) → ((separator : List ℕ) → min (length separator) cap ≡ min gap cap → r ≡ min (length (Others separator ++ (separator ++ other (treeAt page (end - 1))))) cap)
+    more : (r : ℕ)
+        → ((separator : List ℕ) → min (length separator) cap ≡ min gap cap
+        → r ≡ min (length (Others separator ++ (separator ++ other (treeAt page (end - 1))))) cap)
         → Measured Text gap cap r
     more r h =
-        measured-of Text gap cap r (λ separator e. h separator e ∙ ap (λ (s : List ℕ). min (length s) cap) (sym (operands-more separator first other t count enough n0 n1)))
+        measured-of Text gap cap r
+        (λ separator e. h separator e
+        ∙ ap (λ (s : List ℕ). min (length s) cap)
+        (sym (operands-more separator first other t count enough n0 n1)))
 
     pub len-full : cap - last ≤ gap → Measured Text gap cap cap
     len-full h = more cap (λ separator e. capped-full (Others separator) separator (other (treeAt page (end - 1))) cap gap last e measured h)
@@ -47,7 +53,8 @@ module _ (first other : Expr → List ℕ) {page starts firsts : List ℕ} {end 
             capped-more (Others separator) separator text cap gap last e measured rest h (others .is separator (ap (λ (n : ℕ). min n (cap - last - gap)) size))
 
 -- a text of three pieces, the operands in the middle
-pub len-node : (first other : Expr → List ℕ) (es : List Expr) {text : List ℕ} (front between rear : List ℕ) → text ≡ front ++ (joined between first other es ++ rear)
+pub len-node : (first other : Expr → List ℕ) (es : List Expr) {text : List ℕ} (front between rear : List ℕ)
+    → text ≡ front ++ (joined between first other es ++ rear)
     → (gap cap x y z : ℕ) → x ≡ min (length front) cap → gap ≡ min (length between) (cap - x)
     → Measured (λ separator. joined separator first other es) gap (cap - x) y → z ≡ min (length rear) (cap - x - y)
     → x + y + z ≡ min (length text) cap

@@ -23,15 +23,19 @@ module _ {page : List ℕ} {i : ℕ} {own : Layout} {end count : ℕ} (s : LaidO
       ∙ ap₂ (λ (o : Layout) (es : List Expr). front o ++ (joined (between o) display display es ++ rear o)) (s .layout) (s .operands)
 
   -- a node longer than a line
-  pub prettyIndented-pieces : {starts firsts : List ℕ} → Tables page starts firsts (suc i) → (indents : Bool) (level : ℕ) → maxCharactersPerLine < length (display (treeAt page i))
+  pub prettyIndented-pieces : {starts firsts : List ℕ} → Tables page starts firsts (suc i)
+      → (indents : Bool) (level : ℕ) → maxCharactersPerLine < length (display (treeAt page i))
       → prettyIndented indents level (treeAt page i)
       ≡ frontAt indents level own
-      ++ (joined (betweenAt level own) (prettyIndented (innerIndents indents own) (innerLevel level own)) (prettyIndented true (innerLevel level own)) (operandsOf count (stackAt page end)) ++ rearAt level own)
+      ++ (joined (betweenAt level own) (prettyIndented (innerIndents indents own) (innerLevel level own))
+      (prettyIndented true (innerLevel level own)) (operandsOf count (stackAt page end)) ++ rearAt level own)
   prettyIndented-pieces t indents level h =
       long (treeAt page i) (tree-sound t i (omega arith)) level h indents
       ∙ ap₂
       (λ (o : Layout) (es : List Expr).
-      frontAt indents level o ++ (joined (betweenAt level o) (prettyIndented (innerIndents indents o) (innerLevel level o)) (prettyIndented true (innerLevel level o)) es ++ rearAt level o))
+      frontAt indents level o
+      ++ (joined (betweenAt level o) (prettyIndented (innerIndents indents o) (innerLevel level o))
+      (prettyIndented true (innerLevel level o)) es ++ rearAt level o))
       (s .layout)
       (s .operands)
 

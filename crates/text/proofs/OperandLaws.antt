@@ -19,7 +19,9 @@ module _ (separator : List ℕ) (first other : Expr → List ℕ) where
   joinRest-last [] e = append-nil _
   joinRest-last (x ∷ es) e = ap (λ (t : List ℕ). separator ++ other x ++ t) (joinRest-last es e) ∙ sym (append-assoc (separator ++ other x) _ _)
 
-  joined-last : (x : Expr) (es : List Expr) (e : Expr) → joined separator first other ((x ∷ es) ++ (e ∷ [])) ≡ joined separator first other (x ∷ es) ++ (separator ++ other e)
+  joined-last : (x : Expr) (es : List Expr) (e : Expr)
+      → joined separator first other ((x ∷ es) ++ (e ∷ []))
+      ≡ joined separator first other (x ∷ es) ++ (separator ++ other e)
   unfolding joined
   joined-last x es e = ap (λ (t : List ℕ). first x ++ t) (joinRest-last es e) ∙ sym (append-assoc (first x) _ _)
 
@@ -72,7 +74,9 @@ module _ (separator : List ℕ) (first other : Expr → List ℕ) where
       none (x ∷ l) g = let z : _≡_ {A = ℕ} 0 1 = cc in omega arith
 
       -- the operands below e are not none
-      some : (es : List Expr) → es ≡ operandsOf m s ++ (a ∷ []) → joined separator first other (es ++ (e ∷ [])) ≡ joined separator first other es ++ (separator ++ other e)
+      some : (es : List Expr) → es ≡ operandsOf m s ++ (a ∷ [])
+          → joined separator first other (es ++ (e ∷ []))
+          ≡ joined separator first other es ++ (separator ++ other e)
       some [] k = absurd (none (operandsOf m s) k)
       some (x ∷ es) k = joined-last separator first other x es e
 

@@ -8,10 +8,12 @@ use mathlib.Core.List.{List, [], _∷_, _++_, map, append-assoc, append-nil}
 use borrow.Author.Tests.{lt-ltb, le-ltb}
 use lib.ListN.{length, length-append}
 use Rattle.page.specs.Bytes.{pick, bytes, join, joinRest}
-use Rattle.ast.specs.Expr.{Expr, Args, noArgs, arg, Aggregate, AggregateParam, Unary, Binary, Paren, Subquery, NumberLiteral, StringLiteral, VectorSelector, MatrixSelector, Call}
+use Rattle.ast.specs.Expr.{Expr, Args, noArgs, arg, Aggregate, AggregateParam, Unary, Binary, Paren, Subquery}
+use Rattle.ast.specs.Expr.{NumberLiteral, StringLiteral, VectorSelector, MatrixSelector, Call}
 use Rattle.text.specs.Display.{display, displayAggregator, displayOperator, displaySuffix}
 use Rattle.text.specs.Pretty.{maxCharactersPerLine, indent, trimStart, needsSplit, enclosedLines, pretty, prettyAll}
-use Rattle.text.specs.Layout.{Layout, layoutOf, argsList, children, indentIf, frontAt, betweenAt, rearAt, innerIndents, innerLevel, prettyIndented, joined}
+use Rattle.text.specs.Layout.{Layout, layoutOf, argsList, children, indentIf, frontAt, betweenAt, rearAt}
+use Rattle.text.specs.Layout.{innerIndents, innerLevel, prettyIndented, joined}
 use Rattle.text.proofs.TrimLaws.{Begins, begins, begins-append, trim-indent, trim-append, Sound, display-begins}
 
 -- ## On one line
@@ -38,19 +40,22 @@ one-line (Call f es) s level h = rw (le-ltb _ _ h)
 -- ## With the first indentation, and without it
 
 -- a text that is its indentation and then begins with no white character: with that indentation or without
-prettyIndented-is : (e : Expr) (level : ℕ) {text : List ℕ} → pretty e level ≡ indent level ++ text → Begins text → (indents : Bool) → prettyIndented indents level e ≡ indentIf indents level ++ text
+prettyIndented-is : (e : Expr) (level : ℕ) {text : List ℕ} → pretty e level ≡ indent level ++ text → Begins text
+    → (indents : Bool) → prettyIndented indents level e ≡ indentIf indents level ++ text
 unfolding prettyIndented
 prettyIndented-is e level p b true = p
 prettyIndented-is e level p b false = ap trimStart p ∙ trim-indent level b
 
 -- the same, where an operand's text stands first
-prettyIndented-first : (e inner : Expr) (level below : ℕ) (rest : List ℕ) → pretty e level ≡ pretty inner below ++ rest → Begins (trimStart (pretty inner below))
+prettyIndented-first : (e inner : Expr) (level below : ℕ) (rest : List ℕ)
+    → pretty e level ≡ pretty inner below ++ rest → Begins (trimStart (pretty inner below))
     → (indents : Bool) → prettyIndented indents level e ≡ prettyIndented indents below inner ++ rest
 unfolding prettyIndented
 prettyIndented-first e inner level below rest p b true = p
 prettyIndented-first e inner level below rest p b false = ap trimStart p ∙ trim-append (pretty inner below) rest b
 
-pub short : (e : Expr) → Sound e → (level : ℕ) → length (display e) ≤ maxCharactersPerLine → (indents : Bool) → prettyIndented indents level e ≡ indentIf indents level ++ display e
+pub short : (e : Expr) → Sound e → (level : ℕ) → length (display e) ≤ maxCharactersPerLine → (indents : Bool)
+    → prettyIndented indents level e ≡ indentIf indents level ++ display e
 short e s level h = prettyIndented-is e level (one-line e s level h) (display-begins e s)
 
 -- ## Operands in brackets
@@ -70,7 +75,9 @@ unfolding pretty prettyIndented
 prettyAll-map noArgs level = refl
 prettyAll-map (arg e es) level = ap (λ (ts : List (List ℕ)). pretty e level ∷ ts) (prettyAll-map es level)
 
-texts-map : (level : ℕ) (es : List Expr) → joined (bytes ",\n") (prettyIndented true level) (prettyIndented true level) es ≡ join (bytes ",\n") (map (prettyIndented true level) es)
+texts-map : (level : ℕ) (es : List Expr)
+    → joined (bytes ",\n") (prettyIndented true level) (prettyIndented true level) es
+    ≡ join (bytes ",\n") (map (prettyIndented true level) es)
 unfolding joined
 texts-map level [] = refl
 texts-map level (e ∷ es) = refl
@@ -131,7 +138,9 @@ Pieces indents level e n =
 
 enclosed-long : (e : Expr) (level : ℕ) (head : List ℕ) (operands : List (List ℕ)) → pretty e level ≡ enclosedLines level head operands
     → Begins (enclosedBody level head operands) → (indents : Bool)
-    → prettyIndented indents level e ≡ (indentIf indents level ++ head ++ bytes "(\n") ++ (join (bytes ",\n") operands ++ (bytes "\n" ++ indent level ++ bytes ")"))
+    → prettyIndented indents level e
+    ≡ (indentIf indents level ++ head ++ bytes "(\n")
+    ++ (join (bytes ",\n") operands ++ (bytes "\n" ++ indent level ++ bytes ")"))
 enclosed-long e level head operands p b indents =
     prettyIndented-is e level (p ∙ enclosed-lines level head operands) b indents ∙ enclosed-pieces indents level head operands
 
@@ -143,7 +152,8 @@ whole-long : (e : Expr) (level : ℕ) (text : List ℕ) → pretty e level ≡ i
     → prettyIndented indents level e ≡ indentIf indents level ++ text ++ []
 whole-long e level text p b indents = prettyIndented-is e level p b indents ∙ sym (append-nil _)
 
-pub long : (e : Expr) → Sound e → (level : ℕ) → maxCharactersPerLine < length (display e) → (indents : Bool) → prettyIndented indents level e ≡ Pieces indents level e (layoutOf e)
+pub long : (e : Expr) → Sound e → (level : ℕ) → maxCharactersPerLine < length (display e) → (indents : Bool)
+    → prettyIndented indents level e ≡ Pieces indents level e (layoutOf e)
 unfolding pretty joined prettyIndented display
 long (Aggregate c m e) s level h indents =
     let operands = pretty e (suc level) ∷ [] in

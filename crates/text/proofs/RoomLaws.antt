@@ -30,7 +30,8 @@ use Rattle.text.proofs.GrowthLaws.{total, total-operands, wrap-short, l
 
 -- ## Records
 
-pushed-total : {made : Result Expr} {below after : List Expr} (p : Pushed made below after) → total after ≡ 2 + length (display (checkedExpr (p .node))) + total below
+pushed-total : {made : Result Expr} {below after : List Expr} (p : Pushed made below after)
+    → total after ≡ 2 + length (display (checkedExpr (p .node))) + total below
 unfolding total
 pushed-total p = ap total (p .stack)
 
@@ -45,7 +46,9 @@ apply-room (wrapper w) [] after a h = refused-never h
 apply-room (wrapper w) (e ∷ s) after a h = let p = wrapper-ok w e s after h in omega (arith, pushed-total p, wrap-short w e (p .node) a (p .makes))
 apply-room (binary c m) [] after a h = refused-never h
 apply-room (binary c m) (r ∷ []) after a h = refused-never h
-apply-room (binary c m) (r ∷ l ∷ s) after a h = let p = binary-ok c m l r s after h in omega (arith, pushed-total p, binary-short c m l r (p .node) (a .1) (p .makes))
+apply-room (binary c m) (r ∷ l ∷ s) after a h =
+    let p = binary-ok c m l r s after h in
+    omega (arith, pushed-total p, binary-short c m l r (p .node) (a .1) (p .makes))
 apply-room (aggregate c m n) s after a h =
     let p = aggregate-ok c m n s after h in
     omega (

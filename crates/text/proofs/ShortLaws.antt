@@ -19,7 +19,8 @@ use Rattle.records.specs.Literal.{Literal, plus, minus, nan, negate, writeLiter
 use Rattle.records.specs.Float.{IsExact}
 use Rattle.records.specs.Field.{Labels, writeFlag, writeOption, writeLabels}
 use Rattle.records.specs.Matcher.{Matcher, Selector, writeMatcher}
-use Rattle.records.specs.Modifier.{LabelModifier, include, exclude, writeLabelModifier, Cardinality, oneToOne, manyToMany, manyToOne, oneToMany, writeCardinality, BinModifier, writeBinModifier}
+use Rattle.records.specs.Modifier.{LabelModifier, include, exclude, writeLabelModifier, Cardinality, oneToOne}
+use Rattle.records.specs.Modifier.{manyToMany, manyToOne, oneToMany, writeCardinality, BinModifier, writeBinModifier}
 use Rattle.records.specs.Time.{Times, AtModifier, Offset}
 use Rattle.records.specs.Allowed.{IsOptionOf, IsFill, IsBinModifier, IsAtModifier, IsOffset}
 use Rattle.leaves.specs.Numeral.{displayNumber, displayLiteral, displayFill}
@@ -29,7 +30,9 @@ use Rattle.leaves.proofs.LengthLaws.{displayFill-short, displayDuration-short, 
 use Rattle.label.specs.Label.{displayLabels, displayMatchers}
 use Rattle.label.proofs.LengthLaws.{displayLabels-short, displayMatchers-short}
 use Rattle.ast.specs.Construct.{noTimes}
-use Rattle.text.specs.Display.{optional, labelled, displayBool, displayMatching, displayCardinality, filled, displayFills, displayModifier, displayOperator, displayGrouping, displayAggregator, displayTimes, displaySuffix, displayBraces, displaySelector}
+use Rattle.text.specs.Display.{optional, labelled, displayBool, displayMatching, displayCardinality, filled}
+use Rattle.text.specs.Display.{displayFills, displayModifier, displayOperator, displayGrouping, displayAggregator}
+use Rattle.text.specs.Display.{displayTimes, displaySuffix, displayBraces, displaySelector}
 use Rattle.text.specs.Layout.{displayRange}
 use Rattle.text.specs.Chain.{orElse, overlaid, withAt, withOffset}
 
@@ -107,7 +110,9 @@ displayModifier-short m h = omega (arith, shown, written)
     shown =
         omega (
           arith,
-          length-append (displayBool (m .returnBool) ++ displayMatching (m .matching) ++ displayCardinality (m .card)) (displayFills (m .fillValues .lhs) (m .fillValues .rhs)),
+          length-append
+              (displayBool (m .returnBool) ++ displayMatching (m .matching) ++ displayCardinality (m .card))
+              (displayFills (m .fillValues .lhs) (m .fillValues .rhs)),
           length-append (displayBool (m .returnBool) ++ displayMatching (m .matching)) (displayCardinality (m .card)),
           length-append (displayBool (m .returnBool)) (displayMatching (m .matching)),
           displayBool-short (m .returnBool),
@@ -127,7 +132,8 @@ displayModifier-short m h = omega (arith, shown, written)
           length-append (writeFlag (m .returnBool)) (writeLabelModifier (m .matching)),
         )
 
-pub displayOperator-short : (c : ℕ) (m : Option BinModifier) → IsOptionOf IsBinModifier m → length (displayOperator c m) ≤ 105 + 4 * length (writeOption writeBinModifier m)
+pub displayOperator-short : (c : ℕ) (m : Option BinModifier) → IsOptionOf IsBinModifier m
+    → length (displayOperator c m) ≤ 105 + 4 * length (writeOption writeBinModifier m)
 displayOperator-short c none h = omega (arith, length-append (token c) [], token-short c)
 displayOperator-short c (some m) h = omega (arith, length-append (token c) (displayModifier m), token-short c, displayModifier-short m h)
 

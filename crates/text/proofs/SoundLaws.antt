@@ -15,7 +15,8 @@ use Rattle.page.specs.Text.{Text, isAlpha, isAlphaNumeric, isLabel, isMetricNam
 use Rattle.records.specs.Stack.{operandsOf}
 use Rattle.records.specs.Code.{isCode, tokens, token, hasParameter}
 use Rattle.records.specs.Matcher.{Matcher, Selector}
-use Rattle.records.specs.Record.{Leaf, number, string, selector, Wrapper, range, subquery, at as atRecord, offset, unary, paren, Record, leaf, wrapper, binary, aggregate, call, operands, readRecord}
+use Rattle.records.specs.Record.{Leaf, number, string, selector, Wrapper, range, subquery, at as atRecord, offset}
+use Rattle.records.specs.Record.{unary, paren, Record, leaf, wrapper, binary, aggregate, call, operands, readRecord}
 use Rattle.page.specs.Allowed.{Each}
 use Rattle.page.proofs.NumberLaws.{left-of, right-of}
 use Rattle.records.specs.Literal.{Literal, negate}
@@ -24,7 +25,8 @@ use Rattle.records.specs.Time.{Times}
 use Rattle.records.specs.Allowed.{IsAllowed}
 use Rattle.records.proofs.AllowedLaws.{readRecord-gives}
 use Rattle.ast.specs.Refusal.{Result, ok, unless, firstFault}
-use Rattle.ast.specs.Expr.{Expr, Args, Aggregate, AggregateParam, Unary, Binary, Paren, Subquery, NumberLiteral, StringLiteral, VectorSelector, MatrixSelector, Call, scalarValue}
+use Rattle.ast.specs.Expr.{Expr, Args, Aggregate, AggregateParam, Unary, Binary, Paren, Subquery, NumberLiteral}
+use Rattle.ast.specs.Expr.{StringLiteral, VectorSelector, MatrixSelector, Call, scalarValue}
 use Rattle.ast.specs.Construct.{newAggregateOf, noTimes}
 use Rattle.ast.specs.CheckAst.{selectorRows, checkAst}
 use Rattle.ast.specs.CheckPage.{leafExpr, wrap, apply}
@@ -65,7 +67,10 @@ label-begins [] h = absurd h
 label-begins (c ∷ cs) h = begins c cs (alpha-high c (left-of (isAlpha c) (all isAlphaNumeric cs) h))
 
 metric-begins : (c : ℕ) (cs : Text) → T (isMetricName (c ∷ cs)) → Begins (c ∷ cs)
-metric-begins c cs h = begins c cs (by (isAlpha c) (eqb c 58) (alpha-high c) (eqb→eq c 58) (left-of (isAlpha c || eqb c 58) (all (λ x. isAlphaNumeric x || eqb x 58) cs) h))
+metric-begins c cs h =
+    begins c cs
+    (by (isAlpha c) (eqb c 58) (alpha-high c) (eqb→eq c 58)
+    (left-of (isAlpha c || eqb c 58) (all (λ x. isAlphaNumeric x || eqb x 58) cs) h))
   where
     by : (x y : Bool) → (T x → 32 < c) → (T y → c ≡ 58) → T (x || y) → 32 < c
     by true y p q g = p tt
@@ -87,7 +92,10 @@ token-test k x = isBeginning (bytes (getD tokens k ""))
 
 token-begins : (c : ℕ) → T (isCode c) → Begins (token c)
 unfolding isBeginning token-test
-token-begins c h = beginning (token c) (at token-test (replicate 30 0) tt (c - 1) (below (leb→le 1 c (left-of (leb 1 c) (leb c 30) h)) (leb→le c 30 (right-of (leb 1 c) (leb c 30) h))))
+token-begins c h =
+    beginning (token c)
+    (at token-test (replicate 30 0) tt (c - 1)
+    (below (leb→le 1 c (left-of (leb 1 c) (leb c 30) h)) (leb→le c 30 (right-of (leb 1 c) (leb c 30) h))))
   where
     below : 1 ≤ c → c ≤ 30 → c - 1 < 30
     below x y = omega arith
@@ -140,7 +148,8 @@ wrap-sound paren e node s h = let same : node ≡ Paren e = cc in rw same tt
 
 -- ## Records
 
-aggregate-sound : (c : ℕ) (m : Option LabelModifier) (b : Bool) (es : List Expr) (node : Expr) → Begins (token c) → newAggregateOf b c m es ≡ ok node → Sound (checkedExpr node)
+aggregate-sound : (c : ℕ) (m : Option LabelModifier) (b : Bool) (es : List Expr) (node : Expr) → Begins (token c)
+    → newAggregateOf b c m es ≡ ok node → Sound (checkedExpr node)
 aggregate-sound c m true [] node w h = absurd (let z : _≡_ {A = ℕ} 0 1 = cc in omega arith)
 aggregate-sound c m false [] node w h = absurd (let z : _≡_ {A = ℕ} 0 1 = cc in omega arith)
 aggregate-sound c m true (p ∷ []) node w h = absurd (let z : _≡_ {A = ℕ} 0 1 = cc in omega arith)
@@ -167,7 +176,8 @@ below-sound zero s h = h
 below-sound (suc n) [] h = h
 below-sound (suc n) (e ∷ s) h = below-sound n s (h .1)
 
-pushed-sound : {made : Result Expr} {below after : List Expr} (p : Pushed made below after) → Sound (checkedExpr (p .node)) → Each Sound below → Each Sound after
+pushed-sound : {made : Result Expr} {below after : List Expr} (p : Pushed made below after)
+    → Sound (checkedExpr (p .node)) → Each Sound below → Each Sound after
 pushed-sound p s below = rw (p .stack) (s, below)
 
 apply-begins : (r : Record) (s after : List Expr) → IsAllowed r → operands r ≤ length s → Each Sound s → apply r s ≡ ok after → Each Sound after

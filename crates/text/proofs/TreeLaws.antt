@@ -14,7 +14,8 @@ use Rattle.records.specs.Modifier.{LabelModifier, BinModifier}
 use Rattle.records.specs.Signature.{Function}
 use Rattle.records.specs.Record.{Leaf, Wrapper, leaf, wrapper, binary, aggregate, call}
 use Rattle.ast.specs.Refusal.{Result, refused, ok, unless, firstFault, andThen}
-use Rattle.ast.specs.Expr.{Expr, Aggregate, AggregateParam, Unary, Binary, Paren, Subquery, NumberLiteral, StringLiteral, VectorSelector, MatrixSelector, Call, argsOf, valueType}
+use Rattle.ast.specs.Expr.{Expr, Aggregate, AggregateParam, Unary, Binary, Paren, Subquery, NumberLiteral}
+use Rattle.ast.specs.Expr.{StringLiteral, VectorSelector, MatrixSelector, Call, argsOf, valueType}
 use Rattle.ast.specs.Construct.{newAggregate}
 use Rattle.ast.specs.CheckAst.{binaryRows, checkedModifier, aggregateRows, callRows, kindsOf, firstLiteral, unaryRows, subqueryRows, selectorRows, checkAst}
 use Rattle.ast.specs.CheckPage.{leafExpr, wrap, push, pushCall, apply}

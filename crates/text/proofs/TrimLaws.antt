@@ -27,7 +27,15 @@ pub begins-append : {t : List ℕ} (u : List ℕ) → Begins t → Begins (t ++ 
 begins-append u (begins c t n) = begins c (t ++ u) n
 
 not-white : (c : ℕ) → 32 < c → any (eqb c) whiteCharacters ≡ false
-not-white c n = simp (other 9 (omega arith), other 10 (omega arith), other 11 (omega arith), other 12 (omega arith), other 13 (omega arith), other 32 (omega arith))
+not-white c n =
+    simp (
+      other 9 (omega arith),
+      other 10 (omega arith),
+      other 11 (omega arith),
+      other 12 (omega arith),
+      other 13 (omega arith),
+      other 32 (omega arith),
+    )
   where
     other : (w : ℕ) → w < c → eqb c w ≡ false
     other w l = ne-eqb c w (λ e. omega arith)

@@ -10,7 +10,8 @@ use Rattle.records.specs.Literal.{Literal, plus, minus, nan}
 use Rattle.records.specs.Time.{Times}
 use Rattle.records.specs.Record.{number, string, selector, Wrapper, range, subquery, at, offset, unary, paren, Record, leaf, wrapper, binary, aggregate, call}
 use Rattle.ast.specs.Refusal.{ok}
-use Rattle.ast.specs.Expr.{Expr, Aggregate, AggregateParam, Unary, Binary, Paren, Subquery, NumberLiteral, StringLiteral, VectorSelector, MatrixSelector, Call, scalarValue}
+use Rattle.ast.specs.Expr.{Expr, Aggregate, AggregateParam, Unary, Binary, Paren, Subquery, NumberLiteral}
+use Rattle.ast.specs.Expr.{StringLiteral, VectorSelector, MatrixSelector, Call, scalarValue}
 use Rattle.ast.specs.Construct.{noTimes}
 use Rattle.ast.specs.CheckPage.{wrap}
 use Rattle.ast.specs.Tables.{treeAt, Tables}
@@ -43,7 +44,8 @@ signed-none false = refl
 signed-none true = refl
 
 module _ {page starts firsts : List ℕ} {j : ℕ} (t : Tables page starts firsts (suc j)) where
-  pub signed-unary : (odd : Bool) → Reads page starts j (wrapper unary) → signed odd (scalarValue (treeAt page j)) ≡ signed (not odd) (scalarValue (treeAt page (j - 1)))
+  pub signed-unary : (odd : Bool) → Reads page starts j (wrapper unary)
+      → signed odd (scalarValue (treeAt page j)) ≡ signed (not odd) (scalarValue (treeAt page (j - 1)))
   signed-unary odd r = ap (signed odd) (unary-value t r) ∙ signed-negated odd (scalarValue (treeAt page (j - 1)))
 
 -- ## All other records
@@ -113,10 +115,12 @@ module _ {page starts firsts : List ℕ} {j : ℕ} (t : Tables page starts first
   valueless (leaf (number l)) h r = absurd h
   valueless (leaf (string x)) h r = ap scalarValue (leaf-tree t (string x) r)
   valueless (leaf (selector s)) h r = ap scalarValue (leaf-tree t (selector s) r)
-  valueless (wrapper (range q)) h r = part (range q) (some q) noTimes r (λ l node k. let z : _≡_ {A = ℕ} 0 1 = cc in omega arith) (chain-range t none noTimes q r)
+  valueless (wrapper (range q)) h r = part (range q) (some q) noTimes r
+      (λ l node k. let z : _≡_ {A = ℕ} 0 1 = cc in omega arith) (chain-range t none noTimes q r)
   valueless (wrapper (subquery q s)) h r = joins-numberless (treeAt page j) (laidOut-subquery t j (omega arith) none noTimes itself q s r .layout) tt
   valueless (wrapper (at a)) h r = part (at a) none (withAt a noTimes) r (λ l node k. let z : _≡_ {A = ℕ} 0 1 = cc in omega arith) (chain-at t none noTimes a r)
-  valueless (wrapper (offset o)) h r = part (offset o) none (withOffset o noTimes) r (λ l node k. let z : _≡_ {A = ℕ} 0 1 = cc in omega arith) (chain-offset t none noTimes o r)
+  valueless (wrapper (offset o)) h r = part (offset o) none (withOffset o noTimes) r
+      (λ l node k. let z : _≡_ {A = ℕ} 0 1 = cc in omega arith) (chain-offset t none noTimes o r)
   valueless (wrapper unary) h r = absurd h
   valueless (wrapper paren) h r = joins-numberless (treeAt page j) (laidOut-paren t j (omega arith) none noTimes itself r .layout) tt
   valueless (binary c m) h r = joins-numberless (treeAt page j) (laidOut-binary t j (omega arith) none noTimes itself c m r .layout) tt

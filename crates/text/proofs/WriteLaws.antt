@@ -34,10 +34,12 @@ three : (a b c : List ℕ) → a ++ (b ++ c) ≡ join (a ∷ b ∷ c ∷ [])
 unfolding join
 three a b c = ap (λ (t : List ℕ). a ++ (b ++ t)) (sym (append-nil c))
 
-pub run-three : {text : List ℕ} (a b c : List ℕ) (o : List ℕ) (at : ℕ) → text ≡ a ++ (b ++ c) → at + length text ≤ length o → Run o o at text (a ∷ b ∷ c ∷ []) at
+pub run-three : {text : List ℕ} (a b c : List ℕ) (o : List ℕ) (at : ℕ) → text ≡ a ++ (b ++ c)
+    → at + length text ≤ length o → Run o o at text (a ∷ b ∷ c ∷ []) at
 run-three a b c o at e h = start h (e ∙ three a b c)
 
-module _ (first other : Expr → List ℕ) {page starts firsts : List ℕ} {end : ℕ} (t : Tables page starts firsts end) (count : ℕ) (enough : count ≤ length (stackAt page end)) (separator : List ℕ) where
+module _ (first other : Expr → List ℕ) {page starts firsts : List ℕ} {end : ℕ} (t : Tables page starts firsts end)
+    (count : ℕ) (enough : count ≤ length (stackAt page end)) (separator : List ℕ) where
   pub text-none : count ≡ 0 → joined separator first other (operandsOf count (stackAt page end)) ≡ []
   text-none = operands-none separator first other t count enough
 

@@ -16,7 +16,8 @@ use Rattle.leaves.specs.Duration.{displayDuration}
 use Rattle.leaves.specs.Time.{displayAt, displayOffset}
 use Rattle.leaves.specs.Escape.{quote}
 use Rattle.label.specs.Label.{displayLabels, displayMatchers}
-use Rattle.ast.specs.Expr.{Expr, Args, noArgs, arg, Aggregate, AggregateParam, Unary, Binary, Paren, Subquery, NumberLiteral, StringLiteral, VectorSelector, MatrixSelector, Call}
+use Rattle.ast.specs.Expr.{Expr, Args, noArgs, arg, Aggregate, AggregateParam, Unary, Binary, Paren, Subquery}
+use Rattle.ast.specs.Expr.{NumberLiteral, StringLiteral, VectorSelector, MatrixSelector, Call}
 
 -- ## Modifiers
 

@@ -9,7 +9,8 @@ use Rattle.page.specs.Bytes.{pick, bytes, join}
 use Rattle.leaves.specs.Numeral.{displayLiteral}
 use Rattle.leaves.specs.Duration.{displayDuration}
 use Rattle.leaves.specs.Escape.{quote}
-use Rattle.ast.specs.Expr.{Expr, Args, noArgs, arg, Aggregate, AggregateParam, Unary, Binary, Paren, Subquery, NumberLiteral, StringLiteral, VectorSelector, MatrixSelector, Call}
+use Rattle.ast.specs.Expr.{Expr, Args, noArgs, arg, Aggregate, AggregateParam, Unary, Binary, Paren, Subquery}
+use Rattle.ast.specs.Expr.{NumberLiteral, StringLiteral, VectorSelector, MatrixSelector, Call}
 use Rattle.text.specs.Display.{displayAggregator, displayOperator, displaySuffix, displaySelector, displayTimes}
 use Rattle.text.specs.Pretty.{indent, pretty, trimStart}
 

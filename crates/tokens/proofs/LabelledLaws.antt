@@ -77,15 +77,22 @@ module _ (page : List ℕ) (m : LabelModifier) where
   pub matching-none : m ≡ None → displayMatching (labelModifierOn page m) ≡ []
   matching-none e = rw e
 
-  pub matching-on : (list : page-list.List) → m ≡ Include list → displayMatching (labelModifierOn page m) ≡ labelledBytes (bytes " on") (labelsOn page (list .start) (list .count))
+  pub matching-on : (list : page-list.List) → m ≡ Include list
+      → displayMatching (labelModifierOn page m)
+      ≡ labelledBytes (bytes " on") (labelsOn page (list .start) (list .count))
   matching-on list e = rw e (labelled-bytes " on" (labelsOn page (list .start) (list .count)))
 
   module _ (list : page-list.List) (e : m ≡ Exclude list) where
     pub matching-vanishes : list .count ≡ 0 → displayMatching (labelModifierOn page m) ≡ []
     matching-vanishes none = rw e (vanished (labelsOn page (list .start) (list .count)) (none-listed readAnyText (list .count) (drop (list .start) page) none))
 
-    pub matching-ignoring : LabelModifierStored page m → (list .count ≡ 0 → ⊥) → displayMatching (labelModifierOn page m) ≡ labelledBytes (bytes " ignoring") (labelsOn page (list .start) (list .count))
-    matching-ignoring all some· = rw e (ignored (labelsOn page (list .start) (list .count)) (some-listed readAnyText (list .count) (drop (list .start) page) (rw e at all) some·) ∙ labelled-bytes " ignoring" (labelsOn page (list .start) (list .count)))
+    pub matching-ignoring : LabelModifierStored page m → (list .count ≡ 0 → ⊥)
+        → displayMatching (labelModifierOn page m)
+        ≡ labelledBytes (bytes " ignoring") (labelsOn page (list .start) (list .count))
+    matching-ignoring all some· = rw e
+        (ignored (labelsOn page (list .start) (list .count))
+        (some-listed readAnyText (list .count) (drop (list .start) page) (rw e at all) some·)
+        ∙ labelled-bytes " ignoring" (labelsOn page (list .start) (list .count)))
 
   pub grouping-none : m ≡ None → displayGrouping (labelModifierOn page m) ≡ []
   grouping-none e = rw e
@@ -98,8 +105,16 @@ module _ (page : List ℕ) (m : LabelModifier) where
     pub grouping-vanishes : list .count ≡ 0 → displayGrouping (labelModifierOn page m) ≡ []
     grouping-vanishes none = rw e (ungrouped (labelsOn page (list .start) (list .count)) (none-listed readAnyText (list .count) (drop (list .start) page) none))
 
-    pub grouping-by : LabelModifierStored page m → (list .count ≡ 0 → ⊥) → Cut (displayGrouping (labelModifierOn page m)) (labelledBytes (bytes " by") (labelsOn page (list .start) (list .count))) (bytes " ")
-    grouping-by all some· = record { is = rw e (grouped (labelsOn page (list .start) (list .count)) (some-listed readAnyText (list .count) (drop (list .start) page) (rw e at all) some·) ∙ ap (λ (l : List ℕ). l ++ (bytes " ")) (labelled-bytes " by" (labelsOn page (list .start) (list .count)))) }
+    pub grouping-by : LabelModifierStored page m → (list .count ≡ 0 → ⊥)
+        → Cut (displayGrouping (labelModifierOn page m))
+        (labelledBytes (bytes " by") (labelsOn page (list .start) (list .count))) (bytes " ")
+    grouping-by all some· =
+        record {
+          is = rw e
+              (grouped (labelsOn page (list .start) (list .count))
+              (some-listed readAnyText (list .count) (drop (list .start) page) (rw e at all) some·)
+              ∙ ap (λ (l : List ℕ). l ++ (bytes " ")) (labelled-bytes " by" (labelsOn page (list .start) (list .count))));
+        }
 
 -- ## Cardinality
 

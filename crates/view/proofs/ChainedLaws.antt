@@ -7,7 +7,8 @@ use mathlib.Core.List.{List}
 use mathlib.Core.Option.{Option}
 use Rattle.base.proofs.Cases.{by-lt}
 use Rattle.records.specs.Time.{Times}
-use Rattle.records.specs.Record.{number, string, selector, Wrapper, range, subquery, at, offset, unary, paren, Record, leaf, wrapper, binary, aggregate, call, recordKind}
+use Rattle.records.specs.Record.{number, string, selector, Wrapper, range, subquery, at, offset, unary, paren, Record}
+use Rattle.records.specs.Record.{leaf, wrapper, binary, aggregate, call, recordKind}
 use Rattle.ast.specs.Tables.{treeAt}
 use Rattle.text.specs.Chain.{settled}
 use Rattle.text.specs.LaidOut.{Reads}
@@ -17,10 +18,13 @@ use Rattle.view.specs.View.{Starts, KindAt, isAttached, AttachedAt, Sets
 use Rattle.view.proofs.ViewLaws.{starts-fewer}
 
 -- record j is the one asked for, or one above it is
-passed : {page starts : List ℕ} {j k : ℕ} {w : Wrapper} → j - 1 < k → Reads page starts j (wrapper w) → isAttached (recordKind (wrapper w)) ≡ true → (j < k → AttachedAt page starts k)
+passed : {page starts : List ℕ} {j k : ℕ} {w : Wrapper} → j - 1 < k → Reads page starts j (wrapper w)
+    → isAttached (recordKind (wrapper w)) ≡ true → (j < k → AttachedAt page starts k)
     → AttachedAt page starts k
 passed {page} {starts} {j} {k} h r part more =
-    by-lt j k more (λ le. subst (AttachedAt page starts) (omega (arith, h, le)) (record { kind = _; stands = record { item = _; reads = r; same = refl }; part = part }))
+    by-lt j k more
+    (λ le. subst (AttachedAt page starts) (omega (arith, h, le))
+    (record { kind = _; stands = record { item = _; reads = r; same = refl }; part = part }))
 
 module _ {page starts : List ℕ} {i : ℕ} where
   pub sets-low : {j : ℕ} {n : Option ℕ} {u : Times} → Sets page starts i j n u → j ≤ i
@@ -59,10 +63,16 @@ module _ {page starts : List ℕ} {i : ℕ} where
       by-item (leaf (number l)) r h = absurd (false≢true h)
       by-item (leaf (string t)) r h = absurd (false≢true h)
       by-item (leaf (selector v)) r h = absurd (false≢true h)
-      by-item (wrapper (range n)) r h = (wrapped (chained-here .tables) (range n) r .last .some, record { range = _; times = _; sets = setsRange r (chain .sets) })
+      by-item (wrapper (range n)) r h = (
+        wrapped (chained-here .tables) (range n) r .last .some,
+        record { range = _; times = _; sets = setsRange r (chain .sets) },
+      )
       by-item (wrapper (subquery n t)) r h = absurd (false≢true h)
       by-item (wrapper (at a)) r h = (wrapped (chained-here .tables) (at a) r .last .some, record { range = _; times = _; sets = setsAt r (chain .sets) })
-      by-item (wrapper (offset o)) r h = (wrapped (chained-here .tables) (offset o) r .last .some, record { range = _; times = _; sets = setsOffset r (chain .sets) })
+      by-item (wrapper (offset o)) r h = (
+        wrapped (chained-here .tables) (offset o) r .last .some,
+        record { range = _; times = _; sets = setsOffset r (chain .sets) },
+      )
       by-item (wrapper unary) r h = absurd (false≢true h)
       by-item (wrapper paren) r h = absurd (false≢true h)
       by-item (binary c m) r h = absurd (false≢true h)

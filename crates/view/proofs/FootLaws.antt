@@ -8,7 +8,8 @@ use mathlib.Core.List.{List, [], _∷_, _++_}
 use mathlib.Core.Option.{Option, none}
 use lib.ListN.{getD}
 use Rattle.records.specs.Time.{Times}
-use Rattle.records.specs.Record.{number, string, selector, range, subquery, at, offset, unary, paren, Record, leaf, wrapper, binary, aggregate, call, operands, recordKind}
+use Rattle.records.specs.Record.{number, string, selector, range, subquery, at, offset, unary, paren, Record, leaf}
+use Rattle.records.specs.Record.{wrapper, binary, aggregate, call, operands, recordKind}
 use Rattle.leaves.specs.Numeral.{displayLiteral}
 use Rattle.leaves.specs.Escape.{quote}
 use Rattle.ast.specs.Expr.{scalarValue}
@@ -16,7 +17,8 @@ use Rattle.ast.specs.Tables.{treeAt}
 use Rattle.text.specs.Display.{displaySelector, displayTimes, displaySuffix, displayOperator, displayAggregator}
 use Rattle.text.specs.Layout.{Layout, whole, negation, suffixed, enclosed, infixed, displayRange, layoutOf, head, operator, suffix}
 use Rattle.text.specs.LaidOut.{Reads, LaidOut}
-use Rattle.text.proofs.LaidOutLaws.{laidOut-number, laidOut-string, laidOut-selector, laidOut-subquery, laidOut-paren, laidOut-literal, laidOut-unary, laidOut-binary, laidOut-aggregate, laidOut-call}
+use Rattle.text.proofs.LaidOutLaws.{laidOut-number, laidOut-string, laidOut-selector, laidOut-subquery, laidOut-paren}
+use Rattle.text.proofs.LaidOutLaws.{laidOut-literal, laidOut-unary, laidOut-binary, laidOut-aggregate, laidOut-call}
 use Rattle.view.specs.View.{Starts, KindAt, isAttached, Sets, Valued, FootAt, shapeOf, shaped}
 use Rattle.view.specs.declared.Foot.{Foot}
 use Rattle.view.specs.declared.Foot.the-variants as foot
@@ -43,7 +45,8 @@ layoutBy (aggregate c m k) n u = enclosed (displayAggregator c m)
 layoutBy (call f k) n u = enclosed (f .name)
 
 module _ {page starts : List ℕ} {i j : ℕ} {n : Option ℕ} {u : Times} (s : Starts page starts (suc i)) (above : Sets page starts i j n u) where
-  pub laidOut-item : (item : Record) → Reads page starts j item → isAttached (recordKind item) ≡ false → (recordKind item ≡ 7 → scalarValue (treeAt page j) ≡ none)
+  pub laidOut-item : (item : Record) → Reads page starts j item → isAttached (recordKind item) ≡ false
+      → (recordKind item ≡ 7 → scalarValue (treeAt page j) ≡ none)
       → LaidOut page i (layoutBy item n u) j (operands item)
   laidOut-item (leaf (number l)) r h v = laidOut-number (s .tables) j (sets-low above) n u (sets-tree s above) l r
   laidOut-item (leaf (string t)) r h v = laidOut-string (s .tables) j (sets-low above) n u (sets-tree s above) t r
@@ -66,7 +69,8 @@ module _ {page starts : List ℕ} {i j : ℕ} {n : Option ℕ} {u : Times} (s : 
 -- by kinds from 0 on; those of the attached do not matter
 abbrev shapes : List Shape
 shapes =
-    shape.Whole ∷ shape.Whole ∷ shape.Whole ∷ shape.Whole ∷ shape.Suffixed ∷ shape.Whole ∷ shape.Whole ∷ shape.Minus ∷ shape.Enclosed ∷ shape.Infixed ∷ shape.Enclosed
+    shape.Whole ∷ shape.Whole ∷ shape.Whole ∷ shape.Whole ∷ shape.Suffixed ∷ shape.Whole ∷ shape.Whole ∷ shape.Minus
+    ∷ shape.Enclosed ∷ shape.Infixed ∷ shape.Enclosed
     ∷ shape.Enclosed ∷ []
 
 abbrev shapeBy : ℕ → Shape
@@ -91,7 +95,9 @@ shape-shaped (suffixed t) = refl
 shape-shaped (enclosed t) = refl
 shape-shaped (infixed t) = refl
 
-by-kind : (item : Record) (n : Option ℕ) (u : Times) → (layoutShape (layoutBy item n u) ≡ shapeBy (recordKind item)) × (operands item ≡ getD counts (recordKind item) (operands item))
+by-kind : (item : Record) (n : Option ℕ) (u : Times)
+    → (layoutShape (layoutBy item n u) ≡ shapeBy (recordKind item))
+    × (operands item ≡ getD counts (recordKind item) (operands item))
 by-kind (leaf (number l)) n u = (refl, refl)
 by-kind (leaf (string t)) n u = (refl, refl)
 by-kind (leaf (selector s)) n u = (refl, refl)
@@ -116,7 +122,9 @@ module _ {page starts : List ℕ} {i j : ℕ} {n : Option ℕ} {u : Times} (s : 
 
     -- with the operands that the record says
     pub laidOut-kind : {count : ℕ} → operands (k .item) ≡ count → LaidOut page i (layoutOf (treeAt page i)) j count
-    laidOut-kind e = subst (λ (c : ℕ). LaidOut page i (layoutOf (treeAt page i)) j c) e (subst (λ (own : Layout). LaidOut page i own j (operands (k .item))) (sym (item-laidOut .layout)) item-laidOut)
+    laidOut-kind e = subst (λ (c : ℕ). LaidOut page i (layoutOf (treeAt page i)) j c) e
+        (subst (λ (own : Layout). LaidOut page i own j (operands (k .item))) (sym (item-laidOut .layout))
+        item-laidOut)
 
     -- with the operands of all records of its kind
     pub laidOut-fixed : (count : ℕ) → ((c : ℕ) → getD counts kind c ≡ count) → LaidOut page i (layoutOf (treeAt page i)) j count

@@ -21,7 +21,8 @@ use Rattle.records.specs.Matcher.{readMatcher}
 use Rattle.records.specs.Modifier.{readLabelModifier, readBinModifier}
 use Rattle.records.specs.Time.{readAtModifier, readOffset}
 use Rattle.records.specs.Signature.{readFunction}
-use Rattle.records.specs.Record.{number, string, selector, range, subquery, at, offset, unary, paren, Record, leaf, wrapper, binary, aggregate, call, readCode, recordForms, readRecord, recordKind}
+use Rattle.records.specs.Record.{number, string, selector, range, subquery, at, offset, unary, paren, Record, leaf}
+use Rattle.records.specs.Record.{wrapper, binary, aggregate, call, readCode, recordForms, readRecord, recordKind}
 use Rattle.text.specs.LaidOut.{Reads}
 use Rattle.view.specs.View.{Starts, KindAt}
 
@@ -43,7 +44,9 @@ each-kind = (
   (
     gives-field (λ t. leaf (string t)) (gives-any readAnyText) (λ t h. refl),
     (
-      gives-bind _ (gives-any readMetricName) (λ n h. gives-field (λ ms. leaf (selector (record { name = n; matchers = ms }))) (gives-any (readList readMatcher)) (λ ms g. refl)),
+      gives-bind _ (gives-any readMetricName)
+          (λ n h. gives-field (λ ms. leaf (selector (record { name = n; matchers = ms })))
+          (gives-any (readList readMatcher)) (λ ms g. refl)),
       (
         gives-field (λ n. wrapper (range n)) (gives-any readNumber) (λ n h. refl),
         (
@@ -59,7 +62,9 @@ each-kind = (
                   (
                     gives-bind _ (gives-any readCode) (λ c h. gives-field (λ m. binary c m) (gives-any (readOption readBinModifier)) (λ m g. refl)),
                     (
-                      gives-bind _ (gives-any readCode) (λ c h. gives-bind _ (gives-any readLabelModifier) (λ m g. gives-field (λ n. aggregate c m n) (gives-any readCount) (λ n f. refl))),
+                      gives-bind _ (gives-any readCode)
+                          (λ c h. gives-bind _ (gives-any readLabelModifier)
+                          (λ m g. gives-field (λ n. aggregate c m n) (gives-any readCount) (λ n f. refl))),
                       (
                         gives-bind _ (gives-any readFunction) (λ f h. gives-field (λ n. call f n) (gives-any readCount) (λ n g. refl)),
                         tt,
@@ -91,12 +96,15 @@ high page start inside h = rw (drop-cons page start 0 inside, le-ltb (getD page 
     by : (b : ℕ) (m : Read ℕ) → 128 ≤ b → Got (λ n. 128 ≤ n) (andThen (withGroup b m) (λ n. ensure (leb n numberLimit) badField n))
     by b (refused f) k = tt
     by b (got zero rest) k = tt
-    by b (got (suc v) rest) k = gives-ensure {P = λ n. 128 ≤ n} (leb (b - 128 + 128 * suc v) numberLimit) badField (b - 128 + 128 * suc v) (λ t. omega arith) .gives rest
+    by b (got (suc v) rest) k = gives-ensure {P = λ n. 128 ≤ n} (leb (b - 128 + 128 * suc v) numberLimit) badField
+        (b - 128 + 128 * suc v) (λ t. omega arith) .gives rest
 
 module _ (page : List ℕ) (start : ℕ) {item : Record} {rest : List ℕ} (e : got item rest ≡ readRecord (drop start page)) where
   pub start-inside : start < length page
   unfolding readRecord
-  start-inside = by-lt start (length page) (λ h. h) (λ h. absurd (never (e ∙ ap (λ (m : Read ℕ). andThen m (readerAt recordForms)) (sym (past-end page start numberLimit h)))))
+  start-inside = by-lt start (length page) (λ h. h)
+      (λ h. absurd
+      (never (e ∙ ap (λ (m : Read ℕ). andThen m (readerAt recordForms)) (sym (past-end page start numberLimit h)))))
 
   low : getD page start 0 < 128
   unfolding readRecord
@@ -128,7 +136,11 @@ unreadable {page} {starts} {i} f s e = never (s .tables .entry i (omega arith) .
 pub kind-first : {page starts : List ℕ} {i : ℕ} → Starts page starts (suc i) → KindAt page starts i (getD page (getD starts i 0) 0)
 kind-first {page} {starts} {i} s =
     let e = s .tables .entry i (omega arith) in
-    record { item = e .item; reads = record { rest = e .rest; reads = e .reads }; same = kind-given _ _ (e .reads ∙ behind-first page (getD starts i 0) (e .reads)) }
+    record {
+      item = e .item;
+      reads = record { rest = e .rest; reads = e .reads };
+      same = kind-given _ _ (e .reads ∙ behind-first page (getD starts i 0) (e .reads));
+    }
 
 pub starts-inside : {page starts : List ℕ} {i : ℕ} → Starts page starts (suc i) → getD starts i 0 < length page
 starts-inside {page} {starts} {i} s = start-inside page (getD starts i 0) (s .tables .entry i (omega arith) .reads)

@@ -11,14 +11,16 @@ use lib.Dec.{eqb}
 use borrow.Author.Tests.{eqb-false}
 use Rattle.records.specs.Literal.{Literal, readLiteral}
 use Rattle.records.specs.Time.{Times}
-use Rattle.records.specs.Record.{number, string, selector, range, subquery, at, offset, unary, paren, Record, leaf, wrapper, binary, aggregate, call, operands, recordKind}
+use Rattle.records.specs.Record.{number, string, selector, range, subquery, at, offset, unary, paren, Record, leaf}
+use Rattle.records.specs.Record.{wrapper, binary, aggregate, call, operands, recordKind}
 use Rattle.leaves.specs.Numeral.{displayLiteral}
 use Rattle.ast.specs.Expr.{scalarValue}
 use Rattle.ast.specs.Tables.{treeAt}
 use Rattle.text.specs.Layout.{whole, layoutOf, head, operator, suffix}
 use Rattle.text.specs.LaidOut.{Reads, LaidOut}
 use Rattle.text.proofs.ValueLaws.{settled-value}
-use Rattle.view.specs.View.{Starts, KindAt, TakesAt, isAttached, Sets, Chained, FootOf, NumberAt, bare, Valued, Numberless, FootAt, NodeAt, layoutAt, Viewed, isMinus, shapeOf, shaped}
+use Rattle.view.specs.View.{Starts, KindAt, TakesAt, isAttached, Sets, Chained, FootOf, NumberAt, bare, Valued}
+use Rattle.view.specs.View.{Numberless, FootAt, NodeAt, layoutAt, Viewed, isMinus, shapeOf, shaped}
 use Rattle.view.specs.declared.Foot.{Foot}
 use Rattle.view.specs.declared.Foot.the-variants as foot
 use Rattle.view.specs.declared.Node.{Node}
@@ -36,7 +38,8 @@ module _ {page starts : List ℕ} {i j : ℕ} (s : Starts page starts (suc i)) (
   viewed f count at· w = record { isTop = refl; laidOut = w; stands = record { known = s; chain = chain; foot = at· } }
 
   -- a kind with a fixed count of operands
-  fixed : {kind : ℕ} (count : ℕ) → isAttached kind ≡ false → (kind ≡ 7 → scalarValue (treeAt page j) ≡ none) → ((n : ℕ) → getD counts kind n ≡ count) → KindAt page starts j kind
+  fixed : {kind : ℕ} (count : ℕ) → isAttached kind ≡ false → (kind ≡ 7 → scalarValue (treeAt page j) ≡ none)
+      → ((n : ℕ) → getD counts kind n ≡ count) → KindAt page starts j kind
       → LaidOut page i (layoutOf (treeAt page i)) j count
   fixed count h v few k = laidOut-fixed s (chain .sets) k h v count few
 
@@ -56,14 +59,17 @@ module _ {page starts : List ℕ} {i j : ℕ} (s : Starts page starts (suc i)) (
   view-binary k = viewed foot.Binary 2 k (fixed 2 refl (λ e. absurd (omega (arith, e))) (λ n. refl) k)
 
   -- aggregates and calls: what the record itself says
-  taking : {kind count : ℕ} → isAttached kind ≡ false → (kind ≡ 7 → scalarValue (treeAt page j) ≡ none) → KindAt page starts j kind → TakesAt page starts j count
+  taking : {kind count : ℕ} → isAttached kind ≡ false → (kind ≡ 7 → scalarValue (treeAt page j) ≡ none)
+      → KindAt page starts j kind → TakesAt page starts j count
       → LaidOut page i (layoutOf (treeAt page i)) j count
   taking h v k t = laidOut-kind s (chain .sets) k h v (ap operands (reads-same (k .reads) (t .reads)) ∙ t .takes)
 
-  pub view-aggregate : {count : ℕ} → KindAt page starts j 10 → TakesAt page starts j count → Viewed page starts i (record { foot = foot.Aggregate; top = i; base = j; count = count })
+  pub view-aggregate : {count : ℕ} → KindAt page starts j 10 → TakesAt page starts j count
+      → Viewed page starts i (record { foot = foot.Aggregate; top = i; base = j; count = count })
   view-aggregate k t = viewed foot.Aggregate _ k (taking refl (λ e. absurd (omega (arith, e))) k t)
 
-  pub view-call : {count : ℕ} → KindAt page starts j 11 → TakesAt page starts j count → Viewed page starts i (record { foot = foot.Call; top = i; base = j; count = count })
+  pub view-call : {count : ℕ} → KindAt page starts j 11 → TakesAt page starts j count
+      → Viewed page starts i (record { foot = foot.Call; top = i; base = j; count = count })
   view-call k t = viewed foot.Call _ k (taking refl (λ e. absurd (omega (arith, e))) k t)
 
   pub view-valued : Valued page starts j → Viewed page starts i (record { foot = foot.Number; top = i; base = j; count = 0 })
@@ -76,7 +82,8 @@ module _ {page starts : List ℕ} {i j : ℕ} (s : Starts page starts (suc i)) (
       view-valued (readable (chained-here s chain) (readLiteral (drop (getD starts j 0 + 1) page)) _ (fields (chained-here s chain) k) (λ l rest m e.
       record { value = l; is = bare (record { rest = rest; reads = sym e }) }))
 
-  pub view-unary : KindAt page starts j 7 → scalarValue (treeAt page j) ≡ none → Viewed page starts i (record { foot = foot.Unary; top = i; base = j; count = 1 })
+  pub view-unary : KindAt page starts j 7 → scalarValue (treeAt page j) ≡ none
+      → Viewed page starts i (record { foot = foot.Unary; top = i; base = j; count = 1 })
   view-unary k v = viewed foot.Unary 1 (record { kind = k; valueless = v }) (fixed 1 refl (λ e. v) (λ n. refl) k)
 
   pub numberless-below : Numberless page i true → scalarValue (treeAt page j) ≡ none
@@ -125,7 +132,8 @@ minus-numberless {page} {starts} {i} {node} w m =
 
 -- ## The last kind
 
-last-kind : (item : Record) → isAttached (recordKind item) ≡ false → (recordKind item ≡ 0 → ⊥) → (recordKind item ≡ 1 → ⊥) → (recordKind item ≡ 2 → ⊥) → (recordKind item ≡ 4 → ⊥)
+last-kind : (item : Record) → isAttached (recordKind item) ≡ false → (recordKind item ≡ 0 → ⊥)
+    → (recordKind item ≡ 1 → ⊥) → (recordKind item ≡ 2 → ⊥) → (recordKind item ≡ 4 → ⊥)
     → (recordKind item ≡ 7 → ⊥) → (recordKind item ≡ 8 → ⊥) → (recordKind item ≡ 9 → ⊥) → (recordKind item ≡ 10 → ⊥) → recordKind item ≡ 11
 last-kind (leaf (number l)) h a b c d e f g k = absurd (a refl)
 last-kind (leaf (string t)) h a b c d e f g k = absurd (b refl)
@@ -149,6 +157,7 @@ foot-call w at· a b c d e f g k =
     record {
       item = at· .item;
       reads = at· .reads;
-      same = last-kind (at· .item) (ap isAttached (kind-same (w .stands) (at· .reads)) ∙ w .other) (λ h. a (sym is ∙ h)) (λ h. b (sym is ∙ h)) (λ h. c (sym is ∙ h))
+      same = last-kind (at· .item) (ap isAttached (kind-same (w .stands) (at· .reads)) ∙ w .other)
+          (λ h. a (sym is ∙ h)) (λ h. b (sym is ∙ h)) (λ h. c (sym is ∙ h))
           (λ h. d (sym is ∙ h)) (λ h. e (sym is ∙ h)) (λ h. f (sym is ∙ h)) (λ h. g (sym is ∙ h)) (λ h. k (sym is ∙ h));
     }

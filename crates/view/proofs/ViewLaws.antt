@@ -8,7 +8,8 @@ use mathlib.Core.Option.{none, some}
 use lib.ListN.{drop, getD}
 use Rattle.page.specs.Read.{got}
 use Rattle.records.specs.Literal.{Literal, plus, minus, nan, negate}
-use Rattle.records.specs.Record.{number, string, selector, range, subquery, at, offset, unary, paren, Record, leaf, wrapper, binary, aggregate, call, operands, readRecord, recordKind}
+use Rattle.records.specs.Record.{number, string, selector, range, subquery, at, offset, unary, paren, Record, leaf}
+use Rattle.records.specs.Record.{wrapper, binary, aggregate, call, operands, readRecord, recordKind}
 use Rattle.ast.specs.Expr.{scalarValue}
 use Rattle.ast.specs.Tables.{treeAt, Tables}
 use Rattle.text.specs.LaidOut.{Reads}
@@ -99,6 +100,7 @@ module _ {page starts : List ℕ} {i j : ℕ} {odd : Bool} (s : Starts page star
 
 -- ## Operands
 
-pub takes : {page starts : List ℕ} {i count : ℕ} {item : Record} {rest : List ℕ} → got item rest ≡ readRecord (drop (getD starts i 0) page) → operands item ≡ count
+pub takes : {page starts : List ℕ} {i count : ℕ} {item : Record} {rest : List ℕ}
+    → got item rest ≡ readRecord (drop (getD starts i 0) page) → operands item ≡ count
     → TakesAt page starts i count
 takes e n = record { item = _; reads = record { rest = _; reads = e }; takes = n }

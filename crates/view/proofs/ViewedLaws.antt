@@ -33,7 +33,8 @@ minusBy (some l) = foot.Number
 abbrev footBy : ℕ → Option Literal → Foot
 footBy kind v =
     getD
-    (foot.Number ∷ foot.String ∷ foot.Selector ∷ foot.Call ∷ foot.Subquery ∷ foot.Call ∷ foot.Call ∷ minusBy v ∷ foot.Paren ∷ foot.Binary ∷ foot.Aggregate ∷ foot.Call ∷ [])
+    (foot.Number ∷ foot.String ∷ foot.Selector ∷ foot.Call ∷ foot.Subquery ∷ foot.Call ∷ foot.Call ∷ minusBy v
+    ∷ foot.Paren ∷ foot.Binary ∷ foot.Aggregate ∷ foot.Call ∷ [])
     kind foot.Call
 
 module _ {page starts : List ℕ} {j : ℕ} (s : Starts page starts (suc j)) {item : Record} (r : Reads page starts j item) where
@@ -80,7 +81,8 @@ module _ {page starts : List ℕ} {i : ℕ} where
 
   base-is : {a b : Node} → Viewed page starts i a → Viewed page starts i b → a .base ≡ b .base
   base-is {a} {b} v w =
-      by-lt (a .base) (b .base) (λ h. absurd (base-low v w h)) (λ low. by-lt (b .base) (a .base) (λ h. absurd (base-low w v h)) (λ high. omega (arith, low, high)))
+      by-lt (a .base) (b .base) (λ h. absurd (base-low v w h))
+      (λ low. by-lt (b .base) (a .base) (λ h. absurd (base-low w v h)) (λ high. omega (arith, low, high)))
 
   foot-is : {a b : Node} → Viewed page starts i a → Viewed page starts i b → a .foot ≡ b .foot
   foot-is {a} {b} v w =

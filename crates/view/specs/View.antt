@@ -8,7 +8,8 @@ use lib.Dec.{eqb}
 use Rattle.records.specs.Literal as literal
 use Rattle.records.specs.Time.{Times, AtModifier, Offset}
 use Rattle.records.specs.Answers.{literalOf}
-use Rattle.records.specs.Record.{number, string, selector, range, subquery, at, offset, unary, paren, Record, leaf, wrapper, binary, aggregate, call, operands, recordKind}
+use Rattle.records.specs.Record.{number, string, selector, range, subquery, at, offset, unary, paren, Record, leaf}
+use Rattle.records.specs.Record.{wrapper, binary, aggregate, call, operands, recordKind}
 use Rattle.ast.specs.Expr.{scalarValue}
 use Rattle.ast.specs.Construct.{noTimes}
 use Rattle.ast.specs.Tables.{Tables, treeAt}

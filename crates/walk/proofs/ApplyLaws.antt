@@ -27,11 +27,13 @@ pub record Pushed (stack : List Expr) (n : ℕ) (after : List Expr) : Type 0 whe
   pub tree : Expr
   pub is : after ≡ tree ∷ drop n stack
 
-on-stack : {stack below : List Expr} {n : ℕ} → below ≡ drop n stack → (made : Result Expr) {after : List Expr} → andThen {B = List Expr} made (λ e. ok (e ∷ below)) ≡ ok after → Pushed stack n after
+on-stack : {stack below : List Expr} {n : ℕ} → below ≡ drop n stack → (made : Result Expr) {after : List Expr}
+    → andThen {B = List Expr} made (λ e. ok (e ∷ below)) ≡ ok after → Pushed stack n after
 on-stack b (refused n) e = absurd (let z : _≡_ {A = ℕ} 0 1 = cc in omega arith)
 on-stack {stack} {below} {n} b (ok t) {after} e = let same : t ∷ below ≡ after = cc in record { tree = t; is = sym same ∙ ap {B = List Expr} (λ l. t ∷ l) b }
 
-on-arguments : {stack : List Expr} {n : ℕ} (b : Bool) (made : Result Expr) {after : List Expr} → pick b (push made (drop n stack)) (refused 2) ≡ ok after → Pushed stack n after
+on-arguments : {stack : List Expr} {n : ℕ} (b : Bool) (made : Result Expr) {after : List Expr}
+    → pick b (push made (drop n stack)) (refused 2) ≡ ok after → Pushed stack n after
 on-arguments true made e = on-stack refl (andThen made checkAst) e
 on-arguments false made e = absurd (let z : _≡_ {A = ℕ} 0 1 = cc in omega arith)
 
@@ -61,14 +63,18 @@ pub record Applied (r : Record) (stack : List Expr) (x : Operand) : Type 0 where
 
 module _ (r : Record) (stack : List Expr) (sound : AllSound stack) where
   pub applied : {x : Operand} → ok x ≡ judgement r (map operandOf stack) → Applied r stack x
-  applied {x} e = go (apply r stack) refl (ap {B = Result (List Operand)} (λ m. andThen m (λ y. ok (y ∷ drop (operands r) (map operandOf stack)))) e ∙ judged-operand r stack sound)
+  applied {x} e = go (apply r stack) refl
+      (ap {B = Result (List Operand)} (λ m. andThen m (λ y. ok (y ∷ drop (operands r) (map operandOf stack)))) e
+      ∙ judged-operand r stack sound)
     where
       go : (m : Result (List Expr)) → apply r stack ≡ m → ok (x ∷ drop (operands r) (map operandOf stack)) ≡ mapResult (map operandOf) m → Applied r stack x
       go (refused n) is f = absurd (let z : _≡_ {A = ℕ} 0 1 = cc in omega arith)
       go (ok after) is f = record { after = after; applies = is; heldOperands = cc }
 
   pub unapplied : {n : ℕ} → refused n ≡ judgement r (map operandOf stack) → apply r stack ≡ refused n
-  unapplied {n} e = go (apply r stack) refl (ap {B = Result (List Operand)} (λ m. andThen m (λ y. ok (y ∷ drop (operands r) (map operandOf stack)))) e ∙ judged-operand r stack sound)
+  unapplied {n} e = go (apply r stack) refl
+      (ap {B = Result (List Operand)} (λ m. andThen m (λ y. ok (y ∷ drop (operands r) (map operandOf stack)))) e
+      ∙ judged-operand r stack sound)
     where
       go : (m : Result (List Expr)) → apply r stack ≡ m → refused n ≡ mapResult (map operandOf) m → apply r stack ≡ refused n
       go (refused k) is f = let same : k ≡ n = cc in is ∙ ap {B = Result (List Expr)} refused same

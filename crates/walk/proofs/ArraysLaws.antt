@@ -31,7 +31,8 @@ drop-set [] i a h = absurd (let z : ⊥ = omega arith in z)
 drop-set (x ∷ l) zero a h = refl
 drop-set (x ∷ l) (suc i) a h = drop-set l i a (omega arith)
 
-module _ {page tags : List ℕ} {values : List Float} {bases : List ℕ} {top count : ℕ} {stack : List Expr} (arrays : Arrays page tags values bases top count stack) where
+module _ {page tags : List ℕ} {values : List Float} {bases : List ℕ} {top count : ℕ} {stack : List Expr}
+    (arrays : Arrays page tags values bases top count stack) where
   pub stack-length : length stack ≡ 256 - top
   stack-length = sym (length-map stack operandOf) ∙ ap length (sym (arrays .summaries)) ∙ stack-size tags values (arrays .sized) top
 
@@ -51,7 +52,8 @@ module _ {page tags : List ℕ} {values : List Float} {bases : List ℕ} {top co
     pushed =
         ap (drop place) (heldOperands-set tags values place (tagOf x) (valueOf x) ∙ ap (set (heldOperands tags values) place) (operandFrom-tagOf x))
         ∙ drop-set (heldOperands tags values) place x (rw (heldOperands-size tags values (arrays .sized)) (omega (arith, enough, room)))
-        ∙ ap₂ (λ (y : Operand) (ys : List Operand). y ∷ ys) (sym is) (lies (heldOperands tags values) ∙ ap (drop n) (arrays .summaries) ∙ sym (map-drop operandOf n stack))
+        ∙ ap₂ (λ (y : Operand) (ys : List Operand). y ∷ ys) (sym is)
+        (lies (heldOperands tags values) ∙ ap (drop n) (arrays .summaries) ∙ sym (map-drop operandOf n stack))
 
     based : Bases page (suc count) (drop place (set bases place first)) (tree ∷ drop n stack)
     based =

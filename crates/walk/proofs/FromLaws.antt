@@ -29,7 +29,8 @@ from-over i s [] h = absurd (let z : ⊥ = omega arith in z)
 from-over i s (b ∷ bytes) h = ap (λ (n : ℕ). refusedAt 3 n) (add-zero i)
 
 module _ (fuel i : ℕ) (s : List Expr) where
-  pub from-bad : (bytes : List ℕ) (f : FieldFault) → 0 < length bytes → refusedField f ≡ readRecord bytes → checkFrom (suc fuel) i s bytes ≡ refusedAt (faultNumber f) i
+  pub from-bad : (bytes : List ℕ) (f : FieldFault) → 0 < length bytes → refusedField f ≡ readRecord bytes
+      → checkFrom (suc fuel) i s bytes ≡ refusedAt (faultNumber f) i
   from-bad [] f h e = absurd (let z : ⊥ = omega arith in z)
   from-bad (b ∷ bytes) f h e =
       ap (λ (m : Read Record). finishFrom i s (followed m (λ rest. readRecords fuel rest))) (sym e) ∙ ap (λ (n : ℕ). refusedAt (faultNumber f) n) (add-zero i)
@@ -41,7 +42,8 @@ module _ (fuel i : ℕ) (s : List Expr) where
     step [] h e = absurd (let z : ⊥ = omega arith in z)
     step (b ∷ bytes) h e = ap (λ (m : Read Record). finishFrom i s (followed m (λ rest. readRecords fuel rest))) (sym e)
 
-    pub from-refused : (bytes : List ℕ) (n : ℕ) → 0 < length bytes → got r rest ≡ readRecord bytes → apply r s ≡ refused n → checkFrom (suc fuel) i s bytes ≡ refusedAt n i
+    pub from-refused : (bytes : List ℕ) (n : ℕ) → 0 < length bytes → got r rest ≡ readRecord bytes
+        → apply r s ≡ refused n → checkFrom (suc fuel) i s bytes ≡ refusedAt n i
     from-refused bytes n h e f = step bytes h e ∙ rw f
 
     pub from-next : (bytes : List ℕ) (t : List Expr) → 0 < length bytes → got r rest ≡ readRecord bytes → apply r s ≡ ok t
@@ -54,7 +56,8 @@ module _ (fuel i : ℕ) (s : List Expr) where
 -- ## The records that are left
 
 module _ (fuel : ℕ) {r : Record} {rest : List ℕ} where
-  pub records-next : (bytes : List ℕ) → 0 < length bytes → got r rest ≡ readRecord bytes → readRecords (suc fuel) bytes .records ≡ r ∷ readRecords fuel rest .records
+  pub records-next : (bytes : List ℕ) → 0 < length bytes → got r rest ≡ readRecord bytes
+      → readRecords (suc fuel) bytes .records ≡ r ∷ readRecords fuel rest .records
   records-next [] h e = absurd (let z : ⊥ = omega arith in z)
   records-next (b ∷ bytes) h e = ap (λ (m : Read Record). followed m (λ rest. readRecords fuel rest) .records) (sym e)
 

@@ -45,7 +45,9 @@ pub too-long : (page : List ℕ) → 8192 < length page → checkPage page ≡ r
 unfolding checkPage readPage
 too-long page h = rw (lt-leb (length page) pageLimit h)
 
-from-start : (p : Records) → finished (p .ending) (length (p .records)) (walk apply 0 [] (p .records)) ≡ finished (p .ending) (0 + length (p .records)) (walk apply 0 [] (p .records))
+from-start : (p : Records)
+    → finished (p .ending) (length (p .records)) (walk apply 0 [] (p .records))
+    ≡ finished (p .ending) (0 + length (p .records)) (walk apply 0 [] (p .records))
 from-start p = ap (λ (n : ℕ). finished (p .ending) n (walk apply 0 [] (p .records))) (sym (zero-add (length (p .records))))
 
 pub progress-start : (page : List ℕ) → length page ≤ 8192 → Progress page 0 0 []
@@ -107,7 +109,10 @@ module _ {page : List ℕ} {at count : ℕ} {stack : List Expr} (progress : Prog
           progress-next = record {
             count-range = omega (arith, progress .count-range, few);
             at-range = inside;
-            sound = subst SoundStack applies (apply-sound r stack (of-got IsAllowed (readRecord (drop at page)) read (readRecord-gives .gives (drop at page))) (progress .sound));
+            sound = subst SoundStack applies
+                (apply-sound r stack
+                (of-got IsAllowed (readRecord (drop at page)) read (readRecord-gives .gives (drop at page)))
+                (progress .sound));
             left = drop-next (readPage page .records) count one;
             rest = progress .rest ∙ rw fuel (from-next (256 - suc count) count stack (drop at page) after some-bytes read applies);
             walked = walked-next;

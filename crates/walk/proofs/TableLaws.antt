@@ -30,7 +30,9 @@ module _ {page starts firsts : List ℕ} {count : ℕ} (tables : Tables page sta
     few = few;
     starts-size = length-set starts count at ∙ tables .starts-size;
     firsts-size = length-set firsts count first ∙ tables .firsts-size;
-    entry = λ i h. by-eq i count (λ e. subst (λ (k : ℕ). Entry page (getD (set starts count at) k 0) (getD (set firsts count first) k 0) k) (sym e) here) (λ n. there i h n);
+    entry = λ i h. by-eq i count
+        (λ e. subst (λ (k : ℕ). Entry page (getD (set starts count at) k 0) (getD (set firsts count first) k 0) k)
+        (sym e) here) (λ n. there i h n);
   }
     where
       here : Entry page (getD (set starts count at) count 0) (getD (set firsts count first) count 0) count
@@ -42,7 +44,8 @@ module _ {page starts firsts : List ℕ} {count : ℕ} (tables : Tables page sta
           rw (getD-set-other starts count i at 0 n, getD-set-other firsts count i first 0 n) (tables .entry i (omega arith))
 
 -- the entry of a record that was applied
-pub entry-of : (page : List ℕ) (start first i : ℕ) {r : Record} {rest : List ℕ} {stack after : List Expr} → drop start page ≡ fromRecord i page → got r rest ≡ readRecord (drop start page)
+pub entry-of : (page : List ℕ) (start first i : ℕ) {r : Record} {rest : List ℕ} {stack after : List Expr}
+    → drop start page ≡ fromRecord i page → got r rest ≡ readRecord (drop start page)
     → stackAt page i ≡ stack → stackAt page (suc i) ≡ after → operands r ≤ length stack → apply r stack ≡ ok after
     → first ≤ i → stackAt page first ≡ drop (operands r) stack → Entry page start first i
 unfolding treeAt

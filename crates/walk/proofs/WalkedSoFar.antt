@@ -26,7 +26,8 @@ use Rattle.walk.specs.Answers.{Accepts, Refuses}
 use Rattle.walk.specs.Walk.{firstOf}
 use Rattle.walk.proofs.ApplyLaws.{Pushed, apply-pushes, operands-there, Applied, applied, unapplied}
 use Rattle.walk.proofs.BasesLaws.{first-right}
-use Rattle.walk.proofs.ProgressLaws.{Progress, too-long, progress-start, at-stack, progress-end, progress-over, progress-bad, progress-refused, progress-next}
+use Rattle.walk.proofs.ProgressLaws.{Progress, too-long, progress-start, at-stack, progress-end, progress-over}
+use Rattle.walk.proofs.ProgressLaws.{progress-bad, progress-refused, progress-next}
 use Rattle.walk.proofs.TableLaws.{tables-start, tables-next, entry-of}
 use Rattle.walk.proofs.ArraysLaws.{Arrays, stack-length, arrays-next}
 
@@ -43,7 +44,8 @@ pub record WalkedSoFar (page starts₀ firsts₀ starts firsts tags : List ℕ) 
 kept-next : (table before : List ℕ) (n entry : ℕ) → drop n table ≡ drop n before → drop (suc n) (set table n entry) ≡ drop (suc n) before
 kept-next table before n entry e =
     drop-set-lt (suc n) table n entry (omega arith)
-    ∙ ap (λ (k : ℕ). drop k table) (sym (add-one n)) ∙ sym (drop-drop 1 n table) ∙ ap (drop 1) e ∙ drop-drop 1 n before ∙ ap (λ (k : ℕ). drop k before) (add-one n)
+    ∙ ap (λ (k : ℕ). drop k table) (sym (add-one n)) ∙ sym (drop-drop 1 n table) ∙ ap (drop 1) e
+    ∙ drop-drop 1 n before ∙ ap (λ (k : ℕ). drop k before) (add-one n)
 
 pub walked-start : {page starts firsts tags : List ℕ} {values : List Float} {bases : List ℕ} → length page ≤ 8192 → Sized tags values → length bases ≡ 256
     → length starts ≡ 256 → length firsts ≡ 256 → WalkedSoFar page starts firsts starts firsts tags values bases 256 0 0
@@ -73,9 +75,11 @@ pub record Next (page starts₀ firsts₀ starts firsts tags : List ℕ) (values
   pub low : 1 ≤ top + n
   pub walked-again : (end : ℕ) → Within page next end →
       let first = firstOf n count (drop top bases) in let place = top + n - 1 in
-      WalkedSoFar page starts₀ firsts₀ (set starts count at) (set firsts count first) (set tags place (tagOf x)) (set values place (valueOf x)) (set bases place first) place end (count + 1)
+      WalkedSoFar page starts₀ firsts₀ (set starts count at) (set firsts count first) (set tags place (tagOf x))
+      (set values place (valueOf x)) (set bases place first) place end (count + 1)
 
-module _ {page starts₀ firsts₀ starts firsts tags : List ℕ} {values : List Float} {bases : List ℕ} {top at count : ℕ} (held : WalkedSoFar page starts₀ firsts₀ starts firsts tags values bases top at count) where
+module _ {page starts₀ firsts₀ starts firsts tags : List ℕ} {values : List Float} {bases : List ℕ}
+    {top at count : ℕ} (held : WalkedSoFar page starts₀ firsts₀ starts firsts tags values bases top at count) where
   abbrev trees : List Expr
   trees = held .stack
 
@@ -101,9 +105,12 @@ module _ {page starts₀ firsts₀ starts firsts tags : List ℕ} {values : List
     pub operand : getD (heldOperands tags values) 255 stringOperand ≡ operandOf tree
 
   left-one : top ≡ 255 → Left
-  left-one e = go trees refl (omega (arith, e, stack-length (held .arrays))) (sym (stack-top tags values (held .arrays .sized) 255 (omega arith)) ∙ rw e at (held .arrays .summaries))
+  left-one e = go trees refl (omega (arith, e, stack-length (held .arrays)))
+      (sym (stack-top tags values (held .arrays .sized) 255 (omega arith)) ∙ rw e at (held .arrays .summaries))
     where
-      go : (s : List Expr) → trees ≡ s → length s ≡ 1 → getD (heldOperands tags values) 255 stringOperand ∷ drop (255 + 1) (heldOperands tags values) ≡ map operandOf s → Left
+      go : (s : List Expr) → trees ≡ s → length s ≡ 1
+          → getD (heldOperands tags values) 255 stringOperand ∷ drop (255 + 1) (heldOperands tags values)
+          ≡ map operandOf s → Left
       go [] same h p = absurd (let z : ⊥ = omega arith in z)
       go (t ∷ []) same h p = record { tree = t; is = same; operand = cc }
       go (t ∷ u ∷ s) same h p = absurd (let z : ⊥ = omega arith in z)
@@ -116,7 +123,9 @@ module _ {page starts₀ firsts₀ starts firsts tags : List ℕ} {values : List
     unfolding treeAt
     ends-accepted {k} is =
         let last : suc (count - 1) ≡ count = omega (arith, one, held .arrays .depth-range) in
-        let tree-is : newest (stackAt page (suc (count - 1))) ≡ left-one one .tree = ap (λ (n : ℕ). newest (stackAt page n)) last ∙ ap newest (at-stack (held .progress) ∙ left-one one .is) in
+        let tree-is : newest (stackAt page (suc (count - 1)))
+        ≡ left-one one .tree = ap (λ (n : ℕ). newest (stackAt page n)) last
+        ∙ ap newest (at-stack (held .progress) ∙ left-one one .is) in
         let kind-is : k ≡ valueType (left-one one .tree) = is ∙ ap operandKind (left-one one .operand) ∙ operandOf-kind (left-one one .tree) in
         record {
           tables = held .tables;
@@ -166,7 +175,8 @@ module _ {page starts₀ firsts₀ starts firsts tags : List ℕ} {values : List
               head e = cc
 
           first-is : (firstOf n count (drop top bases) ≤ count) × (stackAt page (firstOf n count (drop top bases)) ≡ drop n trees)
-          first-is = first-right page count n (drop top bases) trees (at-stack (held .progress)) (held .arrays .firsts) (omega (arith, enough, stack-length (held .arrays)))
+          first-is = first-right page count n (drop top bases) trees (at-stack (held .progress))
+              (held .arrays .firsts) (omega (arith, enough, stack-length (held .arrays)))
 
           module _ (end : ℕ) (w : Within page next end) where
             onward : Progress page end (suc count) after
@@ -174,11 +184,15 @@ module _ {page starts₀ firsts₀ starts firsts tags : List ℕ} {values : List
 
             walked-next :
                 let first = firstOf n count (drop top bases) in let place = top + n - 1 in
-                WalkedSoFar page starts₀ firsts₀ (set starts count at) (set firsts count first) (set tags place (tagOf x)) (set values place (valueOf x)) (set bases place first) place end (suc count)
+                WalkedSoFar page starts₀ firsts₀ (set starts count at) (set firsts count first)
+                (set tags place (tagOf x)) (set values place (valueOf x)) (set bases place first) place end
+                (suc count)
             walked-next = record {
               stack = new .tree ∷ drop n trees;
-              progress = subst (λ (s : List Expr). Progress page end (suc count) s) (new .is ∙ ap {B = List Expr} (λ k. new .tree ∷ drop k trees) (sym takes)) onward;
-              arrays = arrays-next (held .arrays) n (firstOf n count (drop top bases)) x (new .tree) enough room operand-is (omega (arith, first-is .0)) (first-is .1);
+              progress = subst (λ (s : List Expr). Progress page end (suc count) s)
+                  (new .is ∙ ap {B = List Expr} (λ k. new .tree ∷ drop k trees) (sym takes)) onward;
+              arrays = arrays-next (held .arrays) n (firstOf n count (drop top bases)) x (new .tree) enough room
+                  operand-is (omega (arith, first-is .0)) (first-is .1);
               tables = tables-next (held .tables) (omega (arith, held .progress .count-range, few)) at (firstOf n count (drop top bases))
                   (entry-of page at (firstOf n count (drop top bases)) count (held .progress .stands) read (at-stack (held .progress)) (at-stack onward)
                   (omega (arith, enough, takes, stack-length (held .arrays))) (done .applies) (first-is .0) (first-is .1 ∙ ap (λ (k : ℕ). drop k trees) takes));

@@ -11,7 +11,8 @@ use Rattle.page.specs.Bytes.{pick, isEmpty}
 use Rattle.records.specs.Kind.{Kind, vector, scalar, matrix, string, isVector, isScalar, isString, equalKind}
 use Rattle.records.specs.Field.{has}
 use Rattle.records.specs.Modifier.{BinModifier}
-use Rattle.records.specs.Record.{Leaf, number, string as stringLeaf, selector, Wrapper, range, subquery, at, offset, unary, paren, Record, leaf, wrapper, binary, aggregate, call}
+use Rattle.records.specs.Record.{Leaf, number, string as stringLeaf, selector, Wrapper, range, subquery, at, offset}
+use Rattle.records.specs.Record.{unary, paren, Record, leaf, wrapper, binary, aggregate, call}
 
 -- the documented groups of operators and aggregators
 pub data Group : Type 0 where

@@ -10,7 +10,9 @@ use Rattle.page.specs.Bytes.{pick}
 use Rattle.records.specs.Kind.{Kind, isScalar}
 use Rattle.records.specs.Code.{isOneOf}
 use Rattle.records.specs.Literal.{Literal, negate}
-use Rattle.records.specs.Record.{Leaf, number, string, selector, Wrapper, range, subquery, at, offset, unary, paren, Record, leaf, wrapper, binary, aggregate, call, operands, Ending, end, unreadable, Records}
+use Rattle.records.specs.Record.{Leaf, number, string, selector, Wrapper, range, subquery, at, offset, unary, paren}
+use Rattle.records.specs.Record.{Record, leaf, wrapper, binary, aggregate, call, operands, Ending, end, unreadable}
+use Rattle.records.specs.Record.{Records}
 use Rattle.records.specs.Stack.{operandsOf}
 use Rattle.records.specs.LiteralException.{isExempt}
 use Rattle.working_out.specs.Asked.{firstAllowed, areAsAsked, kindGiven, isInPlace}

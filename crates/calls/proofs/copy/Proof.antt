@@ -1,4 +1,5 @@
--- `calls::copy` meets its contract: what the walk leaves is enough for the copy, and each of the three ends has its law.
+-- `calls::copy` meets its contract: what the walk leaves is
+-- enough for the copy, and each of the three ends has its law.
 -- Assumes nothing.
 use mathlib.Core.Path.{sym, _∙_}
 use denote.Ref.{now}
@@ -15,15 +16,24 @@ use Rattle.calls.proofs.copy.Statement.{statement}
 use Rattle.calls.proofs.copy.Tie as tie
 
 -- where the page is accepted: what the walk left in the tables
-known : (c : tie.After-walked) → let k = c .before .before .before .before in let s = k .before .before .before .before .before in
-    Accepts (now (s .args .page)) (k .walk .last .1 .0) (k .walk .last .1 .1 .0) (kindOf (c .walked .given .0 .0)) (c .walked .given .0 .1 .0)
-known c = rw (c .walked .given .1) at (c .before .before .before .before .walk .ensures .says)
+known : (c : tie.After-walked) →
+    let at-walk = c .before .before .before .before in
+    let at-start = at-walk .before .before .before .before .before in
+    Accepts (now (at-start .args .page)) (at-walk .walk .last .1 .0) (at-walk .walk .last .1 .1 .0)
+    (kindOf (c .walked .given .0 .0)) (c .walked .given .0 .1 .0)
+known c =
+    let at-walk = c .before .before .before .before in
+    rw (c .walked .given .1) at (at-walk .walk .ensures .says)
 
-starts-known : (c : tie.After-walked) → let k = c .before .before .before .before in let s = k .before .before .before .before .before in
-    Starts (now (s .args .page)) (k .walk .last .1 .0) (c .walked .given .0 .1 .0)
+starts-known : (c : tie.After-walked) →
+    let at-walk = c .before .before .before .before in
+    let at-start = at-walk .before .before .before .before .before in
+    Starts (now (at-start .args .page)) (at-walk .walk .last .1 .0) (c .walked .given .0 .1 .0)
 starts-known c =
-    let a = c .before .before .before .before .before .before .before .before in
-    accepted-starts (known-bytes (now (a .before .args .page)) (a .shared-slice-known .given)) (known c .tables) (known c .tree)
+    let at-shared-slice-known = c .before .before .before .before .before .before .before .before in
+    let at-start = at-shared-slice-known .before in
+    accepted-starts (known-bytes (now (at-start .args .page)) (at-shared-slice-known .shared-slice-known .given))
+    (known c .tables) (known c .tree)
 
 slice-aggregate-walk : tie.Need-slice-aggregate-walk
 slice-aggregate-walk c = search needs
@@ -47,22 +57,39 @@ slice-aggregate-put-copy : tie.Need-slice-aggregate-put-copy
 slice-aggregate-put-copy c = search needs
 
 put-copy-requires : tie.Need-put-copy-requires
-put-copy-requires c κs = (starts-known (c .before .before .before .before .before .before), leb-true _ _ (sym (c .before .before .before .copy-fits .ensures) ∙ c .before .before .if1 .taken))
+put-copy-requires c κs =
+    let at-copy-fits = c .before .before .before in
+    let at-walked = at-copy-fits .before .before .before in
+    (starts-known at-walked, leb-true _ _ (sym (at-copy-fits .copy-fits .ensures) ∙ c .before .before .if1 .taken))
 
 same-length : tie.Need-same-length
 same-length c = search needs
 
 returns : tie.Need-returns
-returns c = does-write (λ e. copyPage (now (c .before .before .before .before .before .before .before .before .before .before .before .before .before .before .before .before .before .before .args .page))) (known (c .before .before .before .before .before .before .before .before .before) .tree) (known (c .before .before .before .before .before .before .before .before .before) .kind) (sym (c .before .before .before .before .before .before .copy-fits .ensures) ∙ c .before .before .before .before .before .if1 .taken) (c .before .before .put-copy .ensures)
+returns c =
+    let at-if = c .before .before .before .before .before in
+    let at-copy-fits = at-if .before in
+    let at-walked = at-copy-fits .before .before .before in
+    let at-start = at-walked .before .before .before .before .before .before .before .before .before in
+    does-write (λ e. copyPage (now (at-start .args .page))) (known at-walked .tree) (known at-walked .kind)
+    (sym (at-copy-fits .copy-fits .ensures) ∙ at-if .if1 .taken) (c .before .before .put-copy .ensures)
 
 enum-known-walked-2 : tie.Need-enum-known-walked-2
 enum-known-walked-2 c = search needs
 
 returns-2 : tie.Need-returns-2
-returns-2 c = does-short (λ e. copyPage (now (c .before .before .before .before .before .before .before .before .before .before .before .before .before .args .page))) (known (c .before .before .before .before) .tree) (sym (c .before .copy-fits .ensures) ∙ c .if1 .left)
+returns-2 c =
+    let at-walked = c .before .before .before .before in
+    let at-start = at-walked .before .before .before .before .before .before .before .before .before in
+    does-short (λ e. copyPage (now (at-start .args .page))) (known at-walked .tree)
+    (sym (c .before .copy-fits .ensures) ∙ c .if1 .left)
 
 returns-3 : tie.Need-returns-3
-returns-3 c = does-refused (λ e. copyPage (now (c .before .before .before .before .before .before .before .before .before .before .args .page))) ((rw (c .before .walked2 .given .1) at (c .before .before .before .before .before .walk .ensures .says)) .refuses)
+returns-3 c =
+    let at-walk = c .before .before .before .before .before in
+    let at-start = at-walk .before .before .before .before .before in
+    does-refused (λ e. copyPage (now (at-start .args .page)))
+    ((rw (c .before .walked2 .given .1) at (at-walk .walk .ensures .says)) .refuses)
 
 pub copy-spec : {M : Type 1} → statement M
 copy-spec =

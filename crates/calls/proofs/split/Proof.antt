@@ -1,4 +1,5 @@
--- `calls::split` meets its contract: what the walk leaves is enough for the text, and each of the three ends has its law. Assumes nothing.
+-- `calls::split` meets its contract: what the walk leaves is enough for
+-- the text, and each of the three ends has its law. Assumes nothing.
 use Prim.Native.Nat.{_-_}
 use lib.ListN.{length}
 use denote.Ref.{now}
@@ -14,9 +15,14 @@ use Rattle.calls.proofs.split.Statement.{statement}
 use Rattle.calls.proofs.split.Tie as tie
 
 -- where the page is accepted: what the walk left in the tables
-known : (c : tie.After-walked) → let k = c .before .before .before .before in let s = k .before .before .before .before .before in
-    Accepts (now (s .args .page)) (k .walk .last .1 .0) (k .walk .last .1 .1 .0) (kindOf (c .walked .given .0 .0)) (c .walked .given .0 .1 .0)
-known c = rw (c .walked .given .1) at (c .before .before .before .before .walk .ensures .says)
+known : (c : tie.After-walked) →
+    let at-walk = c .before .before .before .before in
+    let at-start = at-walk .before .before .before .before .before in
+    Accepts (now (at-start .args .page)) (at-walk .walk .last .1 .0) (at-walk .walk .last .1 .1 .0)
+    (kindOf (c .walked .given .0 .0)) (c .walked .given .0 .1 .0)
+known c =
+    let at-walk = c .before .before .before .before in
+    rw (c .walked .given .1) at (at-walk .walk .ensures .says)
 
 slice-aggregate-walk : tie.Need-slice-aggregate-walk
 slice-aggregate-walk c = search needs
@@ -37,10 +43,14 @@ slice-aggregate-widths-of-2 : tie.Need-slice-aggregate-widths-of-2
 slice-aggregate-widths-of-2 c = search needs
 
 sub-widths-of : tie.Need-sub-widths-of
-sub-widths-of c = accepts-some (known (c .before .before .before))
+sub-widths-of c =
+    let at-walked = c .before .before .before in
+    accepts-some (known at-walked)
 
 widths-of-requires : tie.Need-widths-of-requires
-widths-of-requires c κs = accepts-last (known (c .before .before .before))
+widths-of-requires c κs =
+    let at-walked = c .before .before .before in
+    accepts-last (known at-walked)
 
 slice-aggregate-prettify-len : tie.Need-slice-aggregate-prettify-len
 slice-aggregate-prettify-len c = search needs
@@ -52,13 +62,18 @@ slice-aggregate-prettify-len-3 : tie.Need-slice-aggregate-prettify-len-3
 slice-aggregate-prettify-len-3 c = search needs
 
 sub-prettify-len : tie.Need-sub-prettify-len
-sub-prettify-len c = accepts-some (known (c .before .before .before .before .before .before .before))
+sub-prettify-len c =
+    let at-walked = c .before .before .before .before .before .before .before in
+    accepts-some (known at-walked)
 
 add-prettify-len : tie.Need-add-prettify-len
 add-prettify-len c = search needs
 
 prettify-len-requires : tie.Need-prettify-len-requires
-prettify-len-requires c κs = (accepts-last (known (c .before .before .before .before .before .before .before)), c .before .before .before .widths-of .ensures)
+prettify-len-requires c κs =
+    let at-widths-of = c .before .before .before in
+    let at-walked = at-widths-of .before .before .before .before in
+    (accepts-last (known at-walked), at-widths-of .widths-of .ensures)
 
 slice-aggregate-put-prettify : tie.Need-slice-aggregate-put-prettify
 slice-aggregate-put-prettify c = search needs
@@ -70,7 +85,9 @@ slice-aggregate-put-prettify-3 : tie.Need-slice-aggregate-put-prettify-3
 slice-aggregate-put-prettify-3 c = search needs
 
 sub-put-prettify : tie.Need-sub-put-prettify
-sub-put-prettify c = accepts-some (known (c .before .before .before .before .before .before .before .before .before .before .before .before))
+sub-put-prettify c =
+    let at-walked = c .before .before .before .before .before .before .before .before .before .before .before .before in
+    accepts-some (known at-walked)
 
 put-prettify-requires : tie.Need-put-prettify-requires
 put-prettify-requires c κs =
@@ -103,7 +120,9 @@ returns-2 c =
     (room-short _ _ _ (c .before .prettify-len .ensures) (c .if1 .left))
 
 returns-3 : tie.Need-returns-3
-returns-3 c = does-refused prettify ((rw (c .before .walked2 .given .1) at (c .before .before .before .before .before .walk .ensures .says)) .refuses)
+returns-3 c =
+    let at-walk = c .before .before .before .before .before in
+    does-refused prettify ((rw (c .before .walked2 .given .1) at (at-walk .walk .ensures .says)) .refuses)
 
 pub split-spec : {M : Type 1} → statement M
 split-spec =

@@ -20,18 +20,23 @@ enum-told c = search needs
 
 returns : tie.Need-returns
 returns c =
-    let at-grouping = c .before .before .before in
-    let at-own = at-grouping .before in
-    let p = at-own .before .before .before .pre in
-    let reads = aggregator-reads (p .0) (p .1) (at-own .code-of .ensures .is) (rw (c .before .grouping .given .1) at (at-grouping .read-label-modifier .ensures .0)) in
-    (reads, rw (c .before .grouping .given .1) at (at-grouping .read-label-modifier .ensures .1))
+    let at-read-label-modifier = c .before .before .before in
+    let at-code-of = at-read-label-modifier .before in
+    let at-start = at-code-of .before .before .before in
+    let p = at-start .pre in
+    let reads = aggregator-reads (p .0) (p .1) (at-code-of .code-of .ensures .is)
+    (rw (c .before .grouping .given .1) at (at-read-label-modifier .read-label-modifier .ensures .0)) in
+    (reads, rw (c .before .grouping .given .1) at (at-read-label-modifier .read-label-modifier .ensures .1))
 
 returns-2 : tie.Need-returns-2
 returns-2 c =
-    let at-grouping = c .before .before in
-    let at-own = at-grouping .before in
-    let p = at-own .before .before .before .pre in
-    absurd (grouping-there (p .0) (p .1) (at-own .code-of .ensures .is) (rw (c .enum-told .given .1) at (at-grouping .read-label-modifier .ensures .0)))
+    let at-code-of = c .before .before .before in
+    let at-start = at-code-of .before .before .before in
+    let p = at-start .pre in
+    absurd (grouping-there (p .0) (p .1) (at-code-of .code-of .ensures .is)
+    (rw (c .enum-told .given .1) at (c .before .before .read-label-modifier .ensures .0)))
 
 pub aggregator-of-spec : {M : Type 1} → statement M
-aggregator-of-spec = tie.close (tie.spec code-of-requires read-label-modifier-requires enum-known-grouping enum-told returns returns-2)
+aggregator-of-spec =
+    tie.close
+    (tie.spec code-of-requires read-label-modifier-requires enum-known-grouping enum-told returns returns-2)

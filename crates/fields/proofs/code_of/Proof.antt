@@ -18,16 +18,21 @@ enum-told c = search needs
 
 returns : tie.Need-returns
 returns c =
-    let at-code = c .before .before .before in
-    let at-start = at-code .before in
-    record { is = rw (c .before .code .given .1, at-start .fields-start .ensures) at (at-code .read-code .ensures) }
+    let at-read-code = c .before .before .before in
+    let at-fields-start = at-read-code .before in
+    record {
+      is = rw (c .before .code .given .1, at-fields-start .fields-start .ensures) at
+          (at-read-code .read-code .ensures);
+    }
 
 returns-2 : tie.Need-returns-2
 returns-2 c =
-    let at-code = c .before .before in
-    let at-start = at-code .before in
-    let p = at-start .before .before .before .pre in
-    absurd (code-there (p .0) (p .1) (rw (c .enum-told .given .1, at-start .fields-start .ensures) at (at-code .read-code .ensures)))
+    let at-fields-start = c .before .before .before in
+    let at-start = at-fields-start .before .before .before in
+    let p = at-start .pre in
+    absurd (code-there (p .0) (p .1)
+    (rw (c .enum-told .given .1, at-fields-start .fields-start .ensures) at
+    (c .before .before .read-code .ensures)))
 
 pub code-of-spec : {M : Type 1} → statement M
 code-of-spec =

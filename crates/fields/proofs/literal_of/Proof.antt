@@ -14,13 +14,15 @@ enum-told : tie.Need-enum-told
 enum-told c = search needs
 
 returns : tie.Need-returns
-returns c = rw (c .before .l .given .1) at (c .before .before .before .signed-literal .ensures)
+returns c =
+    let at-signed-literal = c .before .before .before in
+    rw (c .before .l .given .1) at (at-signed-literal .signed-literal .ensures)
 
 returns-2 : tie.Need-returns-2
 returns-2 c =
-    let at-signed = c .before .before in
-    let p = at-signed .before .before .before .pre in
-    absurd (literal-there (p .0) (p .1) (rw (c .enum-told .given .1) at (at-signed .signed-literal .ensures)))
+    let at-start = c .before .before .before .before .before in
+    let p = at-start .pre in
+    absurd (literal-there (p .0) (p .1) (rw (c .enum-told .given .1) at (c .before .before .signed-literal .ensures)))
 
 pub literal-of-spec : {M : Type 1} → statement M
 literal-of-spec =

@@ -20,18 +20,22 @@ enum-told c = search needs
 
 returns : tie.Need-returns
 returns c =
-    let at-modifier = c .before .before .before in
-    let at-own = at-modifier .before in
-    let p = at-own .before .before .before .pre in
-    let reads = operator-reads (p .0) (p .1) (at-own .code-of .ensures .is) (rw (c .before .modifier .given .1) at (at-modifier .read-modifier .ensures .0)) in
-    (reads, (rw (c .before .modifier .given .1) at (at-modifier .read-modifier .ensures .1), reads-exact reads))
+    let at-read-modifier = c .before .before .before in
+    let at-code-of = at-read-modifier .before in
+    let at-start = at-code-of .before .before .before in
+    let p = at-start .pre in
+    let reads = operator-reads (p .0) (p .1) (at-code-of .code-of .ensures .is)
+    (rw (c .before .modifier .given .1) at (at-read-modifier .read-modifier .ensures .0)) in
+    (reads, (rw (c .before .modifier .given .1) at (at-read-modifier .read-modifier .ensures .1), reads-exact reads))
 
 returns-2 : tie.Need-returns-2
 returns-2 c =
-    let at-modifier = c .before .before in
-    let at-own = at-modifier .before in
-    let p = at-own .before .before .before .pre in
-    absurd (modifier-there (p .0) (p .1) (at-own .code-of .ensures .is) (rw (c .enum-told .given .1) at (at-modifier .read-modifier .ensures .0)))
+    let at-code-of = c .before .before .before in
+    let at-start = at-code-of .before .before .before in
+    let p = at-start .pre in
+    absurd (modifier-there (p .0) (p .1) (at-code-of .code-of .ensures .is)
+    (rw (c .enum-told .given .1) at (c .before .before .read-modifier .ensures .0)))
 
 pub operator-of-spec : {M : Type 1} → statement M
-operator-of-spec = tie.close (tie.spec code-of-requires read-modifier-requires enum-known-modifier enum-told returns returns-2)
+operator-of-spec =
+    tie.close (tie.spec code-of-requires read-modifier-requires enum-known-modifier enum-told returns returns-2)

@@ -1,4 +1,5 @@
--- `fields::selector_of` meets its contract: the name, then the count of the matchers; they stand after it. Assumes nothing.
+-- `fields::selector_of` meets its contract: the name, then the
+-- count of the matchers; they stand after it. Assumes nothing.
 use mathlib.Core.Path.{refl}
 use Rattle.text.proofs.EntryLaws.{page-short}
 use Rattle.text.proofs.SoundLaws.{allowed}
@@ -42,30 +43,52 @@ selector-requires-3 c κs = search needs
 
 returns : tie.Need-returns
 returns c =
-    let at-count = c .before .before .before .before in
-    let at-name = at-count .before .before .before .before in
-    let at-start = at-name .before in
-    let p = at-start .before .before .before .pre in
-    let name = rw (at-count .before .before .name .given .1, at-start .fields-start .ensures) at (at-name .read-text .ensures .0) in
-    let r = selector-reads (p .0) (p .1) name (rw (c .before .before .count .given .1) at (at-count .read-count .ensures)) in
-    let lies = rw (at-count .before .before .name .given .1) at (at-name .read-text .ensures .1) in
-    rw (c .selector .ensures) (r .0, (record { name = lies; stored = r .1; few = allowed _ (r .0 .reads) .1 .0; short = page-short (p .0 .known .tables) }, (refl, refl)))
+    let at-read-count = c .before .before .before .before in
+    let at-name = at-read-count .before .before in
+    let at-read-text = at-name .before .before in
+    let at-fields-start = at-read-text .before in
+    let at-start = at-fields-start .before .before .before in
+    let p = at-start .pre in
+    let name = rw (at-name .name .given .1, at-fields-start .fields-start .ensures) at
+    (at-read-text .read-text .ensures .0) in
+    let r = selector-reads (p .0) (p .1) name
+    (rw (c .before .before .count .given .1) at (at-read-count .read-count .ensures)) in
+    let lies = rw (at-name .name .given .1) at (at-read-text .read-text .ensures .1) in
+    rw (c .selector .ensures) (
+      r .0,
+      (
+        record {
+          name = lies;
+          stored = r .1;
+          few = allowed _ (r .0 .reads) .1 .0;
+          short = page-short (p .0 .known .tables);
+        },
+        (refl, refl),
+      ),
+    )
 
 returns-2 : tie.Need-returns-2
 returns-2 c =
-    let at-count = c .before .before .before in
-    let at-name = at-count .before .before .before .before in
-    let at-start = at-name .before in
-    let p = at-start .before .before .before .pre in
-    let name = rw (at-count .before .before .name .given .1, at-start .fields-start .ensures) at (at-name .read-text .ensures .0) in
-    absurd (matchers-there (p .0) (p .1) name (rw (c .before .enum-told .given .1) at (at-count .read-count .ensures)))
+    let at-read-count = c .before .before .before in
+    let at-name = at-read-count .before .before in
+    let at-read-text = at-name .before .before in
+    let at-fields-start = at-read-text .before in
+    let at-start = at-fields-start .before .before .before in
+    let p = at-start .pre in
+    let name = rw (at-name .name .given .1, at-fields-start .fields-start .ensures) at
+    (at-read-text .read-text .ensures .0) in
+    absurd (matchers-there (p .0) (p .1) name
+    (rw (c .before .enum-told .given .1) at (at-read-count .read-count .ensures)))
 
 returns-3 : tie.Need-returns-3
 returns-3 c =
-    let at-name = c .before .before .before .before in
-    let at-start = at-name .before in
-    let p = at-start .before .before .before .pre in
-    absurd (name-there (p .0) (p .1) (rw (c .before .before .enum-told2 .given .1, at-start .fields-start .ensures) at (at-name .read-text .ensures .0)))
+    let at-read-text = c .before .before .before .before in
+    let at-fields-start = at-read-text .before in
+    let at-start = at-fields-start .before .before .before in
+    let p = at-start .pre in
+    absurd (name-there (p .0) (p .1)
+    (rw (c .before .before .enum-told2 .given .1, at-fields-start .fields-start .ensures) at
+    (at-read-text .read-text .ensures .0)))
 
 pub selector-of-spec : {M : Type 1} → statement M
 selector-of-spec =

@@ -27,28 +27,37 @@ enum-told-2 c = search needs
 
 returns : tie.Need-returns
 returns c =
-    let at-step = c .before .before .before in
-    let at-range = at-step .before .before .before .before in
-    let at-start = at-range .before in
-    let p = at-start .before .before .before .pre in
-    let range = rw (at-step .before .before .range .given .1, at-start .fields-start .ensures) at (at-range .read-number .ensures .0) in
-    spacing-reads (p .0) (p .1) range (rw (c .before .step .given .1) at (at-step .read-optional-duration .ensures))
+    let at-read-optional-duration = c .before .before .before in
+    let at-range = at-read-optional-duration .before .before in
+    let at-read-number = at-range .before .before in
+    let at-fields-start = at-read-number .before in
+    let at-start = at-fields-start .before .before .before in
+    let p = at-start .pre in
+    let range = rw (at-range .range .given .1, at-fields-start .fields-start .ensures) at
+    (at-read-number .read-number .ensures .0) in
+    spacing-reads (p .0) (p .1) range
+    (rw (c .before .step .given .1) at (at-read-optional-duration .read-optional-duration .ensures))
 
 returns-2 : tie.Need-returns-2
 returns-2 c =
-    let at-step = c .before .before in
-    let at-range = at-step .before .before .before .before in
-    let at-start = at-range .before in
-    let p = at-start .before .before .before .pre in
-    let range = rw (at-step .before .before .range .given .1, at-start .fields-start .ensures) at (at-range .read-number .ensures .0) in
-    absurd (step-there (p .0) (p .1) range (rw (c .enum-told .given .1) at (at-step .read-optional-duration .ensures)))
+    let at-range = c .before .before .before .before in
+    let at-read-number = at-range .before .before in
+    let at-fields-start = at-read-number .before in
+    let at-start = at-fields-start .before .before .before in
+    let p = at-start .pre in
+    let range = rw (at-range .range .given .1, at-fields-start .fields-start .ensures) at
+    (at-read-number .read-number .ensures .0) in
+    absurd (step-there (p .0) (p .1) range
+    (rw (c .enum-told .given .1) at (c .before .before .read-optional-duration .ensures)))
 
 returns-3 : tie.Need-returns-3
 returns-3 c =
-    let at-range = c .before .before in
-    let at-start = at-range .before in
-    let p = at-start .before .before .before .pre in
-    absurd (range-there (p .0) (p .1) (rw (c .enum-told2 .given .1, at-start .fields-start .ensures) at (at-range .read-number .ensures .0)))
+    let at-fields-start = c .before .before .before in
+    let at-start = at-fields-start .before .before .before in
+    let p = at-start .pre in
+    absurd (range-there (p .0) (p .1)
+    (rw (c .enum-told2 .given .1, at-fields-start .fields-start .ensures) at
+    (c .before .before .read-number .ensures .0)))
 
 pub spacing-of-spec : {M : Type 1} → statement M
 spacing-of-spec =

@@ -11,7 +11,9 @@ enum-known-x : tie.Need-enum-known-x
 enum-known-x c = search needs
 
 literal-value-requires : tie.Need-literal-value-requires
-literal-value-requires c κs = rw (c .before .x .given .1) at (c .before .before .before .pre)
+literal-value-requires c κs =
+    let at-start = c .before .before .before in
+    rw (c .before .x .given .1) at (at-start .pre)
 
 returns : tie.Need-returns
 returns c = rw (c .enum-told .given .1) zero-is

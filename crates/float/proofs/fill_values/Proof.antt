@@ -16,7 +16,14 @@ is-present-requires-2 : tie.Need-is-present-requires-2
 is-present-requires-2 c κs = search needs
 
 returns : tie.Need-returns
-returns c = rw (c .before .before .before .fill-value .ensures, c .before .before .fill-value2 .ensures, c .before .is-present .ensures, c .is-present2 .ensures)
+returns c =
+    let at-fill-value = c .before .before .before in
+    rw (
+      at-fill-value .fill-value .ensures,
+      c .before .before .fill-value2 .ensures,
+      c .before .is-present .ensures,
+      c .is-present2 .ensures,
+    )
 
 pub fill-values-spec : {M : Type 1} → statement M
 fill-values-spec =

@@ -7,13 +7,17 @@ enum-known-l : tie.Need-enum-known-l
 enum-known-l c = search needs
 
 whole-requires : tie.Need-whole-requires
-whole-requires c κs = rw (c .before .l .given .1) at (c .before .before .before .pre)
+whole-requires c κs =
+    let at-start = c .before .before .before in
+    rw (c .before .l .given .1) at (at-start .pre)
 
 enum-known-l-2 : tie.Need-enum-known-l-2
 enum-known-l-2 c = search needs
 
 whole-requires-2 : tie.Need-whole-requires-2
-whole-requires-2 c κs = rw (c .before .l2 .given .1) at (c .before .before .before .pre)
+whole-requires-2 c κs =
+    let at-start = c .before .before .before in
+    rw (c .before .l2 .given .1) at (at-start .pre)
 
 negated-requires : tie.Need-negated-requires
 negated-requires c κs = search needs
@@ -43,7 +47,9 @@ returns : tie.Need-returns
 returns c = rw (c .before .before .l .given .1, c .whole .ensures)
 
 returns-2 : tie.Need-returns-2
-returns-2 c = rw (c .before .before .before .l2 .given .1, c .negated .ensures, c .before .whole2 .ensures)
+returns-2 c =
+    let at-second-l = c .before .before .before in
+    rw (at-second-l .l2 .given .1, c .negated .ensures, c .before .whole2 .ensures)
 
 returns-3 : tie.Need-returns-3
 returns-3 c = search needs

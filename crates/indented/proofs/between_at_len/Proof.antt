@@ -33,13 +33,17 @@ enum-told-5 : tie.Need-enum-told-5
 enum-told-5 c = search needs
 
 indent-len-requires : tie.Need-indent-len-requires
-indent-len-requires c κs = c .before .before .before .before .before .pre .1
+indent-len-requires c κs =
+    let at-start = c .before .before .before .before .before in
+    at-start .pre .1
 
 sub-operator-len : tie.Need-sub-operator-len
 sub-operator-len c = omega (arith, c .indent-len .ensures)
 
 operator-len-requires : tie.Need-operator-len-requires
-operator-len-requires c κs = c .before .before .before .before .before .before .pre .0
+operator-len-requires c κs =
+    let at-start = c .before .before .before .before .before .before in
+    at-start .pre .0
 
 add-capped-add : tie.Need-add-capped-add
 add-capped-add c = omega (arith, c .before .indent-len .ensures, c .operator-len .ensures)
@@ -48,19 +52,45 @@ capped-add-requires-2 : tie.Need-capped-add-requires-2
 capped-add-requires-2 c κs = search needs
 
 returns : tie.Need-returns
-returns c = let e = layout-shaped (c .before .before .before .before .before .pre .0) (sym (c .enum-told .given .1) ∙ c .before .before .shape-of .ensures) in omega (arith, ap (λ (l : Layout). length (betweenAt (c .before .before .before .before .before .args .level) l)) e)
+returns c =
+    let at-start = c .before .before .before .before .before in
+    let e = layout-shaped (at-start .pre .0)
+    (sym (c .enum-told .given .1) ∙ c .before .before .shape-of .ensures) in
+    omega (arith, ap (λ (l : Layout). length (betweenAt (at-start .args .level) l)) e)
 
 returns-2 : tie.Need-returns-2
-returns-2 c = let e = layout-shaped (c .before .before .before .before .before .pre .0) (sym (c .enum-told2 .given .1) ∙ c .before .before .shape-of .ensures) in omega (arith, ap (λ (l : Layout). length (betweenAt (c .before .before .before .before .before .args .level) l)) e)
+returns-2 c =
+    let at-start = c .before .before .before .before .before in
+    let e = layout-shaped (at-start .pre .0)
+    (sym (c .enum-told2 .given .1) ∙ c .before .before .shape-of .ensures) in
+    omega (arith, ap (λ (l : Layout). length (betweenAt (at-start .args .level) l)) e)
 
 returns-3 : tie.Need-returns-3
-returns-3 c = let e = layout-shaped (c .before .before .before .before .before .pre .0) (sym (c .enum-told3 .given .1) ∙ c .before .before .shape-of .ensures) in omega (arith, ap (λ (l : Layout). length (betweenAt (c .before .before .before .before .before .args .level) l)) e)
+returns-3 c =
+    let at-start = c .before .before .before .before .before in
+    let e = layout-shaped (at-start .pre .0)
+    (sym (c .enum-told3 .given .1) ∙ c .before .before .shape-of .ensures) in
+    omega (arith, ap (λ (l : Layout). length (betweenAt (at-start .args .level) l)) e)
 
 returns-4 : tie.Need-returns-4
-returns-4 c = let e = layout-shaped (c .before .before .before .before .before .before .pre .0) (sym (c .before .enum-told4 .given .1) ∙ c .before .before .before .shape-of .ensures) in omega (arith, c .capped-add .ensures, ap (λ (l : Layout). length (betweenAt (c .before .before .before .before .before .before .args .level) l)) e)
+returns-4 c =
+    let at-shape-of = c .before .before .before in
+    let at-start = at-shape-of .before .before .before in
+    let e = layout-shaped (at-start .pre .0)
+    (sym (c .before .enum-told4 .given .1) ∙ at-shape-of .shape-of .ensures) in
+    omega (arith, c .capped-add .ensures, ap (λ (l : Layout). length (betweenAt (at-start .args .level) l)) e)
 
 returns-5 : tie.Need-returns-5
-returns-5 c = let e = layout-shaped (c .before .before .before .before .before .before .before .before .pre .0) (sym (c .before .before .before .enum-told5 .given .1) ∙ c .before .before .before .before .before .shape-of .ensures) in len-as _ _ _ (ap (betweenAt (c .before .before .before .before .before .before .before .before .args .level)) e) (infixed-len (c .before .before .before .before .before .before .before .before .args .level) (operator (layoutAt (c .before .before .before .before .before .before .before .before .args .page .now) (c .before .before .before .before .before .before .before .before .args .node))) _ _ _ _ (c .before .before .indent-len .ensures) (c .before .operator-len .ensures) (c .capped-add2 .ensures))
+returns-5 c =
+    let at-fifth-told = c .before .before .before in
+    let at-shape-of = at-fifth-told .before .before in
+    let at-start = at-shape-of .before .before .before in
+    let e = layout-shaped (at-start .pre .0)
+    (sym (at-fifth-told .enum-told5 .given .1) ∙ at-shape-of .shape-of .ensures) in
+    len-as _ _ _ (ap (betweenAt (at-start .args .level)) e)
+    (infixed-len (at-start .args .level)
+    (operator (layoutAt (at-start .args .page .now) (at-start .args .node))) _ _ _ _
+    (c .before .before .indent-len .ensures) (c .before .operator-len .ensures) (c .capped-add2 .ensures))
 
 pub between-at-len-spec : {M : Type 1} → statement M
 between-at-len-spec =

@@ -19,13 +19,17 @@ enum-told : tie.Need-enum-told
 enum-told c = search needs
 
 led-len-requires : tie.Need-led-len-requires
-led-len-requires c κs = c .before .before .before .before .before .pre
+led-len-requires c κs =
+    let at-start = c .before .before .before .before .before in
+    at-start .pre
 
 enum-told-2 : tie.Need-enum-told-2
 enum-told-2 c = search needs
 
 led-len-requires-2 : tie.Need-led-len-requires-2
-led-len-requires-2 c κs = c .before .before .before .before .before .pre
+led-len-requires-2 c κs =
+    let at-start = c .before .before .before .before .before in
+    at-start .pre
 
 enum-told-3 : tie.Need-enum-told-3
 enum-told-3 c = search needs
@@ -34,7 +38,9 @@ enum-told-4 : tie.Need-enum-told-4
 enum-told-4 c = search needs
 
 led-len-requires-3 : tie.Need-led-len-requires-3
-led-len-requires-3 c κs = c .before .before .before .before .before .pre
+led-len-requires-3 c κs =
+    let at-start = c .before .before .before .before .before in
+    at-start .pre
 
 capped-add-requires : tie.Need-capped-add-requires
 capped-add-requires c κs = search needs
@@ -43,19 +49,49 @@ enum-told-5 : tie.Need-enum-told-5
 enum-told-5 c = search needs
 
 returns : tie.Need-returns
-returns c = let e = layout-shaped (c .before .before .before .before .before .before .pre .0) (sym (c .before .enum-told .given .1) ∙ c .before .before .before .shape-of .ensures) in len-as _ _ _ (ap (frontAt (c .before .before .before .before .before .before .args .indents) (c .before .before .before .before .before .before .args .level)) e) (c .led-len .ensures)
+returns c =
+    let at-shape-of = c .before .before .before in
+    let at-start = at-shape-of .before .before .before in
+    let e = layout-shaped (at-start .pre .0)
+    (sym (c .before .enum-told .given .1) ∙ at-shape-of .shape-of .ensures) in
+    len-as _ _ _ (ap (frontAt (at-start .args .indents) (at-start .args .level)) e) (c .led-len .ensures)
 
 returns-2 : tie.Need-returns-2
-returns-2 c = let e = layout-shaped (c .before .before .before .before .before .before .pre .0) (sym (c .before .enum-told2 .given .1) ∙ c .before .before .before .shape-of .ensures) in len-as _ _ _ (ap (frontAt (c .before .before .before .before .before .before .args .indents) (c .before .before .before .before .before .before .args .level)) e ∙ sym (ap (λ (l : Layout). indentIf (c .before .before .before .before .before .before .args .indents) (c .before .before .before .before .before .before .args .level) ++ head l) e)) (c .led-len2 .ensures)
+returns-2 c =
+    let at-shape-of = c .before .before .before in
+    let at-start = at-shape-of .before .before .before in
+    let e = layout-shaped (at-start .pre .0)
+    (sym (c .before .enum-told2 .given .1) ∙ at-shape-of .shape-of .ensures) in
+    len-as _ _ _
+    (ap (frontAt (at-start .args .indents) (at-start .args .level)) e
+    ∙ sym (ap (λ (l : Layout). indentIf (at-start .args .indents) (at-start .args .level) ++ head l) e))
+    (c .led-len2 .ensures)
 
 returns-3 : tie.Need-returns-3
-returns-3 c = let e = layout-shaped (c .before .before .before .before .before .pre .0) (sym (c .enum-told3 .given .1) ∙ c .before .before .shape-of .ensures) in omega (arith, ap (λ (l : Layout). length (frontAt (c .before .before .before .before .before .args .indents) (c .before .before .before .before .before .args .level) l)) e)
+returns-3 c =
+    let at-start = c .before .before .before .before .before in
+    let e = layout-shaped (at-start .pre .0)
+    (sym (c .enum-told3 .given .1) ∙ c .before .before .shape-of .ensures) in
+    omega (arith, ap (λ (l : Layout). length (frontAt (at-start .args .indents) (at-start .args .level) l)) e)
 
 returns-4 : tie.Need-returns-4
-returns-4 c = let e = layout-shaped (c .before .before .before .before .before .before .before .pre .0) (sym (c .before .before .enum-told4 .given .1) ∙ c .before .before .before .before .shape-of .ensures) in len-plus _ (indentIf (c .before .before .before .before .before .before .before .args .indents) (c .before .before .before .before .before .before .before .args .level) ++ head (layoutAt (c .before .before .before .before .before .before .before .args .page .now) (c .before .before .before .before .before .before .before .args .node))) (bytes "(\n") _ _ _ (ap (frontAt (c .before .before .before .before .before .before .before .args .indents) (c .before .before .before .before .before .before .before .args .level)) e) (c .before .led-len3 .ensures) (c .capped-add .ensures)
+returns-4 c =
+    let at-shape-of = c .before .before .before .before in
+    let at-start = at-shape-of .before .before .before in
+    let e = layout-shaped (at-start .pre .0)
+    (sym (c .before .before .enum-told4 .given .1) ∙ at-shape-of .shape-of .ensures) in
+    len-plus _
+    (indentIf (at-start .args .indents) (at-start .args .level)
+    ++ head (layoutAt (at-start .args .page .now) (at-start .args .node))) (bytes "(\n") _ _ _
+    (ap (frontAt (at-start .args .indents) (at-start .args .level)) e) (c .before .led-len3 .ensures)
+    (c .capped-add .ensures)
 
 returns-5 : tie.Need-returns-5
-returns-5 c = let e = layout-shaped (c .before .before .before .before .before .pre .0) (sym (c .enum-told5 .given .1) ∙ c .before .before .shape-of .ensures) in omega (arith, ap (λ (l : Layout). length (frontAt (c .before .before .before .before .before .args .indents) (c .before .before .before .before .before .args .level) l)) e)
+returns-5 c =
+    let at-start = c .before .before .before .before .before in
+    let e = layout-shaped (at-start .pre .0)
+    (sym (c .enum-told5 .given .1) ∙ c .before .before .shape-of .ensures) in
+    omega (arith, ap (λ (l : Layout). length (frontAt (at-start .args .indents) (at-start .args .level) l)) e)
 
 pub front-at-len-spec : {M : Type 1} → statement M
 front-at-len-spec =

@@ -13,13 +13,19 @@ sub-head-len : tie.Need-sub-head-len
 sub-head-len c = omega (arith, c .indent-len .ensures)
 
 head-len-requires : tie.Need-head-len-requires
-head-len-requires c κs = c .before .before .before .pre .0
+head-len-requires c κs =
+    let at-start = c .before .before .before in
+    at-start .pre .0
 
 add-result : tie.Need-add-result
 add-result c = omega (arith, c .before .indent-len .ensures, c .head-len .ensures)
 
 returns : tie.Need-returns
-returns c = led (indentIf (c .before .before .before .before .args .indents) (c .before .before .before .before .args .level)) (head (layoutAt (c .before .before .before .before .args .page .now) (c .before .before .before .before .args .node))) (c .before .before .before .before .args .cap) _ _ (c .before .indent-len .ensures) (c .head-len .ensures)
+returns c =
+    let at-start = c .before .before .before .before in
+    led (indentIf (at-start .args .indents) (at-start .args .level))
+    (head (layoutAt (at-start .args .page .now) (at-start .args .node))) (at-start .args .cap) _ _
+    (c .before .indent-len .ensures) (c .head-len .ensures)
 
 pub led-len-spec : {M : Type 1} → statement M
 led-len-spec =

@@ -22,43 +22,105 @@ enum-told-3 : tie.Need-enum-told-3
 enum-told-3 c = search needs
 
 put-suffix-requires : tie.Need-put-suffix-requires
-put-suffix-requires c κs = let e = layout-shaped (c .before .before .before .before .before .before .before .pre .0) (sym (c .before .enum-told3 .given .1) ∙ c .before .before .before .shape-of .ensures) in (c .before .before .before .before .before .before .before .pre .0, room-as _ _ (c .before .before .before .before .before .before .before .args .at) _ (ap (rearAt (c .before .before .before .before .before .before .before .args .level)) e) (c .before .before .before .before .before .before .before .pre .1))
+put-suffix-requires c κs =
+    let at-shape-of = c .before .before .before in
+    let at-start = at-shape-of .before .before .before .before in
+    let e = layout-shaped (at-start .pre .0)
+    (sym (c .before .enum-told3 .given .1) ∙ at-shape-of .shape-of .ensures) in (
+      at-start .pre .0,
+      room-as _ _ (at-start .args .at) _ (ap (rearAt (at-start .args .level)) e) (at-start .pre .1),
+    )
 
 enum-told-4 : tie.Need-enum-told-4
 enum-told-4 c = search needs
 
 put-byte-requires : tie.Need-put-byte-requires
-put-byte-requires c κs = let e = layout-shaped (c .before .before .before .before .before .before .before .pre .0) (sym (c .before .enum-told4 .given .1) ∙ c .before .before .before .shape-of .ensures) in fits (run-closed (c .before .before .before .before .before .before .before .args .level) (c .before .before .before .before .before .before .before .args .out .now) (c .before .before .before .before .before .before .before .args .at) (ap (rearAt (c .before .before .before .before .before .before .before .args .level)) e) (c .before .before .before .before .before .before .before .pre .1))
+put-byte-requires c κs =
+    let at-shape-of = c .before .before .before in
+    let at-start = at-shape-of .before .before .before .before in
+    let e = layout-shaped (at-start .pre .0)
+    (sym (c .before .enum-told4 .given .1) ∙ at-shape-of .shape-of .ensures) in
+    fits (run-closed (at-start .args .level) (at-start .args .out .now) (at-start .args .at)
+    (ap (rearAt (at-start .args .level)) e) (at-start .pre .1))
 
 put-spaces-requires : tie.Need-put-spaces-requires
-put-spaces-requires c κs = let e = layout-shaped (c .before .before .before .before .before .before .before .before .before .before .before .pre .0) (sym (c .before .before .before .before .before .enum-told4 .given .1) ∙ c .before .before .before .before .before .before .before .shape-of .ensures) in fits (next (run-closed (c .before .before .before .before .before .before .before .before .before .before .before .args .level) (c .before .before .before .before .before .before .before .before .before .before .before .args .out .now) (c .before .before .before .before .before .before .before .before .before .before .before .args .at) (ap (rearAt (c .before .before .before .before .before .before .before .before .before .before .before .args .level)) e) (c .before .before .before .before .before .before .before .before .before .before .before .pre .1)) (c .before .before .before .put-byte .ensures))
+put-spaces-requires c κs =
+    let at-put-byte = c .before .before .before in
+    let at-fourth-told = at-put-byte .before .before in
+    let at-shape-of = at-fourth-told .before .before in
+    let at-start = at-shape-of .before .before .before .before in
+    let e = layout-shaped (at-start .pre .0)
+    (sym (at-fourth-told .enum-told4 .given .1) ∙ at-shape-of .shape-of .ensures) in
+    fits (next (run-closed (at-start .args .level) (at-start .args .out .now) (at-start .args .at)
+    (ap (rearAt (at-start .args .level)) e) (at-start .pre .1)) (at-put-byte .put-byte .ensures))
 
 put-byte-requires-2 : tie.Need-put-byte-requires-2
-put-byte-requires-2 c κs = let e = layout-shaped (c .before .before .before .before .before .before .before .before .before .before .before .before .before .before .before .pre .0) (sym (c .before .before .before .before .before .before .before .before .before .enum-told4 .given .1) ∙ c .before .before .before .before .before .before .before .before .before .before .before .shape-of .ensures) in fits (next (next (run-closed (c .before .before .before .before .before .before .before .before .before .before .before .before .before .before .before .args .level) (c .before .before .before .before .before .before .before .before .before .before .before .before .before .before .before .args .out .now) (c .before .before .before .before .before .before .before .before .before .before .before .before .before .before .before .args .at) (ap (rearAt (c .before .before .before .before .before .before .before .before .before .before .before .before .before .before .before .args .level)) e) (c .before .before .before .before .before .before .before .before .before .before .before .before .before .before .before .pre .1)) (c .before .before .before .before .before .before .before .put-byte .ensures)) (c .before .before .before .put-spaces .ensures))
+put-byte-requires-2 c κs =
+    let at-put-spaces = c .before .before .before in
+    let at-put-byte = at-put-spaces .before .before .before .before in
+    let at-fourth-told = at-put-byte .before .before in
+    let at-shape-of = at-fourth-told .before .before in
+    let at-start = at-shape-of .before .before .before .before in
+    let e = layout-shaped (at-start .pre .0)
+    (sym (at-fourth-told .enum-told4 .given .1) ∙ at-shape-of .shape-of .ensures) in
+    fits (next (next (run-closed (at-start .args .level) (at-start .args .out .now) (at-start .args .at)
+    (ap (rearAt (at-start .args .level)) e) (at-start .pre .1)) (at-put-byte .put-byte .ensures))
+    (at-put-spaces .put-spaces .ensures))
 
 enum-told-5 : tie.Need-enum-told-5
 enum-told-5 c = search needs
 
 returns : tie.Need-returns
-returns c = let e = layout-shaped (c .before .before .before .before .before .before .pre .0) (sym (c .enum-told .given .1) ∙ c .before .before .shape-of .ensures) in wrote-nothing _ _ (ap (rearAt (c .before .before .before .before .before .before .args .level)) e)
+returns c =
+    let at-start = c .before .before .before .before .before .before in
+    let e = layout-shaped (at-start .pre .0)
+    (sym (c .enum-told .given .1) ∙ c .before .before .shape-of .ensures) in
+    wrote-nothing _ _ (ap (rearAt (at-start .args .level)) e)
 
 returns-2 : tie.Need-returns-2
-returns-2 c = let e = layout-shaped (c .before .before .before .before .before .before .pre .0) (sym (c .enum-told2 .given .1) ∙ c .before .before .shape-of .ensures) in wrote-nothing _ _ (ap (rearAt (c .before .before .before .before .before .before .args .level)) e)
+returns-2 c =
+    let at-start = c .before .before .before .before .before .before in
+    let e = layout-shaped (at-start .pre .0)
+    (sym (c .enum-told2 .given .1) ∙ c .before .before .shape-of .ensures) in
+    wrote-nothing _ _ (ap (rearAt (at-start .args .level)) e)
 
 same-length : tie.Need-same-length
 same-length c = c .before .before .put-suffix .kept .1 .1 .1 .0
 
 returns-3 : tie.Need-returns-3
-returns-3 c = let e = layout-shaped (c .before .before .before .before .before .before .before .before .before .before .pre .0) (sym (c .before .before .before .before .enum-told3 .given .1) ∙ c .before .before .before .before .before .before .shape-of .ensures) in wrote-as (ap (rearAt (c .before .before .before .before .before .before .before .before .before .before .args .level)) e) (c .before .before .put-suffix .ensures)
+returns-3 c =
+    let at-third-told = c .before .before .before .before in
+    let at-shape-of = at-third-told .before .before in
+    let at-start = at-shape-of .before .before .before .before in
+    let e = layout-shaped (at-start .pre .0)
+    (sym (at-third-told .enum-told3 .given .1) ∙ at-shape-of .shape-of .ensures) in
+    wrote-as (ap (rearAt (at-start .args .level)) e) (c .before .before .put-suffix .ensures)
 
 same-length-2 : tie.Need-same-length-2
-same-length-2 c = c .before .before .put-byte2 .kept .1 .0 ∙ c .before .before .before .before .before .before .put-spaces .kept .1 .0 ∙ c .before .before .before .before .before .before .before .before .before .before .put-byte .kept .1 .0
+same-length-2 c =
+    let at-put-spaces = c .before .before .before .before .before .before in
+    let at-put-byte = at-put-spaces .before .before .before .before in
+    c .before .before .put-byte2 .kept .1 .0 ∙ at-put-spaces .put-spaces .kept .1 .0 ∙ at-put-byte .put-byte .kept .1 .0
 
 returns-4 : tie.Need-returns-4
-returns-4 c = let e = layout-shaped (c .before .before .before .before .before .before .before .before .before .before .before .before .before .before .before .before .before .before .pre .0) (sym (c .before .before .before .before .before .before .before .before .before .before .before .before .enum-told4 .given .1) ∙ c .before .before .before .before .before .before .before .before .before .before .before .before .before .before .shape-of .ensures) in end (next (next (next (run-closed (c .before .before .before .before .before .before .before .before .before .before .before .before .before .before .before .before .before .before .args .level) (c .before .before .before .before .before .before .before .before .before .before .before .before .before .before .before .before .before .before .args .out .now) (c .before .before .before .before .before .before .before .before .before .before .before .before .before .before .before .before .before .before .args .at) (ap (rearAt (c .before .before .before .before .before .before .before .before .before .before .before .before .before .before .before .before .before .before .args .level)) e) (c .before .before .before .before .before .before .before .before .before .before .before .before .before .before .before .before .before .before .pre .1)) (c .before .before .before .before .before .before .before .before .before .before .put-byte .ensures)) (c .before .before .before .before .before .before .put-spaces .ensures)) (c .before .before .put-byte2 .ensures))
+returns-4 c =
+    let at-put-spaces = c .before .before .before .before .before .before in
+    let at-put-byte = at-put-spaces .before .before .before .before in
+    let at-fourth-told = at-put-byte .before .before in
+    let at-shape-of = at-fourth-told .before .before in
+    let at-start = at-shape-of .before .before .before .before in
+    let e = layout-shaped (at-start .pre .0)
+    (sym (at-fourth-told .enum-told4 .given .1) ∙ at-shape-of .shape-of .ensures) in
+    end (next (next (next (run-closed (at-start .args .level) (at-start .args .out .now) (at-start .args .at)
+    (ap (rearAt (at-start .args .level)) e) (at-start .pre .1)) (at-put-byte .put-byte .ensures))
+    (at-put-spaces .put-spaces .ensures)) (c .before .before .put-byte2 .ensures))
 
 returns-5 : tie.Need-returns-5
-returns-5 c = let e = layout-shaped (c .before .before .before .before .before .before .pre .0) (sym (c .enum-told5 .given .1) ∙ c .before .before .shape-of .ensures) in wrote-nothing _ _ (ap (rearAt (c .before .before .before .before .before .before .args .level)) e)
+returns-5 c =
+    let at-start = c .before .before .before .before .before .before in
+    let e = layout-shaped (at-start .pre .0)
+    (sym (c .enum-told5 .given .1) ∙ c .before .before .shape-of .ensures) in
+    wrote-nothing _ _ (ap (rearAt (at-start .args .level)) e)
 
 pub put-rear-at-spec : {M : Type 1} → statement M
 put-rear-at-spec =

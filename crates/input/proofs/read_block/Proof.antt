@@ -1,4 +1,5 @@
--- `input::read_block` meets its contract: what is read goes into the part of the buffer that was lent, and a lent part keeps its length.
+-- `input::read_block` meets its contract: what is read goes into the
+-- part of the buffer that was lent, and a lent part keeps its length.
 -- Assumes nothing.
 use borrow.Author.Needs.{needs}
 use denote.Ref.{now}
@@ -60,12 +61,15 @@ same-length-2 c = search needs
 
 returns-5 : tie.Need-returns-5
 returns-5 c =
-    let at-place = c .before .before .before in
-    let at-read = at-place in
-    let at-size = at-read .before .before .before in
-    let buffer = now (at-size .before .before .before .before .before .before .before .args .buffer) in
-    let fits : at-size .number-of .result ≤ length buffer = omega arith in
-    (fits, drop-at (at-read .read-full2 .last .1 .0) _ _ (at-read .read-full2 .kept .1 .0 ∙ length-take-le _ buffer fits))
+    let at-read-full = c .before .before .before in
+    let at-number-of = at-read-full .before .before .before in
+    let at-start = at-number-of .before .before .before .before .before .before .before in
+    let buffer = now (at-start .args .buffer) in
+    let fits : at-number-of .number-of .result ≤ length buffer = omega arith in (
+      fits,
+      drop-at (at-read-full .read-full2 .last .1 .0) _ _
+          (at-read-full .read-full2 .kept .1 .0 ∙ length-take-le _ buffer fits),
+    )
 
 pub read-block-spec : {M : Type 1} → statement M
 read-block-spec =

@@ -1,4 +1,5 @@
--- The proof of the cycle {measure, measure_operands}: widths as lengths up to a cap, with the laws of `LengthLaws`; the table stays right at each
+-- The proof of the cycle {measure, measure_operands}: widths as lengths up
+-- to a cap, with the laws of `LengthLaws`; the table stays right at each
 -- width put into it. The measures are those of the lengths. Assumes nothing.
 use Rattle.view.proofs.ViewLaws.{starts-of, unmarked}
 use Rattle.text.proofs.LengthLaws.{last-operand, fewer-operands, len-none, len-one, len-full, len-more}
@@ -58,118 +59,325 @@ measure-operands-below t =
     measure-operands.Pre
 
 abbrev measure-claims : ℕ → measure-lts.Claims
-measure-claims t = (view-at-reads.Asked, view-at-reads.Learnt, front-len-reads.Asked, front-len-reads.Learnt, between-len-reads.Asked, between-len-reads.Learnt, is-minus-reads.Asked, is-minus-reads.Learnt, measure-operands-below t, measure-operands.Post, rear-len-reads.Asked, rear-len-reads.Learnt)
+measure-claims t = (
+  view-at-reads.Asked,
+  view-at-reads.Learnt,
+  front-len-reads.Asked,
+  front-len-reads.Learnt,
+  between-len-reads.Asked,
+  between-len-reads.Learnt,
+  is-minus-reads.Asked,
+  is-minus-reads.Learnt,
+  measure-operands-below t,
+  measure-operands.Post,
+  rear-len-reads.Asked,
+  rear-len-reads.Learnt,
+)
 
 abbrev measure-operands-claims : ℕ → measure-operands-lts.Claims
-measure-operands-claims t = (measure-below t, measure.Post, capped-add-reads.Asked, capped-add-reads.Learnt, room-others-reads.Asked, room-others-reads.Learnt, measure-operands-below t, measure-operands.Post)
+measure-operands-claims t = (
+  measure-below t,
+  measure.Post,
+  capped-add-reads.Asked,
+  capped-add-reads.Learnt,
+  room-others-reads.Asked,
+  room-others-reads.Learnt,
+  measure-operands-below t,
+  measure-operands.Post,
+)
 
 measure-view-at-requires : (t : ℕ) → measure-lts.Need-view-at-requires (measure-claims t) (measure-at t) measure.Post
-measure-view-at-requires t c κs = (starts-of (c .before .before .before .before .pre .1 .0), c .before .before .before .before .pre .1 .1 .0)
+measure-view-at-requires t c κs =
+    let at-start = c .before .before .before .before in
+    (starts-of (at-start .pre .1 .0), at-start .pre .1 .1 .0)
 
-measure-front-len-requires : (t : ℕ) → measure-lts.Need-front-len-requires (measure-claims t) (measure-at t) measure.Post
+measure-front-len-requires : (t : ℕ)
+    → measure-lts.Need-front-len-requires (measure-claims t) (measure-at t) measure.Post
 measure-front-len-requires t c κs = c .view-at .ensures .stands
 
 measure-sub-left : (t : ℕ) → measure-lts.Need-sub-left (measure-claims t) (measure-at t) measure.Post
 measure-sub-left t c = omega (arith, c .front-len .ensures)
 
-measure-between-len-requires : (t : ℕ) → measure-lts.Need-between-len-requires (measure-claims t) (measure-at t) measure.Post
+measure-between-len-requires : (t : ℕ)
+    → measure-lts.Need-between-len-requires (measure-claims t) (measure-at t) measure.Post
 measure-between-len-requires t c κs = c .before .view-at .ensures .stands
 
 measure-is-minus-requires : (t : ℕ) → measure-lts.Need-is-minus-requires (measure-claims t) (measure-at t) measure.Post
 measure-is-minus-requires t c κs = search needs
 
-measure-measure-operands-requires : (t : ℕ) → measure-lts.Need-measure-operands-requires (measure-claims t) (measure-at t) measure.Post
+measure-measure-operands-requires : (t : ℕ)
+    → measure-lts.Need-measure-operands-requires (measure-claims t) (measure-at t) measure.Post
 measure-measure-operands-requires t c κs =
-    let laidOut = c .before .before .before .before .view-at .ensures .laidOut in
-    (omega (arith, laidOut .low, c .before .before .before .before .before .before .before .before .before .pre .0), (fewer (c .before .before .before .before .before .before .before .before .before .pre .1 .0) (omega (arith, laidOut .low)), (laidOut .enough, (rw (c .before .is-minus .ensures) (minus-numberless (c .before .before .before .before .view-at .ensures)), (omega arith, c .before .before .before .before .before .before .before .before .before .pre .1 .1 .1)))))
+    let at-view-at = c .before .before .before .before in
+    let at-start = at-view-at .before .before .before .before .before in
+    let laidOut = at-view-at .view-at .ensures .laidOut in (
+      omega (arith, laidOut .low, at-start .pre .0),
+      (
+        fewer (at-start .pre .1 .0) (omega (arith, laidOut .low)),
+        (
+          laidOut .enough,
+          (
+            rw (c .before .is-minus .ensures) (minus-numberless (at-view-at .view-at .ensures)),
+            (omega arith, at-start .pre .1 .1 .1),
+          ),
+        ),
+      ),
+    )
 
 measure-sub-rear-len : (t : ℕ) → measure-lts.Need-sub-rear-len (measure-claims t) (measure-at t) measure.Post
 measure-sub-rear-len t c = omega (arith, c .before .before .measure-operands .ensures .0 .bound)
 
 measure-rear-len-requires : (t : ℕ) → measure-lts.Need-rear-len-requires (measure-claims t) (measure-at t) measure.Post
-measure-rear-len-requires t c κs = c .before .before .before .before .before .before .before .view-at .ensures .stands
+measure-rear-len-requires t c κs =
+    let at-view-at = c .before .before .before .before .before .before .before in
+    at-view-at .view-at .ensures .stands
 
 measure-add-width : (t : ℕ) → measure-lts.Need-add-width (measure-claims t) (measure-at t) measure.Post
-measure-add-width t c = omega (arith, c .before .before .before .before .before .before .before .front-len .ensures, c .before .before .before .measure-operands .ensures .0 .bound)
+measure-add-width t c =
+    omega (
+      arith,
+      c .before .before .before .before .before .before .before .front-len .ensures,
+      c .before .before .before .measure-operands .ensures .0 .bound,
+    )
 
 measure-add-width-2 : (t : ℕ) → measure-lts.Need-add-width-2 (measure-claims t) (measure-at t) measure.Post
-measure-add-width-2 t c = omega (arith, c .before .before .before .before .before .before .before .front-len .ensures, c .before .before .before .measure-operands .ensures .0 .bound, c .rear-len .ensures)
+measure-add-width-2 t c =
+    omega (
+      arith,
+      c .before .before .before .before .before .before .before .front-len .ensures,
+      c .before .before .before .measure-operands .ensures .0 .bound,
+      c .rear-len .ensures,
+    )
 
 measure-cast-widths : (t : ℕ) → measure-lts.Need-cast-widths (measure-claims t) (measure-at t) measure.Post
-measure-cast-widths t c = omega (arith, c .before .before .before .before .before .before .before .front-len .ensures, c .before .before .before .measure-operands .ensures .0 .bound, c .rear-len .ensures)
+measure-cast-widths t c =
+    omega (
+      arith,
+      c .before .before .before .before .before .before .before .front-len .ensures,
+      c .before .before .before .measure-operands .ensures .0 .bound,
+      c .rear-len .ensures,
+    )
 
-measure-slice-write-widths : (t : ℕ) → measure-lts.Need-slice-write-widths (measure-claims t) (measure-at t) measure.Post
-measure-slice-write-widths t c = omega (arith, c .before .before .before .measure-operands .ensures .1 .size, c .before .before .before .before .before .before .before .before .before .before .before .before .before .pre .1 .0 .few)
+measure-slice-write-widths : (t : ℕ)
+    → measure-lts.Need-slice-write-widths (measure-claims t) (measure-at t) measure.Post
+measure-slice-write-widths t c =
+    let at-measure-operands = c .before .before .before in
+    let at-start = at-measure-operands .before .before .before .before .before .before .before .before .before .before in
+    omega (arith, at-measure-operands .measure-operands .ensures .1 .size, at-start .pre .1 .0 .few)
 
 measure-same-length : (t : ℕ) → measure-lts.Need-same-length (measure-claims t) (measure-at t) measure.Post
-measure-same-length t c = set-size (c .before .before .before .before .before .before .before .before .before .before .before .before .before .args .i) (c .before .before .before .before .before .before .before .front-len .result + c .before .before .before .measure-operands .result + c .rear-len .result) (c .before .before .before .measure-operands .ensures .1) (c .before .before .before .before .before .before .before .before .before .before .before .before .before .pre .1 .1 .1)
+measure-same-length t c =
+    let at-measure-operands = c .before .before .before in
+    let at-front-len = at-measure-operands .before .before .before .before in
+    let at-start = at-front-len .before .before .before .before .before .before in
+    set-size (at-start .args .i)
+    (at-front-len .front-len .result + at-measure-operands .measure-operands .result + c .rear-len .result)
+    (at-measure-operands .measure-operands .ensures .1) (at-start .pre .1 .1 .1)
 
 measure-returns : (t : ℕ) → measure-lts.Need-returns (measure-claims t) (measure-at t) measure.Post
 measure-returns t c =
-    let width = len-tree (c .before .before .before .before .before .before .before .before .view-at .ensures .laidOut) _ _ _ _ _ (c .before .before .before .before .before .before .before .front-len .ensures) (c .before .before .before .before .before .before .between-len .ensures) (c .before .before .before .measure-operands .ensures .0) (c .rear-len .ensures) in
-    (width, widths-set _ _ (c .before .before .before .measure-operands .ensures .1) (omega (arith, c .before .before .before .before .before .before .before .before .before .before .before .before .before .pre .1 .0 .few)) width)
+    let at-measure-operands = c .before .before .before in
+    let at-between-len = at-measure-operands .before .before .before in
+    let at-front-len = at-between-len .before in
+    let at-view-at = at-front-len .before in
+    let at-start = at-view-at .before .before .before .before .before in
+    let width = len-tree (at-view-at .view-at .ensures .laidOut) _ _ _ _ _ (at-front-len .front-len .ensures)
+    (at-between-len .between-len .ensures) (at-measure-operands .measure-operands .ensures .0)
+    (c .rear-len .ensures) in (
+      width,
+      widths-set _ _ (at-measure-operands .measure-operands .ensures .1) (omega (arith, at-start .pre .1 .0 .few))
+          width,
+    )
 
-measure-operands-returns : (t : ℕ) → measure-operands-lts.Need-returns (measure-operands-claims t) (measure-operands-at t) measure-operands.Post
-measure-operands-returns t c = (len-none display display (c .before .before .before .before .before .pre .1 .0) _ (c .before .before .before .before .before .pre .1 .1 .0) _ _ (c .if1 .taken), c .before .before .before .before .before .pre .1 .1 .1 .1 .1)
+measure-operands-returns : (t : ℕ)
+    → measure-operands-lts.Need-returns (measure-operands-claims t) (measure-operands-at t) measure-operands.Post
+measure-operands-returns t c =
+    let at-start = c .before .before .before .before .before in (
+      len-none display display (at-start .pre .1 .0) _ (at-start .pre .1 .1 .0) _ _ (c .if1 .taken),
+      at-start .pre .1 .1 .1 .1 .1,
+    )
 
-measure-operands-sub-root : (t : ℕ) → measure-operands-lts.Need-sub-root (measure-operands-claims t) (measure-operands-at t) measure-operands.Post
-measure-operands-sub-root t c = last-operand (c .before .before .before .before .before .pre .1 .0) _ (c .before .before .before .before .before .pre .1 .1 .0) (c .if1 .left) .some
+measure-operands-sub-root : (t : ℕ)
+    → measure-operands-lts.Need-sub-root (measure-operands-claims t) (measure-operands-at t) measure-operands.Post
+measure-operands-sub-root t c =
+    let at-start = c .before .before .before .before .before in
+    last-operand (at-start .pre .1 .0) _ (at-start .pre .1 .1 .0) (c .if1 .left) .some
 
-measure-operands-measure-requires : (t : ℕ) → measure-operands-lts.Need-measure-requires (measure-operands-claims t) (measure-operands-at t) measure-operands.Post
+measure-operands-measure-requires : (t : ℕ)
+    → measure-operands-lts.Need-measure-requires (measure-operands-claims t) (measure-operands-at t)
+    measure-operands.Post
 measure-operands-measure-requires t c κs =
-    let w = last-operand (c .before .before .before .before .before .before .pre .1 .0) _ (c .before .before .before .before .before .before .pre .1 .1 .0) (c .before .if1 .left) in
-    (omega (arith, w .some, c .before .before .before .before .before .before .pre .0), (fewer (c .before .before .before .before .before .before .pre .1 .0) (omega (arith, w .some)), (c .before .before .before .before .before .before .pre .1 .1 .1 .0, c .before .before .before .before .before .before .pre .1 .1 .1 .1 .1)))
+    let at-start = c .before .before .before .before .before .before in
+    let w = last-operand (at-start .pre .1 .0) _ (at-start .pre .1 .1 .0) (c .before .if1 .left) in (
+      omega (arith, w .some, at-start .pre .0),
+      (
+        fewer (at-start .pre .1 .0) (omega (arith, w .some)),
+        (at-start .pre .1 .1 .1 .0, at-start .pre .1 .1 .1 .1 .1),
+      ),
+    )
 
-measure-operands-capped-add-requires : (t : ℕ) → measure-operands-lts.Need-capped-add-requires (measure-operands-claims t) (measure-operands-at t) measure-operands.Post
+measure-operands-capped-add-requires : (t : ℕ)
+    → measure-operands-lts.Need-capped-add-requires (measure-operands-claims t) (measure-operands-at t)
+    measure-operands.Post
 measure-operands-capped-add-requires t c κs = search needs
 
-measure-operands-same-length : (t : ℕ) → measure-operands-lts.Need-same-length (measure-operands-claims t) (measure-operands-at t) measure-operands.Post
-measure-operands-same-length t c = omega (arith, c .before .before .before .before .measure .ensures .1 .size, c .before .before .before .before .before .before .before .before .before .before .before .pre .1 .1 .1 .1 .1 .size)
+measure-operands-same-length : (t : ℕ)
+    → measure-operands-lts.Need-same-length (measure-operands-claims t) (measure-operands-at t)
+    measure-operands.Post
+measure-operands-same-length t c =
+    let at-measure = c .before .before .before .before in
+    let at-start = at-measure .before .before .before .before .before .before .before in
+    omega (arith, at-measure .measure .ensures .1 .size, at-start .pre .1 .1 .1 .1 .1 .size)
 
-measure-operands-returns-2 : (t : ℕ) → measure-operands-lts.Need-returns-2 (measure-operands-claims t) (measure-operands-at t) measure-operands.Post
-measure-operands-returns-2 t c = (len-one display display (c .before .before .before .before .before .before .before .before .before .before .before .pre .1 .0) _ (c .before .before .before .before .before .before .before .before .before .before .before .pre .1 .1 .0) _ _ _ (c .if2 .taken) (recapped _ _ _ _ (c .before .before .before .before .measure .ensures .0) (c .before .before .before .before .before .before .before .before .before .before .before .pre .1 .1 .1 .1 .0) (c .before .capped-add .ensures)), c .before .before .before .before .measure .ensures .1)
+measure-operands-returns-2 : (t : ℕ)
+    → measure-operands-lts.Need-returns-2 (measure-operands-claims t) (measure-operands-at t) measure-operands.Post
+measure-operands-returns-2 t c =
+    let at-measure = c .before .before .before .before in
+    let at-start = at-measure .before .before .before .before .before .before .before in (
+      len-one display display (at-start .pre .1 .0) _ (at-start .pre .1 .1 .0) _ _ _ (c .if2 .taken)
+          (recapped _ _ _ _ (at-measure .measure .ensures .0) (at-start .pre .1 .1 .1 .1 .0)
+          (c .before .capped-add .ensures)),
+      at-measure .measure .ensures .1,
+    )
 
-measure-operands-shared-slice-read-first : (t : ℕ) → measure-operands-lts.Need-shared-slice-read-first (measure-operands-claims t) (measure-operands-at t) measure-operands.Post
-measure-operands-shared-slice-read-first t c = omega (arith, last-operand (c .before .before .before .before .before .before .before .before .before .before .before .before .pre .1 .0) _ (c .before .before .before .before .before .before .before .before .before .before .before .before .pre .1 .1 .0) (c .before .before .before .before .before .before .before .if1 .left) .some, c .before .before .before .before .before .before .before .before .before .before .before .before .pre .1 .0 .firsts-size, c .before .before .before .before .before .before .before .before .before .before .before .before .pre .1 .0 .few)
+measure-operands-shared-slice-read-first : (t : ℕ)
+    → measure-operands-lts.Need-shared-slice-read-first (measure-operands-claims t) (measure-operands-at t)
+    measure-operands.Post
+measure-operands-shared-slice-read-first t c =
+    let at-first-if = c .before .before .before .before .before .before .before in
+    let at-start = at-first-if .before .before .before .before .before in
+    omega (
+      arith,
+      last-operand (at-start .pre .1 .0) _ (at-start .pre .1 .1 .0) (at-first-if .if1 .left) .some,
+      at-start .pre .1 .0 .firsts-size,
+      at-start .pre .1 .0 .few,
+    )
 
-measure-operands-cast-first : (t : ℕ) → measure-operands-lts.Need-cast-first (measure-operands-claims t) (measure-operands-at t) measure-operands.Post
-measure-operands-cast-first t c = omega (arith, c .shared-slice-known4 .given (c .before .before .before .before .before .before .before .before .before .before .before .before .args .end - 1))
+measure-operands-cast-first : (t : ℕ)
+    → measure-operands-lts.Need-cast-first (measure-operands-claims t) (measure-operands-at t) measure-operands.Post
+measure-operands-cast-first t c =
+    let at-start = c .before .before .before .before .before .before .before .before .before .before .before .before in
+    omega (arith, c .shared-slice-known4 .given (at-start .args .end - 1))
 
-measure-operands-sub-left : (t : ℕ) → measure-operands-lts.Need-sub-left (measure-operands-claims t) (measure-operands-at t) measure-operands.Post
+measure-operands-sub-left : (t : ℕ)
+    → measure-operands-lts.Need-sub-left (measure-operands-claims t) (measure-operands-at t) measure-operands.Post
 measure-operands-sub-left t c = omega (arith, c .before .before .capped-add .ensures)
 
-measure-operands-room-others-requires : (t : ℕ) → measure-operands-lts.Need-room-others-requires (measure-operands-claims t) (measure-operands-at t) measure-operands.Post
+measure-operands-room-others-requires : (t : ℕ)
+    → measure-operands-lts.Need-room-others-requires (measure-operands-claims t) (measure-operands-at t)
+    measure-operands.Post
 measure-operands-room-others-requires t c κs = search needs
 
-measure-operands-sub-fewer : (t : ℕ) → measure-operands-lts.Need-sub-fewer (measure-operands-claims t) (measure-operands-at t) measure-operands.Post
-measure-operands-sub-fewer t c = omega (arith, c .before .before .before .before .before .before .before .before .if1 .left)
+measure-operands-sub-fewer : (t : ℕ)
+    → measure-operands-lts.Need-sub-fewer (measure-operands-claims t) (measure-operands-at t) measure-operands.Post
+measure-operands-sub-fewer t c =
+    let at-first-if = c .before .before .before .before .before .before .before .before in
+    omega (arith, at-first-if .if1 .left)
 
-measure-operands-measure-operands-requires : (t : ℕ) → measure-operands-lts.Need-measure-operands-requires (measure-operands-claims t) (measure-operands-at t) measure-operands.Post
+measure-operands-measure-operands-requires : (t : ℕ)
+    → measure-operands-lts.Need-measure-operands-requires (measure-operands-claims t) (measure-operands-at t)
+    measure-operands.Post
 measure-operands-measure-operands-requires t c κs =
-    let w = last-operand (c .before .before .before .before .before .before .before .before .before .before .before .before .before .before .pre .1 .0) _ (c .before .before .before .before .before .before .before .before .before .before .before .before .before .before .pre .1 .1 .0) (c .before .before .before .before .before .before .before .before .before .if1 .left) in
-    (omega (arith, w .low, c .before .before .before .before .before .before .before .before .before .before .before .before .before .before .pre .0), (fewer (c .before .before .before .before .before .before .before .before .before .before .before .before .before .before .pre .1 .0) (omega (arith, w .low)), (fewer-operands (c .before .before .before .before .before .before .before .before .before .before .before .before .before .before .pre .1 .0) _ (c .before .before .before .before .before .before .before .before .before .before .before .before .before .before .pre .1 .1 .0) (c .before .before .before .before .before .before .before .before .before .if1 .left), (unmarked _ _, (omega (arith, c .before .room-others .ensures, c .before .before .before .before .before .before .before .before .before .before .before .before .before .before .pre .1 .1 .1 .1 .0), c .before .before .before .before .before .before .before .measure .ensures .1)))))
+    let at-measure = c .before .before .before .before .before .before .before in
+    let at-first-if = at-measure .before .before in
+    let at-start = at-first-if .before .before .before .before .before in
+    let w = last-operand (at-start .pre .1 .0) _ (at-start .pre .1 .1 .0) (at-first-if .if1 .left) in (
+      omega (arith, w .low, at-start .pre .0),
+      (
+        fewer (at-start .pre .1 .0) (omega (arith, w .low)),
+        (
+          fewer-operands (at-start .pre .1 .0) _ (at-start .pre .1 .1 .0) (at-first-if .if1 .left),
+          (
+            unmarked _ _,
+            (
+              omega (arith, c .before .room-others .ensures, at-start .pre .1 .1 .1 .1 .0),
+              at-measure .measure .ensures .1,
+            ),
+          ),
+        ),
+      ),
+    )
 
-measure-operands-same-length-2 : (t : ℕ) → measure-operands-lts.Need-same-length-2 (measure-operands-claims t) (measure-operands-at t) measure-operands.Post
-measure-operands-same-length-2 t c = omega (arith, c .before .before .before .measure-operands .ensures .1 .size, c .before .before .before .before .before .before .before .before .before .before .before .before .before .before .before .before .before .before .pre .1 .1 .1 .1 .1 .size)
+measure-operands-same-length-2 : (t : ℕ)
+    → measure-operands-lts.Need-same-length-2 (measure-operands-claims t) (measure-operands-at t)
+    measure-operands.Post
+measure-operands-same-length-2 t c =
+    let at-measure-operands = c .before .before .before in
+    let at-start = at-measure-operands .before .before .before .before .before .before .before .before .before .before .before .before .before .before .before in
+    omega (arith, at-measure-operands .measure-operands .ensures .1 .size, at-start .pre .1 .1 .1 .1 .1 .size)
 
-measure-operands-returns-3 : (t : ℕ) → measure-operands-lts.Need-returns-3 (measure-operands-claims t) (measure-operands-at t) measure-operands.Post
-measure-operands-returns-3 t c = (len-full display display (c .before .before .before .before .before .before .before .before .before .before .before .before .before .before .before .before .before .before .pre .1 .0) _ (c .before .before .before .before .before .before .before .before .before .before .before .before .before .before .before .before .before .before .pre .1 .1 .0) (c .before .before .before .before .before .before .before .before .before .before .before .before .before .if1 .left) (c .before .before .before .before .before .before .before .if2 .left) _ _ _ (recapped _ _ _ _ (c .before .before .before .before .before .before .before .before .before .before .before .measure .ensures .0) (c .before .before .before .before .before .before .before .before .before .before .before .before .before .before .before .before .before .before .pre .1 .1 .1 .1 .0) (c .before .before .before .before .before .before .before .before .capped-add .ensures)) (c .if3 .taken), c .before .before .before .measure-operands .ensures .1)
+measure-operands-returns-3 : (t : ℕ)
+    → measure-operands-lts.Need-returns-3 (measure-operands-claims t) (measure-operands-at t) measure-operands.Post
+measure-operands-returns-3 t c =
+    let at-measure-operands = c .before .before .before in
+    let at-second-if = at-measure-operands .before .before .before .before in
+    let at-capped-add = at-second-if .before in
+    let at-measure = at-capped-add .before .before .before in
+    let at-first-if = at-measure .before .before in
+    let at-start = at-first-if .before .before .before .before .before in (
+      len-full display display (at-start .pre .1 .0) _ (at-start .pre .1 .1 .0) (at-first-if .if1 .left)
+          (at-second-if .if2 .left) _ _ _
+          (recapped _ _ _ _ (at-measure .measure .ensures .0) (at-start .pre .1 .1 .1 .1 .0)
+          (at-capped-add .capped-add .ensures)) (c .if3 .taken),
+      at-measure-operands .measure-operands .ensures .1,
+    )
 
-measure-operands-add-result : (t : ℕ) → measure-operands-lts.Need-add-result (measure-operands-claims t) (measure-operands-at t) measure-operands.Post
-measure-operands-add-result t c = omega (arith, c .before .before .before .before .before .before .before .before .capped-add .ensures, c .if3 .left)
+measure-operands-add-result : (t : ℕ)
+    → measure-operands-lts.Need-add-result (measure-operands-claims t) (measure-operands-at t) measure-operands.Post
+measure-operands-add-result t c =
+    omega
+    (arith, c .before .before .before .before .before .before .before .before .capped-add .ensures, c .if3 .left)
 
-measure-operands-add-result-2 : (t : ℕ) → measure-operands-lts.Need-add-result-2 (measure-operands-claims t) (measure-operands-at t) measure-operands.Post
-measure-operands-add-result-2 t c = omega (arith, c .before .before .before .before .before .before .before .before .capped-add .ensures, c .if3 .left, c .before .before .before .before .before .room-others .ensures, c .before .before .before .measure-operands .ensures .0 .bound)
+measure-operands-add-result-2 : (t : ℕ)
+    → measure-operands-lts.Need-add-result-2 (measure-operands-claims t) (measure-operands-at t)
+    measure-operands.Post
+measure-operands-add-result-2 t c =
+    omega (
+      arith,
+      c .before .before .before .before .before .before .before .before .capped-add .ensures,
+      c .if3 .left,
+      c .before .before .before .before .before .room-others .ensures,
+      c .before .before .before .measure-operands .ensures .0 .bound,
+    )
 
-measure-operands-same-length-3 : (t : ℕ) → measure-operands-lts.Need-same-length-3 (measure-operands-claims t) (measure-operands-at t) measure-operands.Post
-measure-operands-same-length-3 t c = omega (arith, c .before .before .before .measure-operands .ensures .1 .size, c .before .before .before .before .before .before .before .before .before .before .before .before .before .before .before .before .before .before .pre .1 .1 .1 .1 .1 .size)
+measure-operands-same-length-3 : (t : ℕ)
+    → measure-operands-lts.Need-same-length-3 (measure-operands-claims t) (measure-operands-at t)
+    measure-operands.Post
+measure-operands-same-length-3 t c =
+    let at-measure-operands = c .before .before .before in
+    let at-start = at-measure-operands .before .before .before .before .before .before .before .before .before .before .before .before .before .before .before in
+    omega (arith, at-measure-operands .measure-operands .ensures .1 .size, at-start .pre .1 .1 .1 .1 .1 .size)
 
-measure-operands-returns-4 : (t : ℕ) → measure-operands-lts.Need-returns-4 (measure-operands-claims t) (measure-operands-at t) measure-operands.Post
-measure-operands-returns-4 t c = (len-more display display (c .before .before .before .before .before .before .before .before .before .before .before .before .before .before .before .before .before .before .pre .1 .0) _ (c .before .before .before .before .before .before .before .before .before .before .before .before .before .before .before .before .before .before .pre .1 .1 .0) (c .before .before .before .before .before .before .before .before .before .before .before .before .before .if1 .left) (c .before .before .before .before .before .before .before .if2 .left) _ _ _ (recapped _ _ _ _ (c .before .before .before .before .before .before .before .before .before .before .before .measure .ensures .0) (c .before .before .before .before .before .before .before .before .before .before .before .before .before .before .before .before .before .before .pre .1 .1 .1 .1 .0) (c .before .before .before .before .before .before .before .before .capped-add .ensures)) _ (c .if3 .left) (rw (c .before .before .before .before .before .room-others .ensures) at (c .before .before .before .measure-operands .ensures .0)), c .before .before .before .measure-operands .ensures .1)
+measure-operands-returns-4 : (t : ℕ)
+    → measure-operands-lts.Need-returns-4 (measure-operands-claims t) (measure-operands-at t) measure-operands.Post
+measure-operands-returns-4 t c =
+    let at-measure-operands = c .before .before .before in
+    let at-room-others = at-measure-operands .before .before in
+    let at-second-if = at-room-others .before .before in
+    let at-capped-add = at-second-if .before in
+    let at-measure = at-capped-add .before .before .before in
+    let at-first-if = at-measure .before .before in
+    let at-start = at-first-if .before .before .before .before .before in (
+      len-more display display (at-start .pre .1 .0) _ (at-start .pre .1 .1 .0) (at-first-if .if1 .left)
+          (at-second-if .if2 .left) _ _ _
+          (recapped _ _ _ _ (at-measure .measure .ensures .0) (at-start .pre .1 .1 .1 .1 .0)
+          (at-capped-add .capped-add .ensures)) _ (c .if3 .left)
+          (rw (at-room-others .room-others .ensures) at (at-measure-operands .measure-operands .ensures .0)),
+      at-measure-operands .measure-operands .ensures .1,
+    )
 
 pub +measure+measure-operands-spec : {M : Type 1} → statement M
 +measure+measure-operands-spec = close μ-measure μ-measure-operands
     (λ t. measure-lts.spec (measure-claims t) (measure-at t) measure.Post
-    (measure-view-at-requires t) (measure-front-len-requires t) (measure-sub-left t) (measure-between-len-requires t) (measure-is-minus-requires t) (measure-measure-operands-requires t) (measure-sub-rear-len t) (measure-rear-len-requires t) (measure-add-width t) (measure-add-width-2 t) (measure-cast-widths t) (measure-slice-write-widths t) (measure-same-length t) (measure-returns t))
+    (measure-view-at-requires t) (measure-front-len-requires t) (measure-sub-left t)
+    (measure-between-len-requires t) (measure-is-minus-requires t) (measure-measure-operands-requires t)
+    (measure-sub-rear-len t) (measure-rear-len-requires t) (measure-add-width t) (measure-add-width-2 t)
+    (measure-cast-widths t) (measure-slice-write-widths t) (measure-same-length t) (measure-returns t))
     (λ t. measure-operands-lts.spec (measure-operands-claims t) (measure-operands-at t) measure-operands.Post
-    (measure-operands-returns t) (measure-operands-sub-root t) (measure-operands-measure-requires t) (measure-operands-capped-add-requires t) (measure-operands-same-length t) (measure-operands-returns-2 t) (measure-operands-shared-slice-read-first t) (measure-operands-cast-first t) (measure-operands-sub-left t) (measure-operands-room-others-requires t) (measure-operands-sub-fewer t) (measure-operands-measure-operands-requires t) (measure-operands-same-length-2 t) (measure-operands-returns-3 t) (measure-operands-add-result t) (measure-operands-add-result-2 t) (measure-operands-same-length-3 t) (measure-operands-returns-4 t))
+    (measure-operands-returns t) (measure-operands-sub-root t) (measure-operands-measure-requires t)
+    (measure-operands-capped-add-requires t) (measure-operands-same-length t) (measure-operands-returns-2 t)
+    (measure-operands-shared-slice-read-first t) (measure-operands-cast-first t) (measure-operands-sub-left t)
+    (measure-operands-room-others-requires t) (measure-operands-sub-fewer t)
+    (measure-operands-measure-operands-requires t) (measure-operands-same-length-2 t)
+    (measure-operands-returns-3 t) (measure-operands-add-result t) (measure-operands-add-result-2 t)
+    (measure-operands-same-length-3 t) (measure-operands-returns-4 t))

@@ -5,13 +5,19 @@ use Rattle.measure.proofs.width.Statement.{statement}
 use Rattle.measure.proofs.width.Tie as tie
 
 shared-slice-read-known : tie.Need-shared-slice-read-known
-shared-slice-read-known c = omega (arith, c .before .before .before .before .before .pre .0 .few, c .before .before .before .before .before .pre .1 .0 .size)
+shared-slice-read-known c =
+    let at-start = c .before .before .before .before .before in
+    omega (arith, at-start .pre .0 .few, at-start .pre .1 .0 .size)
 
 cast-known : tie.Need-cast-known
-cast-known c = omega (arith, c .shared-slice-known5 .given (c .before .before .before .before .before .args .i))
+cast-known c =
+    let at-start = c .before .before .before .before .before in
+    omega (arith, c .shared-slice-known5 .given (at-start .args .i))
 
 returns : tie.Need-returns
-returns c = c .before .before .before .before .before .before .pre .1 .0 .right (c .before .before .before .before .before .before .args .i) (c .if1 .taken)
+returns c =
+    let at-start = c .before .before .before .before .before .before in
+    at-start .pre .1 .0 .right (at-start .args .i) (c .if1 .taken)
 
 text-len-requires : tie.Need-text-len-requires
 text-len-requires c κs = search needs

@@ -1,4 +1,5 @@
--- `measure::widths_of` meets its contract: nothing is known of an empty table, and measuring keeps it right. Assumes nothing.
+-- `measure::widths_of` meets its contract: nothing is known of
+-- an empty table, and measuring keeps it right. Assumes nothing.
 use Rattle.view.proofs.ViewLaws.{unmarked}
 use Rattle.measure.proofs.WidthLaws.{widths-none}
 use borrow.Author.Needs.{needs}
@@ -9,7 +10,9 @@ slice-aggregate-measure : tie.Need-slice-aggregate-measure
 slice-aggregate-measure c = search needs
 
 measure-requires : tie.Need-measure-requires
-measure-requires c κs = (c .before .before .before .before .pre, (unmarked _ _, widths-none _))
+measure-requires c κs =
+    let at-start = c .before .before .before .before in
+    (at-start .pre, (unmarked _ _, widths-none _))
 
 returns : tie.Need-returns
 returns c = search needs

@@ -85,48 +85,60 @@ capped-add-requires-3 c κs = search needs
 
 returns : tie.Need-returns
 returns c =
-    let at-literal = c .before .before in
-    let node = at-literal .before .before .before .before .before .pre in
-    rw (number-layout node (at-literal .literal-of .ensures)) (omega (arith, c .capped-add .ensures, c .before .numeral-len .ensures .literal))
+    let at-start = c .before .before .before .before .before .before .before in
+    let node = at-start .pre in
+    rw (number-layout node (c .before .before .literal-of .ensures))
+    (omega (arith, c .capped-add .ensures, c .before .numeral-len .ensures .literal))
 
 returns-2 : tie.Need-returns-2
 returns-2 c =
-    let at-string = c .before .before in
-    let start = at-string .before .before .before .before .before in
-    let node = start .pre in
-    rw (layout-read node (node .chain .sets) (at-string .string-of .ensures .0) refl)
-    (c .quoted-len .ensures ∙ ap (λ (x : _). min (length (quote x)) (start .args .cap)) (c .before .text-at .ensures))
+    let at-start = c .before .before .before .before .before .before .before in
+    let node = at-start .pre in
+    rw (layout-read node (node .chain .sets) (c .before .before .string-of .ensures .0) refl)
+    (c .quoted-len .ensures
+    ∙ ap (λ (x : _). min (length (quote x)) (at-start .args .cap)) (c .before .text-at .ensures))
 
 returns-3 : tie.Need-returns-3
 returns-3 c =
-    let at-selector = c .before .before in
-    let node = at-selector .before .before .before .before .before .pre in
-    rw (layout-read node (c .before .attached-of .ensures) (at-selector .selector-of .ensures .0) refl) (c .selector-len .ensures)
+    let at-start = c .before .before .before .before .before .before .before in
+    let node = at-start .pre in
+    rw (layout-read node (c .before .attached-of .ensures) (c .before .before .selector-of .ensures .0) refl)
+    (c .selector-len .ensures)
 
 returns-4 : tie.Need-returns-4
-returns-4 c = omega (arith, ap length (subquery-head (c .before .before .before .before .pre) (c .enum-told4 .given .1)))
+returns-4 c =
+    let at-start = c .before .before .before .before in
+    omega (arith, ap length (subquery-head (at-start .pre) (c .enum-told4 .given .1)))
 
 returns-5 : tie.Need-returns-5
-returns-5 c = omega (arith, c .capped-add2 .ensures, ap length (minus-head (c .before .before .before .before .before .pre) (c .before .enum-told5 .given .1)))
+returns-5 c =
+    let at-start = c .before .before .before .before .before in
+    omega (arith, c .capped-add2 .ensures, ap length (minus-head (at-start .pre) (c .before .enum-told5 .given .1)))
 
 returns-6 : tie.Need-returns-6
-returns-6 c = omega (arith, ap length (paren-head (c .before .before .before .before .pre) (c .enum-told6 .given .1)))
+returns-6 c =
+    let at-start = c .before .before .before .before in
+    omega (arith, ap length (paren-head (at-start .pre) (c .enum-told6 .given .1)))
 
 returns-7 : tie.Need-returns-7
-returns-7 c = omega (arith, ap length (binary-head (c .before .before .before .before .pre) (c .enum-told7 .given .1)))
+returns-7 c =
+    let at-start = c .before .before .before .before in
+    omega (arith, ap length (binary-head (at-start .pre) (c .enum-told7 .given .1)))
 
 returns-8 : tie.Need-returns-8
 returns-8 c =
-    let at-aggregator = c .before in
-    let node = at-aggregator .before .before .before .before .before .pre in
-    rw (layout-read node (node .chain .sets) (at-aggregator .aggregator-of .ensures .0 .reads) refl) (c .aggregator-len .ensures)
+    let at-start = c .before .before .before .before .before .before in
+    let node = at-start .pre in
+    rw (layout-read node (node .chain .sets) (c .before .aggregator-of .ensures .0 .reads) refl)
+    (c .aggregator-len .ensures)
 
 returns-9 : tie.Need-returns-9
 returns-9 c =
-    let at-function = c .before .before in
-    let node = at-function .before .before .before .before .before .pre in
-    let own = at-function .function-of .ensures .0 in
-    rw (layout-read node (node .chain .sets) (own .reads) refl ∙ ap enclosed (own .named)) (omega (arith, c .capped-add3 .ensures, ap length (c .before .text-at2 .ensures)))
+    let at-start = c .before .before .before .before .before .before .before in
+    let node = at-start .pre in
+    let own = c .before .before .function-of .ensures .0 in
+    rw (layout-read node (node .chain .sets) (own .reads) refl ∙ ap enclosed (own .named))
+    (omega (arith, c .capped-add3 .ensures, ap length (c .before .text-at2 .ensures)))
 
 pub head-len-spec : {M : Type 1} → statement M
 head-len-spec =

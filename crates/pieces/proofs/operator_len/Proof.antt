@@ -12,7 +12,9 @@ enum-told : tie.Need-enum-told
 enum-told c = search needs
 
 returns : tie.Need-returns
-returns c = omega (arith, ap length (no-operator (c .before .before .before .pre) _ (c .match .keys2) refl))
+returns c =
+    let at-start = c .before .before .before in
+    omega (arith, ap length (no-operator (at-start .pre) _ (c .match .keys2) refl))
 
 operator-of-requires : tie.Need-operator-of-requires
 operator-of-requires c κs = search needs
@@ -22,9 +24,9 @@ operator-len-requires c κs = search needs
 
 returns-2 : tie.Need-returns-2
 returns-2 c =
-    let at-operator = c .before in
-    let node = at-operator .before .before .before .before .before .pre in
-    rw (layout-read node (node .chain .sets) (at-operator .operator-of .ensures .0) refl) (c .operator-len .ensures)
+    let at-start = c .before .before .before .before .before .before in
+    let node = at-start .pre in
+    rw (layout-read node (node .chain .sets) (c .before .operator-of .ensures .0) refl) (c .operator-len .ensures)
 
 pub operator-len-spec : {M : Type 1} → statement M
 operator-len-spec =

@@ -17,9 +17,9 @@ literal-of-requires c κs = search needs
 
 put-literal-requires : tie.Need-put-literal-requires
 put-literal-requires c κs =
-    let at-literal = c .before in
-    let p = at-literal .before .before .before .before .before .before .pre in
-    rw (number-layout (p .0) (at-literal .literal-of .ensures)) at (p .1)
+    let at-start = c .before .before .before .before .before .before .before in
+    let p = at-start .pre in
+    rw (number-layout (p .0) (c .before .literal-of .ensures)) at (p .1)
 
 enum-told-2 : tie.Need-enum-told-2
 enum-told-2 c = search needs
@@ -32,9 +32,10 @@ text-at-requires c κs = search needs
 
 put-quoted-requires : tie.Need-put-quoted-requires
 put-quoted-requires c κs =
-    let at-string = c .before .before in
-    let p = at-string .before .before .before .before .before .before .pre in
-    rw (c .before .text-at .ensures) (rw (layout-read (p .0) (p .0 .chain .sets) (at-string .string-of .ensures .0) refl) at (p .1))
+    let at-start = c .before .before .before .before .before .before .before .before in
+    let p = at-start .pre in
+    rw (c .before .text-at .ensures)
+    (rw (layout-read (p .0) (p .0 .chain .sets) (c .before .before .string-of .ensures .0) refl) at (p .1))
 
 enum-told-3 : tie.Need-enum-told-3
 enum-told-3 c = search needs
@@ -47,9 +48,9 @@ attached-of-requires c κs = search needs
 
 put-selector-requires : tie.Need-put-selector-requires
 put-selector-requires c κs =
-    let at-selector = c .before .before in
-    let p = at-selector .before .before .before .before .before .before .pre in
-    let own = at-selector .selector-of .ensures in
+    let at-start = c .before .before .before .before .before .before .before .before in
+    let p = at-start .pre in
+    let own = c .before .before .selector-of .ensures in
     (own .1 .0, rw (layout-read (p .0) (c .before .attached-of .ensures) (own .0) refl) at (p .1))
 
 enum-told-4 : tie.Need-enum-told-4
@@ -60,7 +61,8 @@ enum-told-5 c = search needs
 
 put-byte-requires : tie.Need-put-byte-requires
 put-byte-requires c κs =
-    let p = c .before .before .before .before .before .before .pre in
+    let at-start = c .before .before .before .before .before .before in
+    let p = at-start .pre in
     rw (minus-head (p .0) (c .before .enum-told5 .given .1)) at (p .1)
 
 enum-told-6 : tie.Need-enum-told-6
@@ -77,9 +79,9 @@ aggregator-of-requires c κs = search needs
 
 put-aggregator-requires : tie.Need-put-aggregator-requires
 put-aggregator-requires c κs =
-    let at-aggregator = c .before in
-    let p = at-aggregator .before .before .before .before .before .before .pre in
-    let own = at-aggregator .aggregator-of .ensures in
+    let at-start = c .before .before .before .before .before .before .before in
+    let p = at-start .pre in
+    let own = c .before .aggregator-of .ensures in
     (own .1, rw (layout-read (p .0) (p .0 .chain .sets) (own .0 .reads) refl) at (p .1))
 
 enum-told-9 : tie.Need-enum-told-9
@@ -93,77 +95,94 @@ text-at-requires-2 c κs = search needs
 
 put-bytes-requires : tie.Need-put-bytes-requires
 put-bytes-requires c κs =
-    let at-function = c .before .before in
-    let p = at-function .before .before .before .before .before .before .pre in
-    let own = at-function .function-of .ensures .0 in
-    rw (c .before .text-at2 .ensures) (rw (layout-read (p .0) (p .0 .chain .sets) (own .reads) refl ∙ ap enclosed (own .named)) at (p .1))
+    let at-start = c .before .before .before .before .before .before .before .before in
+    let p = at-start .pre in
+    let own = c .before .before .function-of .ensures .0 in
+    rw (c .before .text-at2 .ensures)
+    (rw (layout-read (p .0) (p .0 .chain .sets) (own .reads) refl ∙ ap enclosed (own .named)) at (p .1))
 
 same-length : tie.Need-same-length
 same-length c = search needs
 
 returns : tie.Need-returns
 returns c =
-    let at-literal = c .before .before .before .before in
-    let p = at-literal .before .before .before .before .before .before .pre in
-    rw (number-layout (p .0) (at-literal .literal-of .ensures)) (c .before .before .put-literal .ensures)
+    let at-literal-of = c .before .before .before .before in
+    let at-start = at-literal-of .before .before .before .before .before .before in
+    let p = at-start .pre in
+    rw (number-layout (p .0) (at-literal-of .literal-of .ensures)) (c .before .before .put-literal .ensures)
 
 same-length-2 : tie.Need-same-length-2
 same-length-2 c = search needs
 
 returns-2 : tie.Need-returns-2
 returns-2 c =
-    let at-string = c .before .before .before .before .before in
-    let p = at-string .before .before .before .before .before .before .pre in
-    rw (layout-read (p .0) (p .0 .chain .sets) (at-string .string-of .ensures .0) refl)
-    (wrote-as (ap quote (sym (c .before .before .before .before .text-at .ensures))) (c .before .before .put-quoted .ensures))
+    let at-text-at = c .before .before .before .before in
+    let at-string-of = at-text-at .before in
+    let at-start = at-string-of .before .before .before .before .before .before in
+    let p = at-start .pre in
+    rw (layout-read (p .0) (p .0 .chain .sets) (at-string-of .string-of .ensures .0) refl)
+    (wrote-as (ap quote (sym (at-text-at .text-at .ensures))) (c .before .before .put-quoted .ensures))
 
 same-length-3 : tie.Need-same-length-3
 same-length-3 c = search needs
 
 returns-3 : tie.Need-returns-3
 returns-3 c =
-    let at-attached = c .before .before .before .before in
-    let at-selector = at-attached .before in
-    let p = at-selector .before .before .before .before .before .before .pre in
-    rw (layout-read (p .0) (at-attached .attached-of .ensures) (at-selector .selector-of .ensures .0) refl) (c .before .before .put-selector .ensures)
+    let at-attached-of = c .before .before .before .before in
+    let at-selector-of = at-attached-of .before in
+    let at-start = at-selector-of .before .before .before .before .before .before in
+    let p = at-start .pre in
+    rw (layout-read (p .0) (at-attached-of .attached-of .ensures) (at-selector-of .selector-of .ensures .0) refl)
+    (c .before .before .put-selector .ensures)
 
 returns-4 : tie.Need-returns-4
-returns-4 c = wrote-nothing _ _ (subquery-head (c .before .before .before .before .before .pre .0) (c .enum-told4 .given .1))
+returns-4 c =
+    let at-start = c .before .before .before .before .before in
+    wrote-nothing _ _ (subquery-head (at-start .pre .0) (c .enum-told4 .given .1))
 
 same-length-4 : tie.Need-same-length-4
 same-length-4 c = search needs
 
 returns-5 : tie.Need-returns-5
 returns-5 c =
-    let at-foot = c .before .before .before .before in
-    let p = at-foot .before .before .before .before .before .pre in
-    rw (minus-head (p .0) (at-foot .enum-told5 .given .1)) (c .before .before .put-byte .ensures)
+    let at-fifth-told = c .before .before .before .before in
+    let at-start = at-fifth-told .before .before .before .before .before in
+    let p = at-start .pre in
+    rw (minus-head (p .0) (at-fifth-told .enum-told5 .given .1)) (c .before .before .put-byte .ensures)
 
 returns-6 : tie.Need-returns-6
-returns-6 c = wrote-nothing _ _ (paren-head (c .before .before .before .before .before .pre .0) (c .enum-told6 .given .1))
+returns-6 c =
+    let at-start = c .before .before .before .before .before in
+    wrote-nothing _ _ (paren-head (at-start .pre .0) (c .enum-told6 .given .1))
 
 returns-7 : tie.Need-returns-7
-returns-7 c = wrote-nothing _ _ (binary-head (c .before .before .before .before .before .pre .0) (c .enum-told7 .given .1))
+returns-7 c =
+    let at-start = c .before .before .before .before .before in
+    wrote-nothing _ _ (binary-head (at-start .pre .0) (c .enum-told7 .given .1))
 
 same-length-5 : tie.Need-same-length-5
 same-length-5 c = search needs
 
 returns-8 : tie.Need-returns-8
 returns-8 c =
-    let at-aggregator = c .before .before .before .before in
-    let p = at-aggregator .before .before .before .before .before .before .pre in
-    rw (layout-read (p .0) (p .0 .chain .sets) (at-aggregator .aggregator-of .ensures .0 .reads) refl) (c .before .before .put-aggregator .ensures)
+    let at-aggregator-of = c .before .before .before .before in
+    let at-start = at-aggregator-of .before .before .before .before .before .before in
+    let p = at-start .pre in
+    rw (layout-read (p .0) (p .0 .chain .sets) (at-aggregator-of .aggregator-of .ensures .0 .reads) refl)
+    (c .before .before .put-aggregator .ensures)
 
 same-length-6 : tie.Need-same-length-6
 same-length-6 c = search needs
 
 returns-9 : tie.Need-returns-9
 returns-9 c =
-    let at-function = c .before .before .before .before .before in
-    let p = at-function .before .before .before .before .before .before .pre in
-    let own = at-function .function-of .ensures .0 in
+    let at-second-text-at = c .before .before .before .before in
+    let at-function-of = at-second-text-at .before in
+    let at-start = at-function-of .before .before .before .before .before .before in
+    let p = at-start .pre in
+    let own = at-function-of .function-of .ensures .0 in
     rw (layout-read (p .0) (p .0 .chain .sets) (own .reads) refl ∙ ap enclosed (own .named))
-    (wrote-as (sym (c .before .before .before .before .text-at2 .ensures)) (c .before .before .put-bytes .ensures))
+    (wrote-as (sym (at-second-text-at .text-at2 .ensures)) (c .before .before .put-bytes .ensures))
 
 pub put-head-spec : {M : Type 1} → statement M
 put-head-spec =

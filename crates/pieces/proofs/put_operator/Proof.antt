@@ -11,16 +11,18 @@ enum-told : tie.Need-enum-told
 enum-told c = search needs
 
 returns : tie.Need-returns
-returns c = wrote-nothing _ _ (no-operator (c .before .before .before .before .pre .0) _ (c .match .keys2) refl)
+returns c =
+    let at-start = c .before .before .before .before in
+    wrote-nothing _ _ (no-operator (at-start .pre .0) _ (c .match .keys2) refl)
 
 operator-of-requires : tie.Need-operator-of-requires
 operator-of-requires c κs = search needs
 
 put-operator-requires : tie.Need-put-operator-requires
 put-operator-requires c κs =
-    let at-operator = c .before in
-    let p = at-operator .before .before .before .before .before .before .pre in
-    let own = at-operator .operator-of .ensures in
+    let at-start = c .before .before .before .before .before .before .before in
+    let p = at-start .pre in
+    let own = c .before .operator-of .ensures in
     (own .1 .0, (own .1 .1, rw (layout-read (p .0) (p .0 .chain .sets) (own .0) refl) at (p .1)))
 
 same-length : tie.Need-same-length
@@ -28,9 +30,11 @@ same-length c = search needs
 
 returns-2 : tie.Need-returns-2
 returns-2 c =
-    let at-operator = c .before .before .before .before in
-    let p = at-operator .before .before .before .before .before .before .pre in
-    rw (layout-read (p .0) (p .0 .chain .sets) (at-operator .operator-of .ensures .0) refl) (c .before .before .put-operator .ensures)
+    let at-operator-of = c .before .before .before .before in
+    let at-start = at-operator-of .before .before .before .before .before .before in
+    let p = at-start .pre in
+    rw (layout-read (p .0) (p .0 .chain .sets) (at-operator-of .operator-of .ensures .0) refl)
+    (c .before .before .put-operator .ensures)
 
 pub put-operator-spec : {M : Type 1} → statement M
 put-operator-spec =

@@ -12,19 +12,55 @@ use Rattle.pieces.proofs.put_selector.Statement.{statement}
 use Rattle.pieces.proofs.put_selector.Tie as tie
 
 put-selector-requires : tie.Need-put-selector-requires
-put-selector-requires c κs = (c .before .before .before .before .pre .0 .name, (c .before .before .before .before .pre .0 .stored, ((c .before .before .before .before .pre .0 .few, c .before .before .before .before .pre .0 .short), fits (run-three (displaySelector (selectorOn (c .before .before .before .before .args .page .now) (c .before .before .before .before .args .selector))) (displayRange (optionalDurationOf (c .before .before .before .before .args .attached .range))) (displayTimes (timesOf (c .before .before .before .before .args .attached .times))) (c .before .before .before .before .args .out .now) (c .before .before .before .before .args .at) refl (c .before .before .before .before .pre .1)))))
+put-selector-requires c κs =
+    let at-start = c .before .before .before .before in (
+      at-start .pre .0 .name,
+      (
+        at-start .pre .0 .stored,
+        (
+          (at-start .pre .0 .few, at-start .pre .0 .short),
+          fits (run-three (displaySelector (selectorOn (at-start .args .page .now) (at-start .args .selector)))
+              (displayRange (optionalDurationOf (at-start .args .attached .range)))
+              (displayTimes (timesOf (at-start .args .attached .times))) (at-start .args .out .now) (at-start .args .at)
+              refl (at-start .pre .1)),
+        ),
+      ),
+    )
 
 put-range-requires : tie.Need-put-range-requires
-put-range-requires c κs = fits (next (run-three (displaySelector (selectorOn (c .before .before .before .before .before .before .before .before .args .page .now) (c .before .before .before .before .before .before .before .before .args .selector))) (displayRange (optionalDurationOf (c .before .before .before .before .before .before .before .before .args .attached .range))) (displayTimes (timesOf (c .before .before .before .before .before .before .before .before .args .attached .times))) (c .before .before .before .before .before .before .before .before .args .out .now) (c .before .before .before .before .before .before .before .before .args .at) refl (c .before .before .before .before .before .before .before .before .pre .1)) (c .before .before .before .put-selector .ensures))
+put-range-requires c κs =
+    let at-put-selector = c .before .before .before in
+    let at-start = at-put-selector .before .before .before .before .before in
+    fits (next (run-three (displaySelector (selectorOn (at-start .args .page .now) (at-start .args .selector)))
+    (displayRange (optionalDurationOf (at-start .args .attached .range)))
+    (displayTimes (timesOf (at-start .args .attached .times))) (at-start .args .out .now) (at-start .args .at)
+    refl (at-start .pre .1)) (at-put-selector .put-selector .ensures))
 
 put-times-requires : tie.Need-put-times-requires
-put-times-requires c κs = fits (next (next (run-three (displaySelector (selectorOn (c .before .before .before .before .before .before .before .before .before .before .before .before .args .page .now) (c .before .before .before .before .before .before .before .before .before .before .before .before .args .selector))) (displayRange (optionalDurationOf (c .before .before .before .before .before .before .before .before .before .before .before .before .args .attached .range))) (displayTimes (timesOf (c .before .before .before .before .before .before .before .before .before .before .before .before .args .attached .times))) (c .before .before .before .before .before .before .before .before .before .before .before .before .args .out .now) (c .before .before .before .before .before .before .before .before .before .before .before .before .args .at) refl (c .before .before .before .before .before .before .before .before .before .before .before .before .pre .1)) (c .before .before .before .before .before .before .before .put-selector .ensures)) (c .before .before .before .put-range .ensures))
+put-times-requires c κs =
+    let at-put-range = c .before .before .before in
+    let at-put-selector = at-put-range .before .before .before .before in
+    let at-start = at-put-selector .before .before .before .before .before in
+    fits (next (next (run-three
+    (displaySelector (selectorOn (at-start .args .page .now) (at-start .args .selector)))
+    (displayRange (optionalDurationOf (at-start .args .attached .range)))
+    (displayTimes (timesOf (at-start .args .attached .times))) (at-start .args .out .now) (at-start .args .at)
+    refl (at-start .pre .1)) (at-put-selector .put-selector .ensures)) (at-put-range .put-range .ensures))
 
 same-length : tie.Need-same-length
 same-length c = search needs
 
 returns : tie.Need-returns
-returns c = end (next (next (next (run-three (displaySelector (selectorOn (c .before .before .before .before .before .before .before .before .before .before .before .before .before .before .before .args .page .now) (c .before .before .before .before .before .before .before .before .before .before .before .before .before .before .before .args .selector))) (displayRange (optionalDurationOf (c .before .before .before .before .before .before .before .before .before .before .before .before .before .before .before .args .attached .range))) (displayTimes (timesOf (c .before .before .before .before .before .before .before .before .before .before .before .before .before .before .before .args .attached .times))) (c .before .before .before .before .before .before .before .before .before .before .before .before .before .before .before .args .out .now) (c .before .before .before .before .before .before .before .before .before .before .before .before .before .before .before .args .at) refl (c .before .before .before .before .before .before .before .before .before .before .before .before .before .before .before .pre .1)) (c .before .before .before .before .before .before .before .before .before .before .put-selector .ensures)) (c .before .before .before .before .before .before .put-range .ensures)) (c .before .before .put-times .ensures))
+returns c =
+    let at-put-range = c .before .before .before .before .before .before in
+    let at-put-selector = at-put-range .before .before .before .before in
+    let at-start = at-put-selector .before .before .before .before .before in
+    end (next (next (next (run-three
+    (displaySelector (selectorOn (at-start .args .page .now) (at-start .args .selector)))
+    (displayRange (optionalDurationOf (at-start .args .attached .range)))
+    (displayTimes (timesOf (at-start .args .attached .times))) (at-start .args .out .now) (at-start .args .at)
+    refl (at-start .pre .1)) (at-put-selector .put-selector .ensures)) (at-put-range .put-range .ensures))
+    (c .before .before .put-times .ensures))
 
 pub put-selector-spec : {M : Type 1} → statement M
 put-selector-spec =

@@ -11,7 +11,9 @@ enum-told : tie.Need-enum-told
 enum-told c = search needs
 
 returns : tie.Need-returns
-returns c = wrote-nothing _ _ (no-suffix (c .before .before .before .before .pre .0) _ (c .match .keys2) refl)
+returns c =
+    let at-start = c .before .before .before .before in
+    wrote-nothing _ _ (no-suffix (at-start .pre .0) _ (c .match .keys2) refl)
 
 spacing-of-requires : tie.Need-spacing-of-requires
 spacing-of-requires c κs = search needs
@@ -21,20 +23,23 @@ attached-of-requires c κs = search needs
 
 put-subquery-requires : tie.Need-put-subquery-requires
 put-subquery-requires c κs =
-    let at-attached = c .before .before in
-    let at-spacing = at-attached .before in
-    let p = at-spacing .before .before .before .before .before .before .pre in
-    rw (layout-read (p .0) (at-attached .attached-of .ensures) (at-spacing .spacing-of .ensures) refl) at (p .1)
+    let at-spacing-of = c .before .before .before in
+    let at-start = at-spacing-of .before .before .before .before .before .before in
+    let p = at-start .pre in
+    rw (layout-read (p .0) (c .before .before .attached-of .ensures) (at-spacing-of .spacing-of .ensures) refl) at
+    (p .1)
 
 same-length : tie.Need-same-length
 same-length c = search needs
 
 returns-2 : tie.Need-returns-2
 returns-2 c =
-    let at-attached = c .before .before .before .before .before in
-    let at-spacing = at-attached .before in
-    let p = at-spacing .before .before .before .before .before .before .pre in
-    rw (layout-read (p .0) (at-attached .attached-of .ensures) (at-spacing .spacing-of .ensures) refl) (c .before .before .put-subquery .ensures)
+    let at-attached-of = c .before .before .before .before .before in
+    let at-spacing-of = at-attached-of .before in
+    let at-start = at-spacing-of .before .before .before .before .before .before in
+    let p = at-start .pre in
+    rw (layout-read (p .0) (at-attached-of .attached-of .ensures) (at-spacing-of .spacing-of .ensures) refl)
+    (c .before .before .put-subquery .ensures)
 
 pub put-suffix-spec : {M : Type 1} → statement M
 put-suffix-spec =

@@ -25,7 +25,13 @@ capped-add-requires : tie.Need-capped-add-requires
 capped-add-requires c κs = search needs
 
 returns : tie.Need-returns
-returns c = sum-three (displaySelector (selectorOn (c .before .before .before .before .before .before .args .page .now) (c .before .before .before .before .before .before .args .selector))) (displayRange (optionalDurationOf (c .before .before .before .before .before .before .args .attached .range))) (displayTimes (timesOf (c .before .before .before .before .before .before .args .attached .times))) _ _ _ _ _ (c .before .selector-len .ensures) (c .before .before .before .range-len .ensures .0) (c .before .before .times-len .ensures .0) (c .capped-add .ensures)
+returns c =
+    let at-range-len = c .before .before .before in
+    let at-start = at-range-len .before .before .before in
+    sum-three (displaySelector (selectorOn (at-start .args .page .now) (at-start .args .selector)))
+    (displayRange (optionalDurationOf (at-start .args .attached .range)))
+    (displayTimes (timesOf (at-start .args .attached .times))) _ _ _ _ _ (c .before .selector-len .ensures)
+    (at-range-len .range-len .ensures .0) (c .before .before .times-len .ensures .0) (c .capped-add .ensures)
 
 pub selector-len-spec : {M : Type 1} → statement M
 selector-len-spec =

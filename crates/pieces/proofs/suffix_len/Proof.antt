@@ -12,7 +12,9 @@ enum-told : tie.Need-enum-told
 enum-told c = search needs
 
 returns : tie.Need-returns
-returns c = omega (arith, ap length (no-suffix (c .before .before .before .pre) _ (c .match .keys2) refl))
+returns c =
+    let at-start = c .before .before .before in
+    omega (arith, ap length (no-suffix (at-start .pre) _ (c .match .keys2) refl))
 
 spacing-of-requires : tie.Need-spacing-of-requires
 spacing-of-requires c κs = search needs
@@ -28,10 +30,12 @@ capped-add-requires c κs = search needs
 
 returns-2 : tie.Need-returns-2
 returns-2 c =
-    let at-attached = c .before .before .before in
-    let at-spacing = at-attached .before in
-    let node = at-spacing .before .before .before .before .before .pre in
-    rw (layout-read node (at-attached .attached-of .ensures) (at-spacing .spacing-of .ensures) refl) (omega (arith, c .capped-add .ensures, c .before .subquery-len .ensures))
+    let at-attached-of = c .before .before .before in
+    let at-spacing-of = at-attached-of .before in
+    let at-start = at-spacing-of .before .before .before .before .before in
+    let node = at-start .pre in
+    rw (layout-read node (at-attached-of .attached-of .ensures) (at-spacing-of .spacing-of .ensures) refl)
+    (omega (arith, c .capped-add .ensures, c .before .subquery-len .ensures))
 
 pub suffix-len-spec : {M : Type 1} → statement M
 suffix-len-spec =

@@ -13,35 +13,69 @@ use Rattle.program.proofs.put_refused.Tie as tie
 -- before the first write
 begun : (s : tie.Start)
     → Run (now (s .args .out)) (now (s .args .out)) (s .args .at) (refusedLine (s .args .number) (s .args .index))
-    (bytes "refused " ∷ decimal (s .args .number) ∷ bytes " at " ∷ decimal (s .args .index) ∷ bytes "\n" ∷ []) (s .args .at)
+    (bytes "refused " ∷ decimal (s .args .number) ∷ bytes " at " ∷ decimal (s .args .index) ∷ bytes "\n" ∷ [])
+    (s .args .at)
 begun s = start (s .pre) (refusedLine-pieces (s .args .number) (s .args .index))
 
 slice-aggregate-put-bytes : tie.Need-slice-aggregate-put-bytes
 slice-aggregate-put-bytes c = search needs
 
 put-bytes-requires : tie.Need-put-bytes-requires
-put-bytes-requires c κs = fits (begun (c .before .before .before))
+put-bytes-requires c κs =
+    let at-start = c .before .before .before in
+    fits (begun at-start)
 
 put-decimal-requires : tie.Need-put-decimal-requires
-put-decimal-requires c κs = fits (next (begun (c .before .before .before .before .before .before .before)) (c .before .before .before .put-bytes .ensures))
+put-decimal-requires c κs =
+    let at-put-bytes = c .before .before .before in
+    let at-start = at-put-bytes .before .before .before .before in
+    fits (next (begun at-start) (at-put-bytes .put-bytes .ensures))
 
 slice-aggregate-put-bytes-2 : tie.Need-slice-aggregate-put-bytes-2
 slice-aggregate-put-bytes-2 c = search needs
 
 put-bytes-requires-2 : tie.Need-put-bytes-requires-2
-put-bytes-requires-2 c κs = fits (next (next (begun (c .before .before .before .before .before .before .before .before .before .before .before .before)) (c .before .before .before .before .before .before .before .before .put-bytes .ensures)) (c .before .before .before .before .put-decimal .ensures))
+put-bytes-requires-2 c κs =
+    let at-put-decimal = c .before .before .before .before in
+    let at-put-bytes = at-put-decimal .before .before .before .before in
+    let at-start = at-put-bytes .before .before .before .before in
+    fits (next (next (begun at-start) (at-put-bytes .put-bytes .ensures)) (at-put-decimal .put-decimal .ensures))
 
 put-decimal-requires-2 : tie.Need-put-decimal-requires-2
-put-decimal-requires-2 c κs = fits (next (next (next (begun (c .before .before .before .before .before .before .before .before .before .before .before .before .before .before .before .before)) (c .before .before .before .before .before .before .before .before .before .before .before .before .put-bytes .ensures)) (c .before .before .before .before .before .before .before .before .put-decimal .ensures)) (c .before .before .before .put-bytes2 .ensures))
+put-decimal-requires-2 c κs =
+    let at-second-put-bytes = c .before .before .before in
+    let at-put-decimal = at-second-put-bytes .before .before .before .before .before in
+    let at-put-bytes = at-put-decimal .before .before .before .before in
+    let at-start = at-put-bytes .before .before .before .before in
+    fits (next
+    (next (next (begun at-start) (at-put-bytes .put-bytes .ensures)) (at-put-decimal .put-decimal .ensures))
+    (at-second-put-bytes .put-bytes2 .ensures))
 
 put-byte-requires : tie.Need-put-byte-requires
-put-byte-requires c κs = fits (next (next (next (next (begun (c .before .before .before .before .before .before .before .before .before .before .before .before .before .before .before .before .before .before .before .before)) (c .before .before .before .before .before .before .before .before .before .before .before .before .before .before .before .before .put-bytes .ensures)) (c .before .before .before .before .before .before .before .before .before .before .before .before .put-decimal .ensures)) (c .before .before .before .before .before .before .before .put-bytes2 .ensures)) (c .before .before .before .put-decimal2 .ensures))
+put-byte-requires c κs =
+    let at-second-put-decimal = c .before .before .before in
+    let at-second-put-bytes = at-second-put-decimal .before .before .before .before in
+    let at-put-decimal = at-second-put-bytes .before .before .before .before .before in
+    let at-put-bytes = at-put-decimal .before .before .before .before in
+    let at-start = at-put-bytes .before .before .before .before in
+    fits (next (next
+    (next (next (begun at-start) (at-put-bytes .put-bytes .ensures)) (at-put-decimal .put-decimal .ensures))
+    (at-second-put-bytes .put-bytes2 .ensures)) (at-second-put-decimal .put-decimal2 .ensures))
 
 same-length : tie.Need-same-length
 same-length c = search needs
 
 returns : tie.Need-returns
-returns c = end (next (next (next (next (next (begun (c .before .before .before .before .before .before .before .before .before .before .before .before .before .before .before .before .before .before .before .before .before .before .before)) (c .before .before .before .before .before .before .before .before .before .before .before .before .before .before .before .before .before .before .before .put-bytes .ensures)) (c .before .before .before .before .before .before .before .before .before .before .before .before .before .before .before .put-decimal .ensures)) (c .before .before .before .before .before .before .before .before .before .before .put-bytes2 .ensures)) (c .before .before .before .before .before .before .put-decimal2 .ensures)) (c .before .before .put-byte .ensures))
+returns c =
+    let at-second-put-decimal = c .before .before .before .before .before .before in
+    let at-second-put-bytes = at-second-put-decimal .before .before .before .before in
+    let at-put-decimal = at-second-put-bytes .before .before .before .before .before in
+    let at-put-bytes = at-put-decimal .before .before .before .before in
+    let at-start = at-put-bytes .before .before .before .before in
+    end (next (next (next
+    (next (next (begun at-start) (at-put-bytes .put-bytes .ensures)) (at-put-decimal .put-decimal .ensures))
+    (at-second-put-bytes .put-bytes2 .ensures)) (at-second-put-decimal .put-decimal2 .ensures))
+    (c .before .before .put-byte .ensures))
 
 pub put-refused-spec : {M : Type 1} → statement M
 put-refused-spec =

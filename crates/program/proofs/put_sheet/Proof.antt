@@ -12,9 +12,11 @@ put-line-requires c κs = search needs
 
 returns : tie.Need-returns
 returns c =
-    let s = c .before .before .before in
-    let size : 65537 ≡ length (now (s .args .out)) = search needs in
-    (c .put-line .ensures, output-within (now (s .args .page)) (now (s .args .out)) size (c .put-line .ensures))
+    let at-start = c .before .before .before in
+    let size : 65537 ≡ length (now (at-start .args .out)) = search needs in (
+      c .put-line .ensures,
+      output-within (now (at-start .args .page)) (now (at-start .args .out)) size (c .put-line .ensures),
+    )
 
 pub put-sheet-spec : {M : Type 1} → statement M
 put-sheet-spec = tie.close (tie.spec put-line-requires returns)

@@ -32,22 +32,35 @@ enum-told c = search needs
 
 returns : tie.Need-returns
 returns c =
-    let e = rw (c .before .before .before .before .before .before .before .before .before .code .given .1) at (c .before .before .before .before .before .before .before .before .before .before .before .read-code .ensures) in
-    let f = rw (c .before .before .before .before .before .m .given .1) at (c .before .before .before .before .before .before .before .read-label-modifier .ensures .0) in
-    let g = rw (c .before .n .given .1) at (c .before .before .before .read-count .ensures) in
-    (simp (← e, ← f, ← g), rw (c .before .before .before .before .before .m .given .1) at (c .before .before .before .before .before .before .before .read-label-modifier .ensures .1))
+    let at-read-count = c .before .before .before in
+    let at-m = at-read-count .before .before in
+    let at-read-label-modifier = at-m .before .before in
+    let at-code = at-read-label-modifier .before .before in
+    let at-read-code = at-code .before .before in
+    let e = rw (at-code .code .given .1) at (at-read-code .read-code .ensures) in
+    let f = rw (at-m .m .given .1) at (at-read-label-modifier .read-label-modifier .ensures .0) in
+    let g = rw (c .before .n .given .1) at (at-read-count .read-count .ensures) in
+    (simp (← e, ← f, ← g), rw (at-m .m .given .1) at (at-read-label-modifier .read-label-modifier .ensures .1))
 
 returns-2 : tie.Need-returns-2
 returns-2 c =
-    let e = rw (c .before .before .before .before .before .before .before .before .before .code .given .1) at (c .before .before .before .before .before .before .before .before .before .before .before .read-code .ensures) in
-    let f = rw (c .before .before .before .before .before .m .given .1) at (c .before .before .before .before .before .before .before .read-label-modifier .ensures .0) in
-    let g = rw (c .before .f .given .1) at (c .before .before .before .read-count .ensures) in
+    let at-read-count = c .before .before .before in
+    let at-m = at-read-count .before .before in
+    let at-read-label-modifier = at-m .before .before in
+    let at-code = at-read-label-modifier .before .before in
+    let at-read-code = at-code .before .before in
+    let e = rw (at-code .code .given .1) at (at-read-code .read-code .ensures) in
+    let f = rw (at-m .m .given .1) at (at-read-label-modifier .read-label-modifier .ensures .0) in
+    let g = rw (c .before .f .given .1) at (at-read-count .read-count .ensures) in
     (simp (← e, ← f, ← g), tt)
 
 returns-3 : tie.Need-returns-3
 returns-3 c =
-    let e = rw (c .before .before .before .before .before .code .given .1) at (c .before .before .before .before .before .before .before .read-code .ensures) in
-    let f = rw (c .before .f2 .given .1) at (c .before .before .before .read-label-modifier .ensures .0) in
+    let at-read-label-modifier = c .before .before .before in
+    let at-code = at-read-label-modifier .before .before in
+    let at-read-code = at-code .before .before in
+    let e = rw (at-code .code .given .1) at (at-read-code .read-code .ensures) in
+    let f = rw (c .before .f2 .given .1) at (at-read-label-modifier .read-label-modifier .ensures .0) in
     (simp (← e, ← f), tt)
 
 returns-4 : tie.Need-returns-4

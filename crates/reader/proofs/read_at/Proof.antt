@@ -13,10 +13,14 @@ enum-known-f : tie.Need-enum-known-f
 enum-known-f c = search needs
 
 returns : tie.Need-returns
-returns c = let e = rw (c .before .modifier .given .1) at (c .before .before .before .read-at-modifier .ensures) in (simp (← e), tt)
+returns c =
+    let at-read-at-modifier = c .before .before .before in
+    let e = rw (c .before .modifier .given .1) at (at-read-at-modifier .read-at-modifier .ensures) in (simp (← e), tt)
 
 returns-2 : tie.Need-returns-2
-returns-2 c = let e = rw (c .before .f .given .1) at (c .before .before .before .read-at-modifier .ensures) in (simp (← e), tt)
+returns-2 c =
+    let at-read-at-modifier = c .before .before .before in
+    let e = rw (c .before .f .given .1) at (at-read-at-modifier .read-at-modifier .ensures) in (simp (← e), tt)
 
 pub read-at-spec : {M : Type 1} → statement M
 read-at-spec =

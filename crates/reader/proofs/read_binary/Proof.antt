@@ -22,10 +22,22 @@ enum-told : tie.Need-enum-told
 enum-told c = search needs
 
 returns : tie.Need-returns
-returns c = let e = rw (c .before .before .before .before .before .code .given .1) at (c .before .before .before .before .before .before .before .read-code .ensures) in let f = rw (c .before .m .given .1) at (c .before .before .before .read-modifier .ensures .0) in (simp (← e, ← f), rw (c .before .m .given .1) at (c .before .before .before .read-modifier .ensures .1))
+returns c =
+    let at-read-modifier = c .before .before .before in
+    let at-code = at-read-modifier .before .before in
+    let at-read-code = at-code .before .before in
+    let e = rw (at-code .code .given .1) at (at-read-code .read-code .ensures) in
+    let f = rw (c .before .m .given .1) at (at-read-modifier .read-modifier .ensures .0) in
+    (simp (← e, ← f), rw (c .before .m .given .1) at (at-read-modifier .read-modifier .ensures .1))
 
 returns-2 : tie.Need-returns-2
-returns-2 c = let e = rw (c .before .before .before .before .before .code .given .1) at (c .before .before .before .before .before .before .before .read-code .ensures) in let g = rw (c .before .f .given .1) at (c .before .before .before .read-modifier .ensures .0) in (simp (← e, ← g), tt)
+returns-2 c =
+    let at-read-modifier = c .before .before .before in
+    let at-code = at-read-modifier .before .before in
+    let at-read-code = at-code .before .before in
+    let e = rw (at-code .code .given .1) at (at-read-code .read-code .ensures) in
+    let g = rw (c .before .f .given .1) at (at-read-modifier .read-modifier .ensures .0) in
+    (simp (← e, ← g), tt)
 
 returns-3 : tie.Need-returns-3
 returns-3 c = let e = rw (c .enum-told .given .1) at (c .before .before .read-code .ensures) in (simp (← e), tt)

@@ -23,18 +23,26 @@ enum-known-f-2 c = search needs
 
 returns : tie.Need-returns
 returns c =
-    let e = rw (c .before .before .before .before .before .function .given .1) at (c .before .before .before .before .before .before .before .read-function .ensures .0) in
-    let f = rw (c .before .n .given .1) at (c .before .before .before .read-count .ensures) in
-    (simp (← e, ← f), rw (c .before .before .before .before .before .function .given .1) at (c .before .before .before .before .before .before .before .read-function .ensures .1))
+    let at-read-count = c .before .before .before in
+    let at-function = at-read-count .before .before in
+    let at-read-function = at-function .before .before in
+    let e = rw (at-function .function .given .1) at (at-read-function .read-function .ensures .0) in
+    let f = rw (c .before .n .given .1) at (at-read-count .read-count .ensures) in
+    (simp (← e, ← f), rw (at-function .function .given .1) at (at-read-function .read-function .ensures .1))
 
 returns-2 : tie.Need-returns-2
 returns-2 c =
-    let e = rw (c .before .before .before .before .before .function .given .1) at (c .before .before .before .before .before .before .before .read-function .ensures .0) in
-    let g = rw (c .before .f .given .1) at (c .before .before .before .read-count .ensures) in
+    let at-read-count = c .before .before .before in
+    let at-function = at-read-count .before .before in
+    let at-read-function = at-function .before .before in
+    let e = rw (at-function .function .given .1) at (at-read-function .read-function .ensures .0) in
+    let g = rw (c .before .f .given .1) at (at-read-count .read-count .ensures) in
     (simp (← e, ← g), tt)
 
 returns-3 : tie.Need-returns-3
-returns-3 c = let e = rw (c .before .f2 .given .1) at (c .before .before .before .read-function .ensures .0) in (simp (← e), tt)
+returns-3 c =
+    let at-read-function = c .before .before .before in
+    let e = rw (c .before .f2 .given .1) at (at-read-function .read-function .ensures .0) in (simp (← e), tt)
 
 pub read-call-spec : {M : Type 1} → statement M
 read-call-spec =

@@ -82,9 +82,26 @@ returns-12 c = (simp (c .before .match .keys12, c .read-call .ensures .0), c .re
 
 returns-13 : tie.Need-returns-13
 returns-13 c =
+    let at-start = c .before .before in
     let r = c .match .rest in
-    let n = c .before .before .args .kind in
-    (no-form recordForms n (drop (c .before .before .args .at) (now (c .before .before .args .page))) (past 11 n (past 10 n (past 9 n (past 8 n (past 7 n (past 6 n (past 5 n (past 4 n (past 3 n (past 2 n (past 1 n (past 0 n zero-le (r .0 .0 .0 .0 .0 .0 .0 .0 .0 .0 .0 .1)) (r .0 .0 .0 .0 .0 .0 .0 .0 .0 .0 .1)) (r .0 .0 .0 .0 .0 .0 .0 .0 .0 .1)) (r .0 .0 .0 .0 .0 .0 .0 .0 .1)) (r .0 .0 .0 .0 .0 .0 .0 .1)) (r .0 .0 .0 .0 .0 .0 .1)) (r .0 .0 .0 .0 .0 .1)) (r .0 .0 .0 .0 .1)) (r .0 .0 .0 .1)) (r .0 .0 .1)) (r .0 .1)) (r .1)), tt)
+    let n = at-start .args .kind in (
+      no-form recordForms n (drop (at-start .args .at) (now (at-start .args .page)))
+          (past 11 n
+          (past 10 n
+          (past 9 n
+          (past 8 n
+          (past 7 n
+          (past 6 n
+          (past 5 n
+          (past 4 n
+          (past 3 n
+          (past 2 n
+          (past 1 n (past 0 n zero-le (r .0 .0 .0 .0 .0 .0 .0 .0 .0 .0 .0 .1)) (r .0 .0 .0 .0 .0 .0 .0 .0 .0 .0 .1))
+          (r .0 .0 .0 .0 .0 .0 .0 .0 .0 .1)) (r .0 .0 .0 .0 .0 .0 .0 .0 .1)) (r .0 .0 .0 .0 .0 .0 .0 .1))
+          (r .0 .0 .0 .0 .0 .0 .1)) (r .0 .0 .0 .0 .0 .1)) (r .0 .0 .0 .0 .1)) (r .0 .0 .0 .1)) (r .0 .0 .1))
+          (r .0 .1)) (r .1)),
+      tt,
+    )
 
 pub read-fields-spec : {M : Type 1} → statement M
 read-fields-spec =

@@ -19,7 +19,8 @@ enum-told c = search needs
 returns : tie.Need-returns
 unfolding readRecord
 returns c =
-    let e = rw (c .before .before .kind .given .1) at (c .before .before .before .before .read-number .ensures .0) in
+    let at-read-number = c .before .before .before .before in
+    let e = rw (c .before .before .kind .given .1) at (at-read-number .read-number .ensures .0) in
     (simp (← e, c .read-fields .ensures .0), c .read-fields .ensures .1)
 
 returns-2 : tie.Need-returns-2

@@ -23,20 +23,28 @@ enum-known-f-2 c = search needs
 
 returns : tie.Need-returns
 returns c =
-    let e = rw (c .before .before .before .before .before .name .given .1) at (c .before .before .before .before .before .before .before .read-text .ensures .0) in
-    let f = rw (c .before .matchers .given .1) at (c .before .before .before .read-matchers .ensures .0) in
-    let name = rw (c .before .before .before .before .before .name .given .1) at (c .before .before .before .before .before .before .before .read-text .ensures .1) in
-    let marked = rw (c .before .matchers .given .1) at (c .before .before .before .read-matchers .ensures .1) in
+    let at-read-matchers = c .before .before .before in
+    let at-name = at-read-matchers .before .before in
+    let at-read-text = at-name .before .before in
+    let e = rw (at-name .name .given .1) at (at-read-text .read-text .ensures .0) in
+    let f = rw (c .before .matchers .given .1) at (at-read-matchers .read-matchers .ensures .0) in
+    let name = rw (at-name .name .given .1) at (at-read-text .read-text .ensures .1) in
+    let marked = rw (c .before .matchers .given .1) at (at-read-matchers .read-matchers .ensures .1) in
     (simp (← e, ← f), record { name = name; marked = marked .0; stored = marked .1 })
 
 returns-2 : tie.Need-returns-2
 returns-2 c =
-    let e = rw (c .before .before .before .before .before .name .given .1) at (c .before .before .before .before .before .before .before .read-text .ensures .0) in
-    let g = rw (c .before .f .given .1) at (c .before .before .before .read-matchers .ensures .0) in
+    let at-read-matchers = c .before .before .before in
+    let at-name = at-read-matchers .before .before in
+    let at-read-text = at-name .before .before in
+    let e = rw (at-name .name .given .1) at (at-read-text .read-text .ensures .0) in
+    let g = rw (c .before .f .given .1) at (at-read-matchers .read-matchers .ensures .0) in
     (simp (← e, ← g), tt)
 
 returns-3 : tie.Need-returns-3
-returns-3 c = let e = rw (c .before .f2 .given .1) at (c .before .before .before .read-text .ensures .0) in (simp (← e), tt)
+returns-3 c =
+    let at-read-text = c .before .before .before in
+    let e = rw (c .before .f2 .given .1) at (at-read-text .read-text .ensures .0) in (simp (← e), tt)
 
 pub read-selector-spec : {M : Type 1} → statement M
 read-selector-spec =

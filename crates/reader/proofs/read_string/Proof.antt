@@ -13,10 +13,15 @@ enum-known-f : tie.Need-enum-known-f
 enum-known-f c = search needs
 
 returns : tie.Need-returns
-returns c = let e = rw (c .before .text .given .1) at (c .before .before .before .read-text .ensures .0) in (simp (← e), rw (c .before .text .given .1) at (c .before .before .before .read-text .ensures .1))
+returns c =
+    let at-read-text = c .before .before .before in
+    let e = rw (c .before .text .given .1) at (at-read-text .read-text .ensures .0) in
+    (simp (← e), rw (c .before .text .given .1) at (at-read-text .read-text .ensures .1))
 
 returns-2 : tie.Need-returns-2
-returns-2 c = let e = rw (c .before .f .given .1) at (c .before .before .before .read-text .ensures .0) in (simp (← e), tt)
+returns-2 c =
+    let at-read-text = c .before .before .before in
+    let e = rw (c .before .f .given .1) at (at-read-text .read-text .ensures .0) in (simp (← e), tt)
 
 pub read-string-spec : {M : Type 1} → statement M
 read-string-spec =

@@ -22,10 +22,21 @@ enum-told-2 : tie.Need-enum-told-2
 enum-told-2 c = search needs
 
 returns : tie.Need-returns
-returns c = let e = rw (c .before .before .before .before .before .range .given .1) at (c .before .before .before .before .before .before .before .read-number .ensures .0) in let f = rw (c .before .step .given .1) at (c .before .before .before .read-optional-duration .ensures) in (simp (← e, ← f), tt)
+returns c =
+    let at-read-optional-duration = c .before .before .before in
+    let at-range = at-read-optional-duration .before .before in
+    let at-read-number = at-range .before .before in
+    let e = rw (at-range .range .given .1) at (at-read-number .read-number .ensures .0) in
+    let f = rw (c .before .step .given .1) at (at-read-optional-duration .read-optional-duration .ensures) in
+    (simp (← e, ← f), tt)
 
 returns-2 : tie.Need-returns-2
-returns-2 c = let e = rw (c .before .before .before .before .range .given .1) at (c .before .before .before .before .before .before .read-number .ensures .0) in let f = rw (c .enum-told .given .1) at (c .before .before .read-optional-duration .ensures) in (simp (← e, ← f), tt)
+returns-2 c =
+    let at-range = c .before .before .before .before in
+    let at-read-number = at-range .before .before in
+    let e = rw (at-range .range .given .1) at (at-read-number .read-number .ensures .0) in
+    let f = rw (c .enum-told .given .1) at (c .before .before .read-optional-duration .ensures) in
+    (simp (← e, ← f), tt)
 
 returns-3 : tie.Need-returns-3
 returns-3 c = let e = rw (c .enum-told2 .given .1) at (c .before .before .read-number .ensures .0) in (simp (← e), tt)

@@ -26,7 +26,8 @@ returns : tie.Need-returns
 returns c =
     let at-put-spaced = c .before .before .before .before .before .before .before in
     let at-put-text = at-put-spaced .before .before .before .before in
-    puts-then (at-put-text .put-text .ensures) (puts-then (at-put-spaced .put-spaced .ensures .puts) (c .before .before .put-text2 .ensures))
+    puts-then (at-put-text .put-text .ensures)
+    (puts-then (at-put-spaced .put-spaced .ensures .puts) (c .before .before .put-text2 .ensures))
 
 pub end-line-spec : {M : Type 1} → statement M
 end-line-spec =

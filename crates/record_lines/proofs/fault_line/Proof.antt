@@ -36,12 +36,15 @@ same-length c = search needs
 
 returns : tie.Need-returns
 returns c =
-    let at-put-spaced = c .before .before .before .before .before .before .before in
-    let at-put-text = at-put-spaced .before .before .before .before in
-    let at-put-spaced· = at-put-text .before .before .before .before .before in
-    let at-fault-number = at-put-spaced· .before .before in
-    let at-put-text· = at-fault-number .before .before .before in
-    puts-then (at-put-text· .put-text .ensures) (puts-then (rw (at-fault-number .fault-number .ensures) at (at-put-spaced· .put-spaced .ensures .puts)) (puts-then (at-put-text .put-text2 .ensures) (puts-then (at-put-spaced .put-spaced2 .ensures .puts) (c .before .before .put-text3 .ensures))))
+    let at-second-put-spaced = c .before .before .before .before .before .before .before in
+    let at-second-put-text = at-second-put-spaced .before .before .before .before in
+    let at-put-spaced = at-second-put-text .before .before .before .before .before in
+    let at-fault-number = at-put-spaced .before .before in
+    let at-put-text = at-fault-number .before .before .before in
+    puts-then (at-put-text .put-text .ensures)
+    (puts-then (rw (at-fault-number .fault-number .ensures) at (at-put-spaced .put-spaced .ensures .puts))
+    (puts-then (at-second-put-text .put-text2 .ensures)
+    (puts-then (at-second-put-spaced .put-spaced2 .ensures .puts) (c .before .before .put-text3 .ensures))))
 
 pub fault-line-spec : {M : Type 1} → statement M
 fault-line-spec =

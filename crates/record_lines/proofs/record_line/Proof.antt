@@ -23,7 +23,8 @@ returns : tie.Need-returns
 returns c =
     let at-put-record = c .before .before .before .before .before .before .before in
     let at-put-number = at-put-record .before .before .before .before in
-    puts-then (puts-then (at-put-number .put-number .ensures) (at-put-record .put-record .ensures .puts)) (c .before .before .put-text .ensures)
+    puts-then (puts-then (at-put-number .put-number .ensures) (at-put-record .put-record .ensures .puts))
+    (c .before .before .put-text .ensures)
 
 pub record-line-spec : {M : Type 1} → statement M
 record-line-spec =

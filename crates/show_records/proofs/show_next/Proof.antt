@@ -20,7 +20,8 @@ slice-reshare-prefix-show-page c =
 slice-aggregate-show-page : tie.Need-slice-aggregate-show-page
 slice-aggregate-show-page c =
     let at-read-block = c .before .before .before .before .before .before in
-    sym (length-take-le _ _ (omega (arith, (rw (c .before .before .size .given .1) at (at-read-block .read-block .ensures)) .0)))
+    sym (length-take-le _ _
+    (omega (arith, (rw (c .before .before .size .given .1) at (at-read-block .read-block .ensures)) .0)))
 
 show-page-requires : tie.Need-show-page-requires
 show-page-requires c κs = search needs

@@ -1,4 +1,5 @@
--- `vectors::replay_all` is safe and ends: the buffers keep their lengths, and the measure is the turns left. Assumes nothing.
+-- `vectors::replay_all` is safe and ends: the buffers keep their
+-- lengths, and the measure is the turns left. Assumes nothing.
 use Prim.Native.Nat.{_≤_}
 use mathlib.Core.Path.{_≡_}
 use lib.ListN.{length}
@@ -7,7 +8,8 @@ use Rattle.vectors.proofs.replay_all.Statement.{statement}
 use Rattle.vectors.proofs.replay_all.Tie as tie
 
 abbrev Inv-loop : tie.InvT-loop
-Inv-loop page₀ text₀ out₀ turns₀ page text out turns = (length page ≡ length page₀) × (length text ≡ length text₀) × (length out ≡ length out₀) × (turns ≤ 4294967296)
+Inv-loop page₀ text₀ out₀ turns₀ page text out turns =
+    (length page ≡ length page₀) × (length text ≡ length text₀) × (length out ≡ length out₀) × (turns ≤ 4294967296)
 
 abbrev μ-loop : tie.MeasureT-loop
 μ-loop page₀ text₀ out₀ turns₀ page text out turns = turns

@@ -20,7 +20,8 @@ slice-reshare-prefix-replay-entry c =
 slice-aggregate-replay-entry : tie.Need-slice-aggregate-replay-entry
 slice-aggregate-replay-entry c =
     let at-read-block = c .before .before .before .before .before .before in
-    sym (length-take-le _ _ (omega (arith, (rw (c .before .before .size .given .1) at (at-read-block .read-block .ensures)) .0)))
+    sym (length-take-le _ _
+    (omega (arith, (rw (c .before .before .size .given .1) at (at-read-block .read-block .ensures)) .0)))
 
 replay-entry-requires : tie.Need-replay-entry-requires
 replay-entry-requires c κs = search needs

@@ -20,7 +20,8 @@ slice-reshare-prefix-writes-equal c =
 slice-aggregate-writes-equal : tie.Need-slice-aggregate-writes-equal
 slice-aggregate-writes-equal c =
     let at-read-block = c .before .before .before .before .before .before in
-    sym (length-take-le _ _ (omega (arith, (rw (c .before .before .size .given .1) at (at-read-block .read-block .ensures)) .0)))
+    sym (length-take-le _ _
+    (omega (arith, (rw (c .before .before .size .given .1) at (at-read-block .read-block .ensures)) .0)))
 
 writes-equal-requires : tie.Need-writes-equal-requires
 writes-equal-requires c κs = search needs

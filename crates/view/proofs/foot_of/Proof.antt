@@ -1,4 +1,5 @@
--- `view::foot_of` meets its contract. Invariant: the records passed are attached of one node with record j. The measure is j. Assumes nothing.
+-- `view::foot_of` meets its contract. Invariant: the records passed are
+-- attached of one node with record j. The measure is j. Assumes nothing.
 use native.Mathlib.Omega.{arith}
 use Rattle.view.specs.View.{Chained}
 use Rattle.view.proofs.ChainedLaws.{chained-start, chained-here, chained-part}
@@ -15,19 +16,36 @@ loop-holds : tie.Need-loop-holds Inv-loop μ-loop
 loop-holds c = chained-start (c .before .before .pre)
 
 kind-at-requires : tie.Need-kind-at-requires Inv-loop μ-loop
-kind-at-requires c κs = chained-here (c .before .before .before .pre) (c .loop .inv)
+kind-at-requires c κs =
+    let at-start = c .before .before .before in
+    chained-here (at-start .pre) (c .loop .inv)
 
 sub-j : tie.Need-sub-j Inv-loop μ-loop
-sub-j c = chained-part (c .before .before .before .before .before .pre) (c .before .before .loop .inv) (c .before .kind-at .ensures) (c .if1 .taken) .0
+sub-j c =
+    let at-start = c .before .before .before .before .before in
+    chained-part (at-start .pre) (c .before .before .loop .inv) (c .before .kind-at .ensures) (c .if1 .taken) .0
 
 loop-less : tie.Need-loop-less Inv-loop μ-loop
-loop-less c = omega (arith, chained-part (c .before .before .before .before .before .pre) (c .before .before .loop .inv) (c .before .kind-at .ensures) (c .if1 .taken) .0)
+loop-less c =
+    let at-start = c .before .before .before .before .before in
+    omega (
+      arith,
+      chained-part (at-start .pre) (c .before .before .loop .inv) (c .before .kind-at .ensures) (c .if1 .taken) .0,
+    )
 
 loop-again : tie.Need-loop-again Inv-loop μ-loop
-loop-again c = chained-part (c .before .before .before .before .before .pre) (c .before .before .loop .inv) (c .before .kind-at .ensures) (c .if1 .taken) .1
+loop-again c =
+    let at-start = c .before .before .before .before .before in
+    chained-part (at-start .pre) (c .before .before .loop .inv) (c .before .kind-at .ensures) (c .if1 .taken) .1
 
 returns : tie.Need-returns Inv-loop μ-loop
-returns c = record { chain = c .before .before .loop .inv; kind = _; stands = c .before .kind-at .ensures; other = c .if1 .left }
+returns c =
+    record {
+      chain = c .before .before .loop .inv;
+      kind = _;
+      stands = c .before .kind-at .ensures;
+      other = c .if1 .left;
+    }
 
 pub foot-of-spec : {M : Type 1} → statement M
 foot-of-spec =

@@ -15,7 +15,9 @@ shared-slice-read-start : tie.Need-shared-slice-read-start
 shared-slice-read-start c = search needs
 
 cast-start : tie.Need-cast-start
-cast-start c = omega (arith, c .shared-slice-known3 .given (c .before .before .before .args .i))
+cast-start c =
+    let at-start = c .before .before .before in
+    omega (arith, c .shared-slice-known3 .given (at-start .args .i))
 
 read-record-requires : tie.Need-read-record-requires
 read-record-requires c κs = search needs
@@ -31,11 +33,15 @@ enum-told c = search needs
 
 returns : tie.Need-returns
 returns c =
-    let e = rw (c .before .before .item .given .1) at (c .before .before .before .before .read-record .ensures .0) in
-    takes e (sym (c .operand-count .ensures (now (c .before .before .before .before .before .before .before .before .args .page))))
+    let at-read-record = c .before .before .before .before in
+    let at-start = at-read-record .before .before .before .before in
+    let e = rw (c .before .before .item .given .1) at (at-read-record .read-record .ensures .0) in
+    takes e (sym (c .operand-count .ensures (now (at-start .args .page))))
 
 returns-2 : tie.Need-returns-2
-returns-2 c = absurd (unreadable _ (c .before .before .before .before .before .before .pre) (rw (c .enum-told .given .1) at (c .before .before .read-record .ensures .0)))
+returns-2 c =
+    let at-start = c .before .before .before .before .before .before in
+    absurd (unreadable _ (at-start .pre) (rw (c .enum-told .given .1) at (c .before .before .read-record .ensures .0)))
 
 pub operands-at-spec : {M : Type 1} → statement M
 operands-at-spec =

@@ -1,4 +1,5 @@
--- `view::unary_view` meets its contract: the value of the tree says whether the minus is a number's sign. Assumes nothing.
+-- `view::unary_view` meets its contract: the value of the tree
+-- says whether the minus is a number's sign. Assumes nothing.
 use Rattle.view.proofs.ChainedLaws.{chained-here}
 use Rattle.view.proofs.NodeLaws.{view-unary, view-valued, numberless-below}
 use borrow.Author.Needs.{needs}
@@ -10,12 +11,15 @@ node-of-requires c κs = search needs
 
 returns : tie.Need-returns
 returns c =
-    let p = c .before .before .before .before .pre in
+    let at-start = c .before .before .before .before in
+    let p = at-start .pre in
     let numberless = numberless-below (p .0) (p .1 .0 .chain) (rw (c .before .if1 .taken) at (p .1 .1 .1)) in
     rw (c .node-of .ensures) (view-unary (p .0) (p .1 .0 .chain) (p .1 .1 .0) numberless)
 
 signed-literal-requires : tie.Need-signed-literal-requires
-signed-literal-requires c κs = let p = c .before .before .before .pre in chained-here (p .0) (p .1 .0 .chain)
+signed-literal-requires c κs =
+    let at-start = c .before .before .before in
+    let p = at-start .pre in chained-here (p .0) (p .1 .0 .chain)
 
 enum-told : tie.Need-enum-told
 enum-told c = search needs
@@ -31,16 +35,18 @@ node-of-requires-3 c κs = search needs
 
 returns-2 : tie.Need-returns-2
 returns-2 c =
-    let at-signed = c .before .before .before in
-    let p = at-signed .before .before .before .before .pre in
-    let number = rw (c .before .enum-told .given .1) at (at-signed .signed-literal .ensures) in
+    let at-signed-literal = c .before .before .before in
+    let at-start = at-signed-literal .before .before .before .before in
+    let p = at-start .pre in
+    let number = rw (c .before .enum-told .given .1) at (at-signed-literal .signed-literal .ensures) in
     rw (c .node-of2 .ensures) (view-valued (p .0) (p .1 .0 .chain) (record { value = _; is = number }))
 
 returns-3 : tie.Need-returns-3
 returns-3 c =
-    let at-signed = c .before .before .before in
-    let p = at-signed .before .before .before .before .pre in
-    let numberless = rw (c .before .enum-told2 .given .1) at (at-signed .signed-literal .ensures) in
+    let at-signed-literal = c .before .before .before in
+    let at-start = at-signed-literal .before .before .before .before in
+    let p = at-start .pre in
+    let numberless = rw (c .before .enum-told2 .given .1) at (at-signed-literal .signed-literal .ensures) in
     rw (c .node-of3 .ensures) (view-unary (p .0) (p .1 .0 .chain) (p .1 .1 .0) numberless)
 
 pub unary-view-spec : {M : Type 1} → statement M

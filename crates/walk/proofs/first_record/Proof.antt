@@ -21,7 +21,10 @@ shared-slice-read-result : tie.Need-shared-slice-read-result
 shared-slice-read-result c = search needs
 
 returns-2 : tie.Need-returns-2
-returns-2 c = firstOf-some (now (c .before .before .args .bases)) (c .before .before .args .top) (c .before .before .args .needed) (c .before .before .args .count) (c .before .if1 .left)
+returns-2 c =
+    let at-start = c .before .before in
+    firstOf-some (now (at-start .args .bases)) (at-start .args .top) (at-start .args .needed)
+    (at-start .args .count) (c .before .if1 .left)
 
 pub first-record-spec : {M : Type 1} → statement M
 first-record-spec =

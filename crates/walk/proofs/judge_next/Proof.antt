@@ -14,10 +14,23 @@ sub-if1 : tie.Need-sub-if1
 sub-if1 c = search needs
 
 returns : tie.Need-returns
-returns c = judgement-short (recordOn (now (c .before .before .before .before .args .page)) (c .before .before .before .before .args .item)) (drop (c .before .before .before .before .args .top) (heldOperands (now (c .before .before .before .before .args .tags)) (now (c .before .before .before .before .args .values)))) (rw (stack-size (now (c .before .before .before .before .args .tags)) (now (c .before .before .before .before .args .values)) (c .before .before .before .before .pre .0) (c .before .before .before .before .args .top)) (omega (arith, c .if1 .taken, c .before .before .before .before .pre .1 .0 .takes)))
+returns c =
+    let at-start = c .before .before .before .before in
+    judgement-short (recordOn (now (at-start .args .page)) (at-start .args .item))
+    (drop (at-start .args .top) (heldOperands (now (at-start .args .tags)) (now (at-start .args .values))))
+    (rw (stack-size (now (at-start .args .tags)) (now (at-start .args .values)) (at-start .pre .0)
+    (at-start .args .top)) (omega (arith, c .if1 .taken, at-start .pre .1 .0 .takes)))
 
 judge-record-requires : tie.Need-judge-record-requires
-judge-record-requires c κs = (c .before .before .before .before .pre .0, record { lies = c .before .before .before .before .pre .1 .0 .lies; exact = c .before .before .before .before .pre .1 .0 .exact; fits = omega (arith, c .if1 .left, c .before .before .before .before .pre .1 .0 .takes, c .before .before .before .before .pre .1 .1) })
+judge-record-requires c κs =
+    let at-start = c .before .before .before .before in (
+      at-start .pre .0,
+      record {
+        lies = at-start .pre .1 .0 .lies;
+        exact = at-start .pre .1 .0 .exact;
+        fits = omega (arith, c .if1 .left, at-start .pre .1 .0 .takes, at-start .pre .1 .1);
+      },
+    )
 
 returns-2 : tie.Need-returns-2
 returns-2 c = search needs

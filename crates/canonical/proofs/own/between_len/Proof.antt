@@ -32,25 +32,52 @@ enum-told-5 : tie.Need-enum-told-5
 enum-told-5 c = search needs
 
 operator-len-requires : tie.Need-operator-len-requires
-operator-len-requires c κs = c .before .before .before .before .before .pre
+operator-len-requires c κs =
+    let at-start = c .before .before .before .before .before in
+    at-start .pre
 
 capped-add-requires-2 : tie.Need-capped-add-requires-2
 capped-add-requires-2 c κs = search needs
 
 returns : tie.Need-returns
-returns c = let e = layout-shaped (c .before .before .before .before .before .pre) (sym (c .enum-told .given .1) ∙ c .before .before .shape-of .ensures) in omega (arith, ap (λ (l : Layout). length (between l)) e)
+returns c =
+    let at-start = c .before .before .before .before .before in
+    let e = layout-shaped (at-start .pre) (sym (c .enum-told .given .1) ∙ c .before .before .shape-of .ensures) in
+    omega (arith, ap (λ (l : Layout). length (between l)) e)
 
 returns-2 : tie.Need-returns-2
-returns-2 c = let e = layout-shaped (c .before .before .before .before .before .pre) (sym (c .enum-told2 .given .1) ∙ c .before .before .shape-of .ensures) in omega (arith, ap (λ (l : Layout). length (between l)) e)
+returns-2 c =
+    let at-start = c .before .before .before .before .before in
+    let e = layout-shaped (at-start .pre) (sym (c .enum-told2 .given .1) ∙ c .before .before .shape-of .ensures) in
+    omega (arith, ap (λ (l : Layout). length (between l)) e)
 
 returns-3 : tie.Need-returns-3
-returns-3 c = let e = layout-shaped (c .before .before .before .before .before .pre) (sym (c .enum-told3 .given .1) ∙ c .before .before .shape-of .ensures) in omega (arith, ap (λ (l : Layout). length (between l)) e)
+returns-3 c =
+    let at-start = c .before .before .before .before .before in
+    let e = layout-shaped (at-start .pre) (sym (c .enum-told3 .given .1) ∙ c .before .before .shape-of .ensures) in
+    omega (arith, ap (λ (l : Layout). length (between l)) e)
 
 returns-4 : tie.Need-returns-4
-returns-4 c = let e = layout-shaped (c .before .before .before .before .before .before .pre) (sym (c .before .enum-told4 .given .1) ∙ c .before .before .before .shape-of .ensures) in omega (arith, c .capped-add .ensures, ap (λ (l : Layout). length (between l)) e)
+returns-4 c =
+    let at-shape-of = c .before .before .before in
+    let at-start = at-shape-of .before .before .before in
+    let e = layout-shaped (at-start .pre)
+    (sym (c .before .enum-told4 .given .1) ∙ at-shape-of .shape-of .ensures) in
+    omega (arith, c .capped-add .ensures, ap (λ (l : Layout). length (between l)) e)
 
 returns-5 : tie.Need-returns-5
-returns-5 c = let e = layout-shaped (c .before .before .before .before .before .before .before .pre) (sym (c .before .before .enum-told5 .given .1) ∙ c .before .before .before .before .shape-of .ensures) in omega (arith, c .before .operator-len .ensures, c .capped-add2 .ensures, ap (λ (l : Layout). length (between l)) e, spaced (operator (layoutAt (c .before .before .before .before .before .before .before .args .page .now) (c .before .before .before .before .before .before .before .args .node))))
+returns-5 c =
+    let at-shape-of = c .before .before .before .before in
+    let at-start = at-shape-of .before .before .before in
+    let e = layout-shaped (at-start .pre)
+    (sym (c .before .before .enum-told5 .given .1) ∙ at-shape-of .shape-of .ensures) in
+    omega (
+      arith,
+      c .before .operator-len .ensures,
+      c .capped-add2 .ensures,
+      ap (λ (l : Layout). length (between l)) e,
+      spaced (operator (layoutAt (at-start .args .page .now) (at-start .args .node))),
+    )
 
 pub between-len-spec : {M : Type 1} → statement M
 between-len-spec =

@@ -21,7 +21,9 @@ shared-slice-read-if1 : tie.Need-shared-slice-read-if1 Inv-loop μ-loop
 shared-slice-read-if1 c = search needs
 
 returns : tie.Need-returns Inv-loop μ-loop
-returns c = sym (c .before .before .before .loop .inv ∙ formAfter-stop _ _ _ (c .before .before .loop-test .taken) (c .if1 .taken))
+returns c =
+    let at-loop = c .before .before .before in
+    sym (at-loop .loop .inv ∙ formAfter-stop _ _ _ (c .before .before .loop-test .taken) (c .if1 .taken))
 
 negated-form-requires : tie.Need-negated-form-requires Inv-loop μ-loop
 negated-form-requires c κs = search needs
@@ -33,7 +35,13 @@ loop-less : tie.Need-loop-less Inv-loop μ-loop
 loop-less c = search needs
 
 loop-again : tie.Need-loop-again Inv-loop μ-loop
-loop-again c = c .before .before .before .before .loop .inv ∙ formAfter-more _ _ _ (c .before .before .before .loop-test .taken) (c .before .if1 .left) ∙ ap (λ f. formAfter f (drop (c .before .before .before .before .loop .i + 1) (c .before .before .before .before .before .before .args .page .now))) (sym (c .negated-form .ensures))
+loop-again c =
+    let at-loop-test = c .before .before .before in
+    let at-loop = at-loop-test .before in
+    let at-start = at-loop .before .before in
+    at-loop .loop .inv ∙ formAfter-more _ _ _ (at-loop-test .loop-test .taken) (c .before .if1 .left)
+    ∙ ap (λ f. formAfter f (drop (at-loop .loop .i + 1) (at-start .args .page .now)))
+    (sym (c .negated-form .ensures))
 
 returns-2 : tie.Need-returns-2 Inv-loop μ-loop
 returns-2 c = sym (c .before .loop .inv ∙ formAfter-end _ _ _ (c .loop-test .left))

@@ -22,7 +22,15 @@ shared-slice-read-if1 : tie.Need-shared-slice-read-if1 Inv-loop μ-loop
 shared-slice-read-if1 c = search needs
 
 returns : tie.Need-returns Inv-loop μ-loop
-returns c = omega (arith, c .before .before .before .loop .inv .0, unaries-stop (c .before .before .before .before .args .page .now) (c .before .before .before .loop .i) (c .before .before .loop-test .taken) (c .if1 .taken))
+returns c =
+    let at-loop = c .before .before .before in
+    let at-start = at-loop .before in
+    omega (
+      arith,
+      at-loop .loop .inv .0,
+      unaries-stop (at-start .args .page .now) (at-loop .loop .i) (c .before .before .loop-test .taken)
+          (c .if1 .taken),
+    )
 
 add-count : tie.Need-add-count Inv-loop μ-loop
 add-count c = search needs
@@ -34,10 +42,20 @@ loop-less : tie.Need-loop-less Inv-loop μ-loop
 loop-less c = search needs
 
 loop-again : tie.Need-loop-again Inv-loop μ-loop
-loop-again c = let more = unaries-more (c .before .before .before .before .args .page .now) (c .before .before .before .loop .i) (c .before .before .loop-test .taken) (c .if1 .left) in (omega (arith, c .before .before .before .loop .inv .0, more), omega arith)
+loop-again c =
+    let at-loop = c .before .before .before in
+    let at-start = at-loop .before in
+    let more = unaries-more (at-start .args .page .now) (at-loop .loop .i) (c .before .before .loop-test .taken)
+    (c .if1 .left) in
+    (omega (arith, at-loop .loop .inv .0, more), omega arith)
 
 returns-2 : tie.Need-returns-2 Inv-loop μ-loop
-returns-2 c = omega (arith, c .before .loop .inv .0, unaries-end (c .before .before .args .page .now) (c .before .loop .i) (c .loop-test .left))
+returns-2 c =
+    omega (
+      arith,
+      c .before .loop .inv .0,
+      unaries-end (c .before .before .args .page .now) (c .before .loop .i) (c .loop-test .left),
+    )
 
 pub unaries-at-spec : {M : Type 1} → statement M
 unaries-at-spec =

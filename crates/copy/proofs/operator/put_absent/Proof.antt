@@ -1,4 +1,5 @@
--- `copy::operator::put_absent` meets its contract: kind and code off the page, then the modifier written out. Assumes nothing.
+-- `copy::operator::put_absent` meets its contract: kind and code
+-- off the page, then the modifier written out. Assumes nothing.
 use Prim.Native.Nat.{_+_, _-_}
 use mathlib.Core.List.{[], _∷_}
 use native.Mathlib.Omega.{arith}
@@ -18,7 +19,13 @@ begun : (c : tie.Start) → let a = c .args in
 begun c = start (c .pre .placing .room) (absent-copy (c .pre .operator) (c .pre .absent))
 
 add-modifier : tie.Need-add-modifier
-add-modifier c = omega (arith, operator-wide (c .before .before .pre .placing .span) (c .before .before .pre .operator .kind), c .before .before .pre .placing .span .inside)
+add-modifier c =
+    let at-start = c .before .before in
+    omega (
+      arith,
+      operator-wide (at-start .pre .placing .span) (at-start .pre .operator .kind),
+      at-start .pre .placing .span .inside,
+    )
 
 sub-put-bytes : tie.Need-sub-put-bytes
 sub-put-bytes c = search needs
@@ -27,22 +34,36 @@ part-put-bytes-start : tie.Need-part-put-bytes-start
 part-put-bytes-start c = search needs
 
 part-put-bytes-end : tie.Need-part-put-bytes-end
-part-put-bytes-end c = omega (arith, operator-wide (c .before .before .pre .placing .span) (c .before .before .pre .operator .kind), c .before .before .pre .placing .span .inside)
+part-put-bytes-end c =
+    let at-start = c .before .before in
+    omega (
+      arith,
+      operator-wide (at-start .pre .placing .span) (at-start .pre .operator .kind),
+      at-start .pre .placing .span .inside,
+    )
 
 put-bytes-requires : tie.Need-put-bytes-requires
-put-bytes-requires c κs = fits (begun (c .before .before .before .before))
+put-bytes-requires c κs =
+    let at-start = c .before .before .before .before in
+    fits (begun at-start)
 
 slice-aggregate-put-bytes : tie.Need-slice-aggregate-put-bytes
 slice-aggregate-put-bytes c = search needs
 
 put-bytes-requires-2 : tie.Need-put-bytes-requires-2
-put-bytes-requires-2 c κs = fits (next (begun (c .before .before .before .before .before .before .before .before .before)) (c .before .before .before .before .put-bytes .ensures))
+put-bytes-requires-2 c κs =
+    let at-put-bytes = c .before .before .before .before in
+    let at-start = at-put-bytes .before .before .before .before .before in
+    fits (next (begun at-start) (at-put-bytes .put-bytes .ensures))
 
 same-length : tie.Need-same-length
 same-length c = search needs
 
 returns : tie.Need-returns
-returns c = end (next (next (begun (c .before .before .before .before .before .before .before .before .before .before .before .before)) (c .before .before .before .before .before .before .before .put-bytes .ensures)) (c .before .before .put-bytes2 .ensures))
+returns c =
+    let at-put-bytes = c .before .before .before .before .before .before .before in
+    let at-start = at-put-bytes .before .before .before .before .before in
+    end (next (next (begun at-start) (at-put-bytes .put-bytes .ensures)) (c .before .before .put-bytes2 .ensures))
 
 pub put-absent-spec : {M : Type 1} → statement M
 put-absent-spec =

@@ -1,4 +1,5 @@
--- `copy::operator::put_present` meets its contract: up to the cardinality, its form, and what stands after. Assumes nothing.
+-- `copy::operator::put_present` meets its contract: up to the
+-- cardinality, its form, and what stands after. Assumes nothing.
 use Prim.Native.Nat.{_+_, _-_}
 use mathlib.Core.Path.{sym, ap}
 use mathlib.Core.List.{[], _∷_}
@@ -11,10 +12,15 @@ use Rattle.copy.proofs.operator.put_present.Statement.{statement}
 use Rattle.copy.proofs.operator.put_present.Tie as tie
 
 -- the run, before the first write
-begun : (c : tie.After-cardinality-at) → let a = c .before .before .before .args in let cut = c .cardinality-at .result in
+begun : (c : tie.After-cardinality-at) →
+    let at-start = c .before .before .before in
+    let a = at-start .args in let cut = c .cardinality-at .result in
     Run (now (a .out)) (now (a .out)) (a .at) (recordCopy (drop (a .start) (now (a .page))))
-    (take (cut - a .start) (drop (a .start) (now (a .page))) ∷ (setCardinality (getD (now (a .page)) cut 0) ∷ []) ∷ take (a .next - (cut + 1)) (drop (cut + 1) (now (a .page))) ∷ []) (a .at)
-begun c = start (c .before .before .before .pre .0 .room) (c .cardinality-at .ensures .copy)
+    (take (cut - a .start) (drop (a .start) (now (a .page))) ∷ (setCardinality (getD (now (a .page)) cut 0) ∷ [])
+    ∷ take (a .next - (cut + 1)) (drop (cut + 1) (now (a .page))) ∷ []) (a .at)
+begun c =
+    let at-start = c .before .before .before in
+    start (at-start .pre .0 .room) (c .cardinality-at .ensures .copy)
 
 cardinality-at-requires : tie.Need-cardinality-at-requires
 cardinality-at-requires c κs = search needs
@@ -38,7 +44,10 @@ set-cardinality-requires : tie.Need-set-cardinality-requires
 set-cardinality-requires c κs = search needs
 
 put-byte-requires : tie.Need-put-byte-requires
-put-byte-requires c κs = fits (next (begun (c .before .before .before .before .before .before .before .before)) (c .before .before .before .before .before .put-bytes .ensures))
+put-byte-requires c κs =
+    let at-put-bytes = c .before .before .before .before .before in
+    let at-cardinality-at = at-put-bytes .before .before .before in
+    fits (next (begun at-cardinality-at) (at-put-bytes .put-bytes .ensures))
 
 add-rear : tie.Need-add-rear
 add-rear c = search needs
@@ -53,13 +62,26 @@ part-put-bytes-end-2 : tie.Need-part-put-bytes-end-2
 part-put-bytes-end-2 c = search needs
 
 put-bytes-requires-2 : tie.Need-put-bytes-requires-2
-put-bytes-requires-2 c κs = fits (next-as (next (begun (c .before .before .before .before .before .before .before .before .before .before .before .before .before)) (c .before .before .before .before .before .before .before .before .before .before .put-bytes .ensures)) (sym (ap (λ b. b ∷ []) (c .before .before .before .before .before .before .set-cardinality .ensures))) (c .before .before .before .before .put-byte .ensures))
+put-bytes-requires-2 c κs =
+    let at-put-byte = c .before .before .before .before in
+    let at-set-cardinality = at-put-byte .before .before in
+    let at-put-bytes = at-set-cardinality .before .before .before .before in
+    let at-cardinality-at = at-put-bytes .before .before .before in
+    fits (next-as (next (begun at-cardinality-at) (at-put-bytes .put-bytes .ensures))
+    (sym (ap (λ b. b ∷ []) (at-set-cardinality .set-cardinality .ensures))) (at-put-byte .put-byte .ensures))
 
 same-length : tie.Need-same-length
 same-length c = search needs
 
 returns : tie.Need-returns
-returns c = end (next (next-as (next (begun (c .before .before .before .before .before .before .before .before .before .before .before .before .before .before .before .before)) (c .before .before .before .before .before .before .before .before .before .before .before .before .before .put-bytes .ensures)) (sym (ap (λ b. b ∷ []) (c .before .before .before .before .before .before .before .before .before .set-cardinality .ensures))) (c .before .before .before .before .before .before .before .put-byte .ensures)) (c .before .before .put-bytes2 .ensures))
+returns c =
+    let at-put-byte = c .before .before .before .before .before .before .before in
+    let at-set-cardinality = at-put-byte .before .before in
+    let at-put-bytes = at-set-cardinality .before .before .before .before in
+    let at-cardinality-at = at-put-bytes .before .before .before in
+    end (next (next-as (next (begun at-cardinality-at) (at-put-bytes .put-bytes .ensures))
+    (sym (ap (λ b. b ∷ []) (at-set-cardinality .set-cardinality .ensures))) (at-put-byte .put-byte .ensures))
+    (c .before .before .put-bytes2 .ensures))
 
 pub put-present-spec : {M : Type 1} → statement M
 put-present-spec =

@@ -16,34 +16,69 @@ shared-slice-read-if1 : tie.Need-shared-slice-read-if1
 shared-slice-read-if1 c = omega (arith, span-wide (c .before .before .pre), c .before .before .pre .inside)
 
 returns : tie.Need-returns
-returns c = sym (unchanged-length (c .before .before .before .pre) (c .if1 .taken))
+returns c =
+    let at-start = c .before .before .before in
+    sym (unchanged-length (at-start .pre) (c .if1 .taken))
 
 add-is-set-operator : tie.Need-add-is-set-operator
-add-is-set-operator c = omega (arith, operator-wide (c .before .before .before .pre) (c .if1 .left), c .before .before .before .pre .inside)
+add-is-set-operator c =
+    let at-start = c .before .before .before in
+    omega (arith, operator-wide (at-start .pre) (c .if1 .left), at-start .pre .inside)
 
 shared-slice-read-is-set-operator : tie.Need-shared-slice-read-is-set-operator
-shared-slice-read-is-set-operator c = omega (arith, operator-wide (c .before .before .before .before .pre) (c .before .if1 .left), c .before .before .before .before .pre .inside)
+shared-slice-read-is-set-operator c =
+    let at-start = c .before .before .before .before in
+    omega (arith, operator-wide (at-start .pre) (c .before .if1 .left), at-start .pre .inside)
 
 cast-is-set-operator : tie.Need-cast-is-set-operator
-cast-is-set-operator c = omega (arith, c .shared-slice-known3 .given (c .before .before .before .before .args .start + 1))
+cast-is-set-operator c =
+    let at-start = c .before .before .before .before in
+    omega (arith, c .shared-slice-known3 .given (at-start .args .start + 1))
 
 is-set-operator-requires : tie.Need-is-set-operator-requires
 is-set-operator-requires c κs = search needs
 
 add-if3 : tie.Need-add-if3
-add-if3 c = omega (arith, operator-wide (c .before .before .before .before .before .before .pre) (c .before .before .before .if1 .left), c .before .before .before .before .before .before .pre .inside)
+add-if3 c =
+    let at-first-if = c .before .before .before in
+    let at-start = at-first-if .before .before .before in
+    omega (arith, operator-wide (at-start .pre) (at-first-if .if1 .left), at-start .pre .inside)
 
 shared-slice-read-if3 : tie.Need-shared-slice-read-if3
-shared-slice-read-if3 c = omega (arith, operator-wide (c .before .before .before .before .before .before .before .pre) (c .before .before .before .before .if1 .left), c .before .before .before .before .before .before .before .pre .inside)
+shared-slice-read-if3 c =
+    let at-first-if = c .before .before .before .before in
+    let at-start = at-first-if .before .before .before in
+    omega (arith, operator-wide (at-start .pre) (at-first-if .if1 .left), at-start .pre .inside)
 
 returns-2 : tie.Need-returns-2
-returns-2 c = sym (absent-length (record { span = c .before .before .before .before .before .before .before .before .pre; kind = c .before .before .before .before .before .if1 .left; set = sym (c .before .before .before .is-set-operator .ensures) ∙ c .before .before .if2 .taken }) (c .if3 .taken))
+returns-2 c =
+    let at-is-set-operator = c .before .before .before in
+    let at-first-if = at-is-set-operator .before .before in
+    let at-start = at-first-if .before .before .before in
+    sym (absent-length (record {
+      span = at-start .pre;
+      kind = at-first-if .if1 .left;
+      set = sym (at-is-set-operator .is-set-operator .ensures) ∙ c .before .before .if2 .taken;
+    }) (c .if3 .taken))
 
 returns-3 : tie.Need-returns-3
-returns-3 c = sym (present-length (record { span = c .before .before .before .before .before .before .before .before .pre; kind = c .before .before .before .before .before .if1 .left; set = sym (c .before .before .before .is-set-operator .ensures) ∙ c .before .before .if2 .taken }) (c .if3 .left))
+returns-3 c =
+    let at-is-set-operator = c .before .before .before in
+    let at-first-if = at-is-set-operator .before .before in
+    let at-start = at-first-if .before .before .before in
+    sym (present-length (record {
+      span = at-start .pre;
+      kind = at-first-if .if1 .left;
+      set = sym (at-is-set-operator .is-set-operator .ensures) ∙ c .before .before .if2 .taken;
+    }) (c .if3 .left))
 
 returns-4 : tie.Need-returns-4
-returns-4 c = sym (same-length (c .before .before .before .before .before .before .pre) (plain-copy (c .before .before .before .before .before .before .pre) (c .before .before .before .if1 .left) (sym (c .before .is-set-operator .ensures) ∙ c .if2 .left)))
+returns-4 c =
+    let at-first-if = c .before .before .before in
+    let at-start = at-first-if .before .before .before in
+    sym (same-length (at-start .pre)
+    (plain-copy (at-start .pre) (at-first-if .if1 .left)
+    (sym (c .before .is-set-operator .ensures) ∙ c .if2 .left)))
 
 pub record-len-spec : {M : Type 1} → statement M
 record-len-spec =

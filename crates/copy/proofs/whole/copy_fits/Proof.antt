@@ -1,4 +1,5 @@
--- `copy::whole::copy_fits` meets its contract. Invariant: the copy fits the room where what is left of it fits what is left of the room.
+-- `copy::whole::copy_fits` meets its contract. Invariant: the copy fits
+-- the room where what is left of it fits what is left of the room.
 -- The measure is the records left. Assumes nothing.
 use Prim.Native.Nat.{_-_}
 use mathlib.Core.Path.{_≡_, sym, ap, _∙_}
@@ -19,43 +20,77 @@ abbrev μ-loop : tie.MeasureT-loop
 μ-loop page starts n room left₀ i₀ left i = n - i
 
 loop-holds : tie.Need-loop-holds Inv-loop μ-loop
-loop-holds c = ap (λ s. leb (length s) (c .before .before .args .room)) (sym (copyFrom-start (c .before .before .args .page .now)))
+loop-holds c =
+    ap (λ s. leb (length s) (c .before .before .args .room))
+    (sym (copyFrom-start (c .before .before .args .page .now)))
 
 mul-start : tie.Need-mul-start Inv-loop μ-loop
-mul-start c = omega (arith, starts-few (c .before .before .before .before .pre))
+mul-start c =
+    let at-start = c .before .before .before .before in
+    omega (arith, starts-few (at-start .pre))
 
 shared-slice-read-start : tie.Need-shared-slice-read-start Inv-loop μ-loop
-shared-slice-read-start c = omega (arith, starts-few (c .before .before .before .before .before .pre), c .before .before .before .before .before .pre .size)
+shared-slice-read-start c =
+    let at-start = c .before .before .before .before .before in
+    omega (arith, starts-few (at-start .pre), at-start .pre .size)
 
 cast-start : tie.Need-cast-start Inv-loop μ-loop
 cast-start c = omega (arith, c .shared-slice-known3 .given (c .before .before .loop .i))
 
 end-of-requires : tie.Need-end-of-requires Inv-loop μ-loop
-end-of-requires c κs = (c .before .before .before .before .before .pre, c .before .loop-test .taken)
+end-of-requires c κs =
+    let at-start = c .before .before .before .before .before in
+    (at-start .pre, c .before .loop-test .taken)
 
 record-len-requires : tie.Need-record-len-requires Inv-loop μ-loop
 record-len-requires c κs = c .end-of .ensures
 
 returns : tie.Need-returns Inv-loop μ-loop
-returns c = sym (c .before .before .before .before .before .loop .inv ∙ fits-not (c .before .before .before .before .before .before .before .before .pre) (c .before .before .before .before .before .loop .i) (c .before .before .before .before .before .loop .left) _ (c .before .before .before .before .loop-test .taken) (c .before .record-len .ensures) (c .if1 .taken))
+returns c =
+    let at-loop-test = c .before .before .before .before in
+    let at-loop = at-loop-test .before in
+    let at-start = at-loop .before .before .before in
+    sym (at-loop .loop .inv
+    ∙ fits-not (at-start .pre) (at-loop .loop .i) (at-loop .loop .left) _ (at-loop-test .loop-test .taken)
+    (c .before .record-len .ensures) (c .if1 .taken))
 
 absorbed-by-requires : tie.Need-absorbed-by-requires Inv-loop μ-loop
 absorbed-by-requires c κs = c .before .before .end-of .ensures
 
 add-i : tie.Need-add-i Inv-loop μ-loop
-add-i c = omega (arith, starts-few (c .before .before .before .before .before .before .before .before .before .pre))
+add-i c =
+    let at-start = c .before .before .before .before .before .before .before .before .before in
+    omega (arith, starts-few (at-start .pre))
 
 add-i-2 : tie.Need-add-i-2 Inv-loop μ-loop
-add-i-2 c = omega (arith, starts-few (c .before .before .before .before .before .before .before .before .before .pre), starts-page (c .before .before .before .before .before .before .before .before .before .pre), absorbed-few (c .before .before .before .end-of .ensures), c .absorbed-by .ensures)
+add-i-2 c =
+    let at-end-of = c .before .before .before in
+    let at-start = at-end-of .before .before .before .before .before .before in
+    omega (
+      arith,
+      starts-few (at-start .pre),
+      starts-page (at-start .pre),
+      absorbed-few (at-end-of .end-of .ensures),
+      c .absorbed-by .ensures,
+    )
 
 loop-less : tie.Need-loop-less Inv-loop μ-loop
 loop-less c = omega arith
 
 loop-again : tie.Need-loop-again Inv-loop μ-loop
-loop-again c = c .before .before .before .before .before .before .loop .inv ∙ fits-more (c .before .before .before .before .before .before .before .before .before .pre) (c .before .before .before .before .before .before .loop .i) (c .before .before .before .before .before .before .loop .left) _ _ (c .before .before .before .before .before .loop-test .taken) (c .before .before .record-len .ensures) (c .absorbed-by .ensures) (c .before .if1 .left)
+loop-again c =
+    let at-loop-test = c .before .before .before .before .before in
+    let at-loop = at-loop-test .before in
+    let at-start = at-loop .before .before .before in
+    at-loop .loop .inv
+    ∙ fits-more (at-start .pre) (at-loop .loop .i) (at-loop .loop .left) _ _ (at-loop-test .loop-test .taken)
+    (c .before .before .record-len .ensures) (c .absorbed-by .ensures) (c .before .if1 .left)
 
 returns-2 : tie.Need-returns-2 Inv-loop μ-loop
-returns-2 c = sym (c .before .loop .inv ∙ fits-end (c .before .before .before .before .pre) (c .before .loop .i) (c .before .loop .left) (c .loop-test .left))
+returns-2 c =
+    let at-loop = c .before in
+    let at-start = at-loop .before .before .before in
+    sym (at-loop .loop .inv ∙ fits-end (at-start .pre) (at-loop .loop .i) (at-loop .loop .left) (c .loop-test .left))
 
 pub copy-fits-spec : {M : Type 1} → statement M
 copy-fits-spec =

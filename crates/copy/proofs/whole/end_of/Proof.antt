@@ -21,7 +21,9 @@ returns : tie.Need-returns
 returns c = starts-next (c .before .before .pre .0) (c .before .before .args .i) (c .before .if1 .taken)
 
 returns-2 : tie.Need-returns-2
-returns-2 c = starts-last (c .before .pre .0) (c .before .args .i) (c .before .pre .1) (c .if1 .left)
+returns-2 c =
+    let at-start = c .before in
+    starts-last (at-start .pre .0) (at-start .args .i) (at-start .pre .1) (c .if1 .left)
 
 pub end-of-spec : {M : Type 1} → statement M
 end-of-spec =

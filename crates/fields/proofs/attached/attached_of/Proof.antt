@@ -1,4 +1,5 @@
--- `fields::attached::attached_of` meets its contract. Invariant: the attached of the records above record j, which is not below the foot. The measure
+-- `fields::attached::attached_of` meets its contract. Invariant: the attached
+-- of the records above record j, which is not below the foot. The measure
 -- is j. Assumes nothing.
 use Prim.Native.Nat.{_≤_}
 use native.Mathlib.Omega.{arith}
@@ -21,13 +22,17 @@ no-attached-requires : tie.Need-no-attached-requires Inv-loop μ-loop
 no-attached-requires c κs = tt
 
 loop-holds : tie.Need-loop-holds Inv-loop μ-loop
-loop-holds c = (sets-low (c .before .before .before .pre .chain .sets), omega arith, rw (c .no-attached .ensures) setsNothing)
+loop-holds c =
+    let at-start = c .before .before .before in
+    (sets-low (at-start .pre .chain .sets), omega arith, rw (c .no-attached .ensures) setsNothing)
 
 with-record-requires : tie.Need-with-record-requires Inv-loop μ-loop
 with-record-requires c κs =
-    let at-loop = c .before in
-    let node = at-loop .before .before .before .before .pre in
-    (starts-fewer (node .known) (omega (arith, at-loop .loop .inv .1)), sets-attached (node .chain .sets) (c .loop-test .taken) (at-loop .loop .inv .1))
+    let at-start = c .before .before .before .before .before in
+    let node = at-start .pre in (
+      starts-fewer (node .known) (omega (arith, c .before .loop .inv .1)),
+      sets-attached (node .chain .sets) (c .loop-test .taken) (c .before .loop .inv .1),
+    )
 
 sub-j : tie.Need-sub-j Inv-loop μ-loop
 sub-j c = omega (arith, c .before .loop-test .taken)
@@ -36,9 +41,11 @@ loop-less : tie.Need-loop-less Inv-loop μ-loop
 loop-less c = omega (arith, c .before .loop-test .taken)
 
 loop-again : tie.Need-loop-again Inv-loop μ-loop
-loop-again c =
-    let at-loop = c .before .before in
-    (omega (arith, c .before .loop-test .taken), omega (arith, at-loop .loop .inv .1), c .with-record .ensures _ (at-loop .loop .inv .2))
+loop-again c = (
+  omega (arith, c .before .loop-test .taken),
+  omega (arith, c .before .before .loop .inv .1),
+  c .with-record .ensures _ (c .before .before .loop .inv .2),
+)
 
 returns : tie.Need-returns Inv-loop μ-loop
 returns c = sets-as (omega (arith, c .loop-test .left, c .before .loop .inv .0)) refl refl (c .before .loop .inv .2)

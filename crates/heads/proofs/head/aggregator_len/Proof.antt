@@ -19,7 +19,16 @@ capped-add-requires : tie.Need-capped-add-requires
 capped-add-requires c κs = search needs
 
 returns : tie.Need-returns
-returns c = omega (arith, c .before .before .token-len .ensures .0, c .before .grouping-len .ensures, c .capped-add .ensures, length-append (token (c .before .before .before .before .args .code)) (displayGrouping (labelModifierOn (now (c .before .before .before .before .args .page)) (c .before .before .before .before .args .grouping))))
+returns c =
+    let at-start = c .before .before .before .before in
+    omega (
+      arith,
+      c .before .before .token-len .ensures .0,
+      c .before .grouping-len .ensures,
+      c .capped-add .ensures,
+      length-append (token (at-start .args .code))
+          (displayGrouping (labelModifierOn (now (at-start .args .page)) (at-start .args .grouping))),
+    )
 
 pub aggregator-len-spec : {M : Type 1} → statement M
 aggregator-len-spec =

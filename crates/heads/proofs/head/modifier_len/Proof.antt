@@ -1,4 +1,5 @@
--- `heads::head::modifier_len` meets its contract: bool, fills, matching and cardinality, added up to the cap. Assumes nothing.
+-- `heads::head::modifier_len` meets its contract: bool, fills,
+-- matching and cardinality, added up to the cap. Assumes nothing.
 use borrow.Author.Needs.{needs}
 use denote.Ref.{now}
 use Rattle.records.specs.Answers.{binModifierOn}
@@ -28,7 +29,15 @@ capped-add-requires-2 : tie.Need-capped-add-requires-2
 capped-add-requires-2 c κs = search needs
 
 returns : tie.Need-returns
-returns c = modifier-measured (binModifierOn (now (c .before .before .before .before .before .before .before .args .page)) (c .before .before .before .before .before .before .before .args .modifier)) _ _ _ _ _ _ _ (c .before .before .before .before .before .bool-len .ensures .0) (c .before .before .before .before .fills-len .ensures .0) (c .before .before .before .matching-len .ensures) (c .before .before .capped-add .ensures) (c .before .cardinality-len .ensures) (c .capped-add2 .ensures)
+returns c =
+    let at-matching-len = c .before .before .before in
+    let at-fills-len = at-matching-len .before in
+    let at-bool-len = at-fills-len .before in
+    let at-start = at-bool-len .before .before in
+    modifier-measured (binModifierOn (now (at-start .args .page)) (at-start .args .modifier)) _ _ _ _ _ _ _
+    (at-bool-len .bool-len .ensures .0) (at-fills-len .fills-len .ensures .0)
+    (at-matching-len .matching-len .ensures) (c .before .before .capped-add .ensures)
+    (c .before .cardinality-len .ensures) (c .capped-add2 .ensures)
 
 pub modifier-len-spec : {M : Type 1} → statement M
 modifier-len-spec =

@@ -8,7 +8,10 @@ use Rattle.heads.proofs.selector.braces_len.Statement.{statement}
 use Rattle.heads.proofs.selector.braces_len.Tie as tie
 
 returns : tie.Need-returns
-returns c = rw (braces-none (c .before .before .args .count) (drop (c .before .before .args .start) (now (c .before .before .args .page))) (c .if1 .taken)) (omega arith)
+returns c =
+    let at-start = c .before .before in
+    rw (braces-none (at-start .args .count) (drop (at-start .args .start) (now (at-start .args .page)))
+    (c .if1 .taken)) (omega arith)
 
 matchers-len-requires : tie.Need-matchers-len-requires
 matchers-len-requires c κs = search needs
@@ -17,7 +20,11 @@ capped-add-requires : tie.Need-capped-add-requires
 capped-add-requires c κs = search needs
 
 returns-2 : tie.Need-returns-2
-returns-2 c = rw (length-braces (c .before .before .before .before .args .count) (drop (c .before .before .before .before .args .start) (now (c .before .before .before .before .args .page))) (c .before .before .before .before .pre) (c .before .before .if1 .left)) (omega (arith, c .before .matchers-len .ensures, c .capped-add .ensures))
+returns-2 c =
+    let at-start = c .before .before .before .before in
+    rw (length-braces (at-start .args .count) (drop (at-start .args .start) (now (at-start .args .page)))
+    (at-start .pre) (c .before .before .if1 .left))
+    (omega (arith, c .before .matchers-len .ensures, c .capped-add .ensures))
 
 pub braces-len-spec : {M : Type 1} → statement M
 braces-len-spec =

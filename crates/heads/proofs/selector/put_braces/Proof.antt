@@ -8,22 +8,57 @@ use Rattle.heads.proofs.selector.put_braces.Statement.{statement}
 use Rattle.heads.proofs.selector.put_braces.Tie as tie
 
 returns : tie.Need-returns
-returns c = finish (begin _ _ _ (c .before .before .before .pre .1 .1)) (braces-none (c .before .before .before .args .count) (drop (c .before .before .before .args .start) (now (c .before .before .before .args .page))) (c .if1 .taken))
+returns c =
+    let at-start = c .before .before .before in
+    finish (begin _ _ _ (at-start .pre .1 .1))
+    (braces-none (at-start .args .count) (drop (at-start .args .start) (now (at-start .args .page)))
+    (c .if1 .taken))
 
 put-byte-requires : tie.Need-put-byte-requires
-put-byte-requires c κs = fits (start {o = now (c .before .before .before .before .args .out)} (c .before .before .before .before .pre .1 .1) (braces-some (c .before .before .before .before .args .count) (drop (c .before .before .before .before .args .start) (now (c .before .before .before .before .args .page))) (c .before .before .before .before .pre .0) (c .before .if1 .left)))
+put-byte-requires c κs =
+    let at-start = c .before .before .before .before in
+    fits (start {o = now (at-start .args .out)} (at-start .pre .1 .1)
+    (braces-some (at-start .args .count) (drop (at-start .args .start) (now (at-start .args .page)))
+    (at-start .pre .0) (c .before .if1 .left)))
 
 put-matchers-requires : tie.Need-put-matchers-requires
-put-matchers-requires c κs = (c .before .before .before .before .before .before .before .before .pre .0, (c .before .before .before .before .before .before .before .before .pre .1 .0, fits (next (start (c .before .before .before .before .before .before .before .before .pre .1 .1) (braces-some (c .before .before .before .before .before .before .before .before .args .count) (drop (c .before .before .before .before .before .before .before .before .args .start) (now (c .before .before .before .before .before .before .before .before .args .page))) (c .before .before .before .before .before .before .before .before .pre .0) (c .before .before .before .before .before .if1 .left))) (c .before .before .before .put-byte .ensures))))
+put-matchers-requires c κs =
+    let at-put-byte = c .before .before .before in
+    let at-if = at-put-byte .before .before in
+    let at-start = at-if .before .before .before in (
+      at-start .pre .0,
+      (
+        at-start .pre .1 .0,
+        fits (next (start (at-start .pre .1 .1)
+            (braces-some (at-start .args .count) (drop (at-start .args .start) (now (at-start .args .page)))
+            (at-start .pre .0) (at-if .if1 .left))) (at-put-byte .put-byte .ensures)),
+      ),
+    )
 
 put-byte-requires-2 : tie.Need-put-byte-requires-2
-put-byte-requires-2 c κs = fits (next (next (start (c .before .before .before .before .before .before .before .before .before .before .before .before .pre .1 .1) (braces-some (c .before .before .before .before .before .before .before .before .before .before .before .before .args .count) (drop (c .before .before .before .before .before .before .before .before .before .before .before .before .args .start) (now (c .before .before .before .before .before .before .before .before .before .before .before .before .args .page))) (c .before .before .before .before .before .before .before .before .before .before .before .before .pre .0) (c .before .before .before .before .before .before .before .before .before .if1 .left))) (c .before .before .before .before .before .before .before .put-byte .ensures)) (c .before .before .before .put-matchers .ensures))
+put-byte-requires-2 c κs =
+    let at-put-matchers = c .before .before .before in
+    let at-put-byte = at-put-matchers .before .before .before .before in
+    let at-if = at-put-byte .before .before in
+    let at-start = at-if .before .before .before in
+    fits (next (next (start (at-start .pre .1 .1)
+    (braces-some (at-start .args .count) (drop (at-start .args .start) (now (at-start .args .page)))
+    (at-start .pre .0) (at-if .if1 .left))) (at-put-byte .put-byte .ensures))
+    (at-put-matchers .put-matchers .ensures))
 
 same-length : tie.Need-same-length
 same-length c = search needs
 
 returns-2 : tie.Need-returns-2
-returns-2 c = end (next (next (next (start (c .before .before .before .before .before .before .before .before .before .before .before .before .before .before .before .pre .1 .1) (braces-some (c .before .before .before .before .before .before .before .before .before .before .before .before .before .before .before .args .count) (drop (c .before .before .before .before .before .before .before .before .before .before .before .before .before .before .before .args .start) (now (c .before .before .before .before .before .before .before .before .before .before .before .before .before .before .before .args .page))) (c .before .before .before .before .before .before .before .before .before .before .before .before .before .before .before .pre .0) (c .before .before .before .before .before .before .before .before .before .before .before .before .if1 .left))) (c .before .before .before .before .before .before .before .before .before .before .put-byte .ensures)) (c .before .before .before .before .before .before .put-matchers .ensures)) (c .before .before .put-byte2 .ensures))
+returns-2 c =
+    let at-put-matchers = c .before .before .before .before .before .before in
+    let at-put-byte = at-put-matchers .before .before .before .before in
+    let at-if = at-put-byte .before .before in
+    let at-start = at-if .before .before .before in
+    end (next (next (next (start (at-start .pre .1 .1)
+    (braces-some (at-start .args .count) (drop (at-start .args .start) (now (at-start .args .page)))
+    (at-start .pre .0) (at-if .if1 .left))) (at-put-byte .put-byte .ensures))
+    (at-put-matchers .put-matchers .ensures)) (c .before .before .put-byte2 .ensures))
 
 pub put-braces-spec : {M : Type 1} → statement M
 put-braces-spec =

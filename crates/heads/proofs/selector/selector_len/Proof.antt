@@ -20,7 +20,15 @@ capped-add-requires : tie.Need-capped-add-requires
 capped-add-requires c κs = search needs
 
 returns : tie.Need-returns
-returns c = omega (arith, ap length (c .before .before .text-at .ensures), c .before .braces-len .ensures, c .capped-add .ensures, cut-length (selector-cut (selectorOn (now (c .before .before .before .before .args .page)) (c .before .before .before .before .args .selector))))
+returns c =
+    let at-start = c .before .before .before .before in
+    omega (
+      arith,
+      ap length (c .before .before .text-at .ensures),
+      c .before .braces-len .ensures,
+      c .capped-add .ensures,
+      cut-length (selector-cut (selectorOn (now (at-start .args .page)) (at-start .args .selector))),
+    )
 
 pub selector-len-spec : {M : Type 1} → statement M
 selector-len-spec =

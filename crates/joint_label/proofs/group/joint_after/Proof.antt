@@ -40,27 +40,46 @@ enum-told-4 c = search needs
 
 returns : tie.Need-returns
 returns c =
-    let e = rw (c .before .before .before .before .before .before .before .next .given .1) at (c .before .before .before .before .before .before .before .before .before .read-flag .ensures) in
-    let f = rw (c .before .before .before .matching .given .1, c .enum-told .given .1) at (c .before .before .before .before .before .read-label-modifier .ensures .0) in
-    let page = now (c .before .before .before .before .before .before .before .before .before .before .before .args .page) in
-    nowhere (rw (← e, ← f) (no-on page (readChoice placedForms (drop (c .before .before .before .matching .given .0 .1 .0) page))))
+    let at-matching = c .before .before .before in
+    let at-read-label-modifier = at-matching .before .before in
+    let at-next = at-read-label-modifier .before .before in
+    let at-read-flag = at-next .before .before in
+    let at-start = at-read-flag .before .before in
+    let e = rw (at-next .next .given .1) at (at-read-flag .read-flag .ensures) in
+    let f = rw (at-matching .matching .given .1, c .enum-told .given .1) at
+    (at-read-label-modifier .read-label-modifier .ensures .0) in
+    let page = now (at-start .args .page) in
+    nowhere (rw (← e, ← f) (no-on page (readChoice placedForms (drop (at-matching .matching .given .0 .1 .0) page))))
 
 returns-2 : tie.Need-returns-2
 returns-2 c =
-    let e = rw (c .before .before .before .before .before .before .before .before .before .next .given .1) at (c .before .before .before .before .before .before .before .before .before .before .before .read-flag .ensures) in
-    let f = rw (c .before .before .before .before .before .matching .given .1, c .before .before .matching2 .given .1) at (c .before .before .before .before .before .before .before .read-label-modifier .ensures .0) in
+    let at-matching = c .before .before .before .before .before in
+    let at-read-label-modifier = at-matching .before .before in
+    let at-next = at-read-label-modifier .before .before in
+    let at-read-flag = at-next .before .before in
+    let e = rw (at-next .next .given .1) at (at-read-flag .read-flag .ensures) in
+    let f = rw (at-matching .matching .given .1, c .before .before .matching2 .given .1) at
+    (at-read-label-modifier .read-label-modifier .ensures .0) in
     part-as (rw (← e, ← f)) (c .joint-of .ensures)
 
 returns-3 : tie.Need-returns-3
 returns-3 c =
-    let e = rw (c .before .before .before .before .before .before .before .next .given .1) at (c .before .before .before .before .before .before .before .before .before .read-flag .ensures) in
-    let f = rw (c .before .before .before .matching .given .1, c .enum-told2 .given .1) at (c .before .before .before .before .before .read-label-modifier .ensures .0) in
-    let page = now (c .before .before .before .before .before .before .before .before .before .before .before .args .page) in
-    nowhere (rw (← e, ← f) (no-on page (readChoice placedForms (drop (c .before .before .before .matching .given .0 .1 .0) page))))
+    let at-matching = c .before .before .before in
+    let at-read-label-modifier = at-matching .before .before in
+    let at-next = at-read-label-modifier .before .before in
+    let at-read-flag = at-next .before .before in
+    let at-start = at-read-flag .before .before in
+    let e = rw (at-next .next .given .1) at (at-read-flag .read-flag .ensures) in
+    let f = rw (at-matching .matching .given .1, c .enum-told2 .given .1) at
+    (at-read-label-modifier .read-label-modifier .ensures .0) in
+    let page = now (at-start .args .page) in
+    nowhere (rw (← e, ← f) (no-on page (readChoice placedForms (drop (at-matching .matching .given .0 .1 .0) page))))
 
 returns-4 : tie.Need-returns-4
 returns-4 c =
-    let e = rw (c .before .before .before .before .next .given .1) at (c .before .before .before .before .before .before .read-flag .ensures) in
+    let at-next = c .before .before .before .before in
+    let at-read-flag = at-next .before .before in
+    let e = rw (at-next .next .given .1) at (at-read-flag .read-flag .ensures) in
     let f = rw (c .enum-told3 .given .1) at (c .before .before .read-label-modifier .ensures .0) in
     nowhere (rw (← e, ← f))
 

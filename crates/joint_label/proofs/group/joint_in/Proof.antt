@@ -35,20 +35,29 @@ enum-told-3 c = search needs
 
 returns : tie.Need-returns
 returns c =
-    let at-start = c .before .before .before .before .before .before .before .before .before .before in
+    let at-labels-from = c .before .before .before .before in
+    let at-count = at-labels-from .before .before in
+    let at-read-count = at-count .before .before in
+    let at-start = at-read-count .before .before in
     let page = now (at-start .args .page) in
     let on = labelsOn page (at-start .args .on) (at-start .args .ons) in
-    let e = rw (c .before .before .before .before .before .before .count .given .1) at (c .before .before .before .before .before .before .before .before .read-count .ensures) in
-    let g = rw (c .before .before .enum-told .given .1) at (c .before .before .before .before .labels-from .ensures .0) in
-    let first = list-got page on (c .before .before .before .before .before .before .count .given .0 .0) (drop (c .before .before .before .before .before .before .count .given .0 .1 .0) page) g in
-    part-as (rw (← e) (first ∙ ap (partAt (length page)) (sym (c .before .first-joint .ensures)))) (c .label-at .ensures)
+    let e = rw (at-count .count .given .1) at (at-read-count .read-count .ensures) in
+    let g = rw (c .before .before .enum-told .given .1) at (at-labels-from .labels-from .ensures .0) in
+    let first = list-got page on (at-count .count .given .0 .0) (drop (at-count .count .given .0 .1 .0) page) g in
+    part-as (rw (← e) (first ∙ ap (partAt (length page)) (sym (c .before .first-joint .ensures))))
+    (c .label-at .ensures)
 
 returns-2 : tie.Need-returns-2
 returns-2 c =
-    let e = rw (c .before .before .before .before .count .given .1) at (c .before .before .before .before .before .before .read-count .ensures) in
+    let at-count = c .before .before .before .before in
+    let at-read-count = at-count .before .before in
+    let at-start = at-read-count .before .before in
+    let e = rw (at-count .count .given .1) at (at-read-count .read-count .ensures) in
     let g = rw (c .enum-told2 .given .1) at (c .before .before .labels-from .ensures .0) in
-    let page = now (c .before .before .before .before .before .before .before .before .args .page) in
-    nowhere (rw (← e) (list-refused page (labelsOn page (c .before .before .before .before .before .before .before .before .args .on) (c .before .before .before .before .before .before .before .before .args .ons)) (c .before .before .before .before .count .given .0 .0) (drop (c .before .before .before .before .count .given .0 .1 .0) page) g))
+    let page = now (at-start .args .page) in
+    nowhere (rw (← e)
+    (list-refused page (labelsOn page (at-start .args .on) (at-start .args .ons)) (at-count .count .given .0 .0)
+    (drop (at-count .count .given .0 .1 .0) page) g))
 
 returns-3 : tie.Need-returns-3
 returns-3 c = let e = rw (c .enum-told3 .given .1) at (c .before .before .read-count .ensures) in nowhere (rw (← e))

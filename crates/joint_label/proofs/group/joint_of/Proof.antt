@@ -24,16 +24,29 @@ enum-told : tie.Need-enum-told
 enum-told c = search needs
 
 returns : tie.Need-returns
-returns c = let e = rw (c .before .before .before .n .given .1) at (c .before .before .before .before .before .read-number .ensures .0) in part-as (simp (← e, c .before .match2 .keys1)) (c .joint-in .ensures)
+returns c =
+    let at-n = c .before .before .before in
+    let at-read-number = at-n .before .before in
+    let e = rw (at-n .n .given .1) at (at-read-number .read-number .ensures .0) in
+    part-as (simp (← e, c .before .match2 .keys1)) (c .joint-in .ensures)
 
 returns-2 : tie.Need-returns-2
-returns-2 c = let e = rw (c .before .before .before .n .given .1) at (c .before .before .before .before .before .read-number .ensures .0) in part-as (simp (← e, c .before .match2 .keys2)) (c .joint-in2 .ensures)
+returns-2 c =
+    let at-n = c .before .before .before in
+    let at-read-number = at-n .before .before in
+    let e = rw (at-n .n .given .1) at (at-read-number .read-number .ensures .0) in
+    part-as (simp (← e, c .before .match2 .keys2)) (c .joint-in2 .ensures)
 
 returns-3 : tie.Need-returns-3
 returns-3 c =
-    let e = rw (c .before .before .n .given .1) at (c .before .before .before .before .read-number .ensures .0) in
-    let page = now (c .before .before .before .before .before .before .args .page) in
-    nowhere (rw (← e) (no-group page (labelsOn page (c .before .before .before .before .before .before .args .on) (c .before .before .before .before .before .before .args .ons)) (c .before .before .n .given .0 .0) (drop (c .before .before .n .given .0 .1 .0) page) (λ q. omega arith) (λ q. omega arith)))
+    let at-n = c .before .before in
+    let at-read-number = at-n .before .before in
+    let at-start = at-read-number .before .before in
+    let e = rw (at-n .n .given .1) at (at-read-number .read-number .ensures .0) in
+    let page = now (at-start .args .page) in
+    nowhere (rw (← e)
+    (no-group page (labelsOn page (at-start .args .on) (at-start .args .ons)) (at-n .n .given .0 .0)
+    (drop (at-n .n .given .0 .1 .0) page) (λ q. omega arith) (λ q. omega arith)))
 
 returns-4 : tie.Need-returns-4
 returns-4 c = let e = rw (c .enum-told .given .1) at (c .before .before .read-number .ensures .0) in nowhere (rw (← e))

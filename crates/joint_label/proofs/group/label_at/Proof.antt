@@ -16,9 +16,10 @@ enum-told c = search needs
 
 returns : tie.Need-returns
 returns c =
-    let at-start = c .before .before .before .before .before in
-    let e = rw (c .before .label .given .1) at (c .before .before .before .read-text .ensures .0) in
-    let lies = rw (c .before .label .given .1) at (c .before .before .before .read-text .ensures .1) in
+    let at-read-text = c .before .before .before in
+    let at-start = at-read-text .before .before in
+    let e = rw (c .before .label .given .1) at (at-read-text .read-text .ensures .0) in
+    let lies = rw (c .before .label .given .1) at (at-read-text .read-text .ensures .1) in
     part-got (now (at-start .args .page)) (at-start .args .at) e lies
 
 returns-2 : tie.Need-returns-2

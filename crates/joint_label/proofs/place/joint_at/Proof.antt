@@ -36,21 +36,32 @@ enum-told-3 c = search needs
 
 returns : tie.Need-returns
 returns c =
-    let e = rw (c .before .before .before .before .before .before .before .before .before .before .code .given .1) at (c .before .before .before .before .before .before .before .before .before .before .before .before .read-number .ensures .0) in
-    let f = rw (c .before .before .before .before .before .before .present .given .1) at (c .before .before .before .before .before .before .before .before .read-code .ensures) in
-    let g = rw (c .before .before .modifier .given .1) at (c .before .before .before .before .read-number2 .ensures .0) in
+    let at-second-read-number = c .before .before .before .before in
+    let at-present = at-second-read-number .before .before in
+    let at-read-code = at-present .before .before in
+    let at-code = at-read-code .before .before in
+    let at-read-number = at-code .before .before in
+    let e = rw (at-code .code .given .1) at (at-read-number .read-number .ensures .0) in
+    let f = rw (at-present .present .given .1) at (at-read-code .read-code .ensures) in
+    let g = rw (c .before .before .modifier .given .1) at (at-second-read-number .read-number2 .ensures .0) in
     part-as (rw (← e, ← f, ← g)) (c .joint-after .ensures)
 
 returns-2 : tie.Need-returns-2
 returns-2 c =
-    let e = rw (c .before .before .before .before .before .before .before .before .code .given .1) at (c .before .before .before .before .before .before .before .before .before .before .read-number .ensures .0) in
-    let f = rw (c .before .before .before .before .present .given .1) at (c .before .before .before .before .before .before .read-code .ensures) in
+    let at-present = c .before .before .before .before in
+    let at-read-code = at-present .before .before in
+    let at-code = at-read-code .before .before in
+    let at-read-number = at-code .before .before in
+    let e = rw (at-code .code .given .1) at (at-read-number .read-number .ensures .0) in
+    let f = rw (at-present .present .given .1) at (at-read-code .read-code .ensures) in
     let g = rw (c .enum-told .given .1) at (c .before .before .read-number2 .ensures .0) in
     nowhere (rw (← e, ← f, ← g))
 
 returns-3 : tie.Need-returns-3
 returns-3 c =
-    let e = rw (c .before .before .before .before .code .given .1) at (c .before .before .before .before .before .before .read-number .ensures .0) in
+    let at-code = c .before .before .before .before in
+    let at-read-number = at-code .before .before in
+    let e = rw (at-code .code .given .1) at (at-read-number .read-number .ensures .0) in
     let f = rw (c .enum-told2 .given .1) at (c .before .before .read-code .ensures) in
     nowhere (rw (← e, ← f))
 

@@ -13,10 +13,17 @@ joint-at-requires : tie.Need-joint-at-requires
 joint-at-requires c κs = search needs
 
 returns : tie.Need-returns
-returns c = part-as (part-joint (now (c .before .before .before .before .args .page)) (c .before .before .before .before .args .number) (c .before .before .before .before .args .index) (c .before .record-start .result) (c .before .before .if1 .taken) (c .before .record-start .ensures)) (c .joint-at .ensures)
+returns c =
+    let at-start = c .before .before .before .before in
+    part-as (part-joint (now (at-start .args .page)) (at-start .args .number) (at-start .args .index)
+    (c .before .record-start .result) (c .before .before .if1 .taken) (c .before .record-start .ensures))
+    (c .joint-at .ensures)
 
 returns-2 : tie.Need-returns-2
-returns-2 c = nowhere (labelPart-otherwise (now (c .before .before .args .page)) (c .before .before .args .index) (c .before .before .args .number) (c .if1 .left))
+returns-2 c =
+    let at-start = c .before .before in
+    nowhere (labelPart-otherwise (now (at-start .args .page)) (at-start .args .index) (at-start .args .number)
+    (c .if1 .left))
 
 pub joint-label-spec : {M : Type 1} → statement M
 joint-label-spec = tie.close (tie.spec record-start-requires joint-at-requires returns returns-2)

@@ -1,4 +1,5 @@
--- `joint_label::place::record_start` meets its contract. The loop's invariant: `left` records are still to be read from `at` on. Assumes nothing.
+-- `joint_label::place::record_start` meets its contract. The loop's invariant:
+-- `left` records are still to be read from `at` on. Assumes nothing.
 use mathlib.Core.Path.{_≡_, refl, sym, _∙_}
 use lib.ListN.{drop}
 use denote.Ref.{now}
@@ -31,19 +32,36 @@ loop-less c = search needs
 
 loop-again : tie.Need-loop-again Inv-loop μ-loop
 loop-again c =
-    let e = rw (c .before .next .given .1) at (c .before .before .before .read-record .ensures .0) in
-    c .before .before .before .before .before .loop .inv ∙ from-next (c .before .before .before .before .before .loop .left) (drop (c .before .before .before .before .before .loop .at) (now (c .before .before .before .before .before .before .before .args .page))) (c .before .before .before .before .loop-test .taken) e
+    let at-read-record = c .before .before .before in
+    let at-loop-test = at-read-record .before in
+    let at-loop = at-loop-test .before in
+    let at-start = at-loop .before .before in
+    let e = rw (c .before .next .given .1) at (at-read-record .read-record .ensures .0) in
+    at-loop .loop .inv
+    ∙ from-next (at-loop .loop .left) (drop (at-loop .loop .at) (now (at-start .args .page)))
+    (at-loop-test .loop-test .taken) e
 
 enum-told : tie.Need-enum-told Inv-loop μ-loop
 enum-told c = search needs
 
 returns : tie.Need-returns Inv-loop μ-loop
 returns c =
+    let at-loop-test = c .before .before .before in
+    let at-loop = at-loop-test .before in
+    let at-start = at-loop .before .before in
     let e = rw (c .enum-told .given .1) at (c .before .before .read-record .ensures .0) in
-    past-end (now (c .before .before .before .before .before .before .args .page)) ∙ sym (c .before .before .before .before .loop .inv ∙ from-refused (c .before .before .before .before .loop .left) (drop (c .before .before .before .before .loop .at) (now (c .before .before .before .before .before .before .args .page))) (c .before .before .before .loop-test .taken) e)
+    past-end (now (at-start .args .page))
+    ∙ sym (at-loop .loop .inv
+    ∙ from-refused (at-loop .loop .left) (drop (at-loop .loop .at) (now (at-start .args .page)))
+    (at-loop-test .loop-test .taken) e)
 
 returns-2 : tie.Need-returns-2 Inv-loop μ-loop
-returns-2 c = sym (c .before .loop .inv ∙ from-none (c .before .loop .left) (drop (c .before .loop .at) (now (c .before .before .before .args .page))) (c .loop-test .left))
+returns-2 c =
+    let at-loop = c .before in
+    let at-start = at-loop .before .before in
+    sym (at-loop .loop .inv
+    ∙ from-none (at-loop .loop .left) (drop (at-loop .loop .at) (now (at-start .args .page)))
+    (c .loop-test .left))
 
 pub record-start-spec : {M : Type 1} → statement M
 record-start-spec =

@@ -35,7 +35,9 @@ returns-4 : tie.Need-returns-4
 returns-4 c = rw (c .before .before .enum-told2 .given .1, ← c .before .less-one .ensures, le-ltb _ _ (c .if2 .left))
 
 returns-5 : tie.Need-returns-5
-returns-5 c = rw (c .before .before .before .variadic .given .1, ← c .before .less-one2 .ensures) (c .bounded .ensures)
+returns-5 c =
+    let at-variadic = c .before .before .before in
+    rw (at-variadic .variadic .given .1, ← c .before .less-one2 .ensures) (c .bounded .ensures)
 
 pub arity-spec : {M : Type 1} → statement M
 arity-spec =

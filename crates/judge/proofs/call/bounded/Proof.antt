@@ -4,13 +4,21 @@ use Rattle.judge.proofs.call.bounded.Statement.{statement}
 use Rattle.judge.proofs.call.bounded.Tie as tie
 
 returns : tie.Need-returns
-returns c = bounded-few (c .before .args .least) (c .before .args .extra) (c .before .args .count) (c .if1 .taken)
+returns c =
+    let at-start = c .before in
+    bounded-few (at-start .args .least) (at-start .args .extra) (at-start .args .count) (c .if1 .taken)
 
 returns-2 : tie.Need-returns-2
-returns-2 c = bounded-many (c .before .before .args .least) (c .before .before .args .extra) (c .before .before .args .count) (c .before .if1 .left) (c .if2 .taken)
+returns-2 c =
+    let at-start = c .before .before in
+    bounded-many (at-start .args .least) (at-start .args .extra) (at-start .args .count) (c .before .if1 .left)
+    (c .if2 .taken)
 
 returns-3 : tie.Need-returns-3
-returns-3 c = bounded-fine (c .before .before .args .least) (c .before .before .args .extra) (c .before .before .args .count) (c .before .if1 .left) (c .if2 .left)
+returns-3 c =
+    let at-start = c .before .before in
+    bounded-fine (at-start .args .least) (at-start .args .extra) (at-start .args .count) (c .before .if1 .left)
+    (c .if2 .left)
 
 pub bounded-spec : {M : Type 1} → statement M
 bounded-spec = tie.close (tie.spec returns returns-2 returns-3)

@@ -1,4 +1,5 @@
--- `judge::declared::has_kinds` meets its contract: a list is not empty where its first element can be read. Assumes nothing.
+-- `judge::declared::has_kinds` meets its contract: a list is not
+-- empty where its first element can be read. Assumes nothing.
 use mathlib.Core.Path.{sym, ap}
 use mathlib.Core.Bool.{not}
 use mathlib.Core.List.{List}
@@ -15,7 +16,11 @@ use Rattle.judge.proofs.declared.has_kinds.Statement.{statement}
 use Rattle.judge.proofs.declared.has_kinds.Tie as tie
 
 returns : tie.Need-returns
-returns c = sym (ap (λ (l : List Kind). not (isEmpty l)) (listed-none readKind (c .before .before .args .count) (drop (c .before .before .args .start) (now (c .before .before .args .page))) (omega arith)))
+returns c =
+    let at-start = c .before .before in
+    sym (ap (λ (l : List Kind). not (isEmpty l))
+    (listed-none readKind (at-start .args .count) (drop (at-start .args .start) (now (at-start .args .page)))
+    (omega arith)))
 
 read-kind-requires : tie.Need-read-kind-requires
 read-kind-requires c κs = search needs
@@ -27,13 +32,21 @@ enum-told-2 : tie.Need-enum-told-2
 enum-told-2 c = search needs
 
 returns-2 : tie.Need-returns-2
-returns-2 c = let e = rw (c .enum-told .given .1) at (c .before .before .read-kind .ensures) in
-    let some : 0 < c .before .before .before .before .before .args .count = omega arith in
-    sym (ap (λ (l : List Kind). not (isEmpty l)) (listed-more readKind (c .before .before .before .before .before .args .count) (drop (c .before .before .before .before .before .args .start) (now (c .before .before .before .before .before .args .page))) some e))
+returns-2 c =
+    let at-start = c .before .before .before .before .before in
+    let e = rw (c .enum-told .given .1) at (c .before .before .read-kind .ensures) in
+    let some : 0 < at-start .args .count = omega arith in
+    sym (ap (λ (l : List Kind). not (isEmpty l))
+    (listed-more readKind (at-start .args .count) (drop (at-start .args .start) (now (at-start .args .page)))
+    some e))
 
 returns-3 : tie.Need-returns-3
-returns-3 c = let e = rw (c .enum-told2 .given .1) at (c .before .before .read-kind .ensures) in
-    sym (ap (λ (l : List Kind). not (isEmpty l)) (listed-refused readKind (c .before .before .before .before .before .args .count) (drop (c .before .before .before .before .before .args .start) (now (c .before .before .before .before .before .args .page))) e))
+returns-3 c =
+    let at-start = c .before .before .before .before .before in
+    let e = rw (c .enum-told2 .given .1) at (c .before .before .read-kind .ensures) in
+    sym (ap (λ (l : List Kind). not (isEmpty l))
+    (listed-refused readKind (at-start .args .count) (drop (at-start .args .start) (now (at-start .args .page)))
+    e))
 
 pub has-kinds-spec : {M : Type 1} → statement M
 has-kinds-spec =

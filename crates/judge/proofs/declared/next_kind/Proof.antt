@@ -1,4 +1,5 @@
--- `judge::declared::next_kind` meets its contract: the kinds after the first, or the first again where there is none. Assumes nothing.
+-- `judge::declared::next_kind` meets its contract: the kinds after
+-- the first, or the first again where there is none. Assumes nothing.
 use mathlib.Core.Path.{sym, _∙_}
 use native.Mathlib.Omega.{arith}
 use Prim.Native.Nat.{_<_}
@@ -10,7 +11,9 @@ use Rattle.judge.proofs.declared.next_kind.Statement.{statement}
 use Rattle.judge.proofs.declared.next_kind.Tie as tie
 
 returns : tie.Need-returns
-returns c = next-none (c .before .before .args .count) (drop (c .before .before .args .start) (now (c .before .before .args .page))) (omega arith)
+returns c =
+    let at-start = c .before .before in
+    next-none (at-start .args .count) (drop (at-start .args .start) (now (at-start .args .page))) (omega arith)
 
 read-kind-requires : tie.Need-read-kind-requires
 read-kind-requires c κs = search needs
@@ -28,20 +31,33 @@ sub-t11 : tie.Need-sub-t11
 sub-t11 c = search needs
 
 returns-2 : tie.Need-returns-2
-returns-2 c = let e = rw (c .before .before .before .kind .given .1) at (c .before .before .before .before .before .read-kind .ensures) in
-    let some : 0 < c .before .before .before .before .before .before .before .before .args .count = omega arith in
-    next-more (c .before .before .before .before .before .before .before .before .args .count) (drop (c .before .before .before .before .before .before .before .before .args .start) (now (c .before .before .before .before .before .before .before .before .args .page))) some e (sym (c .if2 .taken) ∙ c .before .has-kinds .ensures)
+returns-2 c =
+    let at-kind = c .before .before .before in
+    let at-read-kind = at-kind .before .before in
+    let at-start = at-read-kind .before .before .before in
+    let e = rw (at-kind .kind .given .1) at (at-read-kind .read-kind .ensures) in
+    let some : 0 < at-start .args .count = omega arith in
+    next-more (at-start .args .count) (drop (at-start .args .start) (now (at-start .args .page))) some e
+    (sym (c .if2 .taken) ∙ c .before .has-kinds .ensures)
 
 enum-told : tie.Need-enum-told
 enum-told c = search needs
 
 returns-3 : tie.Need-returns-3
-returns-3 c = let e = rw (c .before .before .before .kind .given .1) at (c .before .before .before .before .before .read-kind .ensures) in
-    let some : 0 < c .before .before .before .before .before .before .before .before .args .count = omega arith in
-    next-last (c .before .before .before .before .before .before .before .before .args .count) (drop (c .before .before .before .before .before .before .before .before .args .start) (now (c .before .before .before .before .before .before .before .before .args .page))) some e (sym (c .if2 .left) ∙ c .before .has-kinds .ensures)
+returns-3 c =
+    let at-kind = c .before .before .before in
+    let at-read-kind = at-kind .before .before in
+    let at-start = at-read-kind .before .before .before in
+    let e = rw (at-kind .kind .given .1) at (at-read-kind .read-kind .ensures) in
+    let some : 0 < at-start .args .count = omega arith in
+    next-last (at-start .args .count) (drop (at-start .args .start) (now (at-start .args .page))) some e
+    (sym (c .if2 .left) ∙ c .before .has-kinds .ensures)
 
 returns-4 : tie.Need-returns-4
-returns-4 c = let e = rw (c .enum-told .given .1) at (c .before .before .read-kind .ensures) in next-refused (c .before .before .before .before .before .args .count) (drop (c .before .before .before .before .before .args .start) (now (c .before .before .before .before .before .args .page))) e
+returns-4 c =
+    let at-start = c .before .before .before .before .before in
+    let e = rw (c .enum-told .given .1) at (c .before .before .read-kind .ensures) in
+    next-refused (at-start .args .count) (drop (at-start .args .start) (now (at-start .args .page))) e
 
 pub next-kind-spec : {M : Type 1} → statement M
 next-kind-spec =

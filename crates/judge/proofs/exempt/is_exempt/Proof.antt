@@ -31,7 +31,11 @@ enum-told-5 : tie.Need-enum-told-5
 enum-told-5 c = search needs
 
 returns : tie.Need-returns
-returns c = rw (c .before .before .before .first .given .1) (c .is-exempt-value .ensures ∙ ap (λ (t : Text). isExemptFloat t (c .before .before .before .first .given .0 .0)) (c .before .text-at .ensures))
+returns c =
+    let at-first = c .before .before .before in
+    rw (at-first .first .given .1)
+    (c .is-exempt-value .ensures
+    ∙ ap (λ (t : Text). isExemptFloat t (at-first .first .given .0 .0)) (c .before .text-at .ensures))
 
 returns-2 : tie.Need-returns-2
 returns-2 c = search needs

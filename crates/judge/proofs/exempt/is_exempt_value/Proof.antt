@@ -19,7 +19,16 @@ at-or-below-zero-requires : tie.Need-at-or-below-zero-requires
 at-or-below-zero-requires c κs = search needs
 
 returns : tie.Need-returns
-returns c = rw (← c .before .before .before .before .is-nan .ensures, ← c .before .before .before .is-infinite .ensures, ← c .before .before .is-exp .ensures, ← c .before .is-logarithm .ensures, ← c .at-or-below-zero .ensures)
+returns c =
+    let at-is-infinite = c .before .before .before in
+    let at-is-nan = at-is-infinite .before in
+    rw (
+      ← at-is-nan .is-nan .ensures,
+      ← at-is-infinite .is-infinite .ensures,
+      ← c .before .before .is-exp .ensures,
+      ← c .before .is-logarithm .ensures,
+      ← c .at-or-below-zero .ensures,
+    )
 
 pub is-exempt-value-spec : {M : Type 1} → statement M
 is-exempt-value-spec =

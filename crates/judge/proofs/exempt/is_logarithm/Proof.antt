@@ -22,7 +22,9 @@ same-text-requires-3 : tie.Need-same-text-requires-3
 same-text-requires-3 c κs = search needs
 
 returns : tie.Need-returns
-returns c = rw (← c .before .before .before .before .same-text .ensures, ← c .before .before .same-text2 .ensures, ← c .same-text3 .ensures)
+returns c =
+    let at-same-text = c .before .before .before .before in
+    rw (← at-same-text .same-text .ensures, ← c .before .before .same-text2 .ensures, ← c .same-text3 .ensures)
 
 pub is-logarithm-spec : {M : Type 1} → statement M
 is-logarithm-spec =

@@ -14,7 +14,8 @@ returns : tie.Need-returns
 returns c =
     let at-start = c .before .before in
     let page = now (at-start .args .page) in
-    joint-before page (labelsOn page (at-start .args .on) (at-start .args .ons)) (at-start .args .groups) (drop (at-start .args .group) page) (c .first-joint .result) (c .first-joint .ensures)
+    joint-before page (labelsOn page (at-start .args .on) (at-start .args .ons)) (at-start .args .groups)
+    (drop (at-start .args .group) page) (c .first-joint .result) (c .first-joint .ensures)
 
 pub has-joint-spec : {M : Type 1} → statement M
 has-joint-spec = tie.close (tie.spec first-joint-requires returns)

@@ -1,4 +1,5 @@
--- `judge::label::has_labels` meets its contract: a list is not empty where its first element can be read. Assumes nothing.
+-- `judge::label::has_labels` meets its contract: a list is not
+-- empty where its first element can be read. Assumes nothing.
 use mathlib.Core.Path.{sym, ap}
 use mathlib.Core.Bool.{not}
 use mathlib.Core.List.{List}
@@ -14,7 +15,11 @@ use Rattle.judge.proofs.label.has_labels.Statement.{statement}
 use Rattle.judge.proofs.label.has_labels.Tie as tie
 
 returns : tie.Need-returns
-returns c = sym (ap (λ (l : List Text). not (isEmpty l)) (listed-none readAnyText (c .before .before .args .count) (drop (c .before .before .args .start) (now (c .before .before .args .page))) (omega arith)))
+returns c =
+    let at-start = c .before .before in
+    sym (ap (λ (l : List Text). not (isEmpty l))
+    (listed-none readAnyText (at-start .args .count) (drop (at-start .args .start) (now (at-start .args .page)))
+    (omega arith)))
 
 read-text-requires : tie.Need-read-text-requires
 read-text-requires c κs = search needs
@@ -26,13 +31,21 @@ enum-told-2 : tie.Need-enum-told-2
 enum-told-2 c = search needs
 
 returns-2 : tie.Need-returns-2
-returns-2 c = let e = rw (c .enum-told .given .1) at (c .before .before .read-text .ensures .0) in
-    let some : 0 < c .before .before .before .before .before .args .count = omega arith in
-    sym (ap (λ (l : List Text). not (isEmpty l)) (listed-more readAnyText (c .before .before .before .before .before .args .count) (drop (c .before .before .before .before .before .args .start) (now (c .before .before .before .before .before .args .page))) some e))
+returns-2 c =
+    let at-start = c .before .before .before .before .before in
+    let e = rw (c .enum-told .given .1) at (c .before .before .read-text .ensures .0) in
+    let some : 0 < at-start .args .count = omega arith in
+    sym (ap (λ (l : List Text). not (isEmpty l))
+    (listed-more readAnyText (at-start .args .count) (drop (at-start .args .start) (now (at-start .args .page)))
+    some e))
 
 returns-3 : tie.Need-returns-3
-returns-3 c = let e = rw (c .enum-told2 .given .1) at (c .before .before .read-text .ensures .0) in
-    sym (ap (λ (l : List Text). not (isEmpty l)) (listed-refused readAnyText (c .before .before .before .before .before .args .count) (drop (c .before .before .before .before .before .args .start) (now (c .before .before .before .before .before .args .page))) e))
+returns-3 c =
+    let at-start = c .before .before .before .before .before in
+    let e = rw (c .enum-told2 .given .1) at (c .before .before .read-text .ensures .0) in
+    sym (ap (λ (l : List Text). not (isEmpty l))
+    (listed-refused readAnyText (at-start .args .count)
+    (drop (at-start .args .start) (now (at-start .args .page))) e))
 
 pub has-labels-spec : {M : Type 1} → statement M
 has-labels-spec =

@@ -24,7 +24,16 @@ returns : tie.Need-returns
 returns c = rw (c .enum-told .given .1) (record { bool = refl; joint = refl; grouped = refl; labelled = refl })
 
 returns-2 : tie.Need-returns-2
-returns-2 c = rw (c .before .before .before .before .modifier .given .1) (record { bool = refl; joint = c .before .before .is-joint .ensures; grouped = c .before .is-grouping .ensures (now (c .before .before .before .before .before .before .before .args .page)); labelled = c .has-matching .ensures })
+returns-2 c =
+    let at-modifier = c .before .before .before .before in
+    let at-start = at-modifier .before .before .before in
+    rw (at-modifier .modifier .given .1)
+    (record {
+      bool = refl;
+      joint = c .before .before .is-joint .ensures;
+      grouped = c .before .is-grouping .ensures (now (at-start .args .page));
+      labelled = c .has-matching .ensures;
+    })
 
 pub facts-spec : {M : Type 1} → statement M
 facts-spec =

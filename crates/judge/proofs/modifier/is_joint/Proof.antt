@@ -1,4 +1,5 @@
--- `judge::modifier::is_joint` meets its contract: without `on` there is no list that a label could be in. Assumes nothing.
+-- `judge::modifier::is_joint` meets its contract: without `on`
+-- there is no list that a label could be in. Assumes nothing.
 use denote.Ref.{now}
 use Rattle.records.specs.Answers.{cardinalityOn}
 use Rattle.ast.specs.CheckAst.{groupLabels}
@@ -20,13 +21,19 @@ enum-told-2 : tie.Need-enum-told-2
 enum-told-2 c = search needs
 
 returns : tie.Need-returns
-returns c = rw (c .enum-told .given .1) (none-in (groupLabels (cardinalityOn (now (c .before .before .before .args .page)) (c .before .before .before .args .card))))
+returns c =
+    let at-start = c .before .before .before in
+    rw (c .enum-told .given .1)
+    (none-in (groupLabels (cardinalityOn (now (at-start .args .page)) (at-start .args .card))))
 
 returns-2 : tie.Need-returns-2
 returns-2 c = rw (c .before .before .matching .given .1) (c .group-joint .ensures)
 
 returns-3 : tie.Need-returns-3
-returns-3 c = rw (c .enum-told2 .given .1) (none-in (groupLabels (cardinalityOn (now (c .before .before .before .args .page)) (c .before .before .before .args .card))))
+returns-3 c =
+    let at-start = c .before .before .before in
+    rw (c .enum-told2 .given .1)
+    (none-in (groupLabels (cardinalityOn (now (at-start .args .page)) (at-start .args .card))))
 
 pub is-joint-spec : {M : Type 1} → statement M
 is-joint-spec =

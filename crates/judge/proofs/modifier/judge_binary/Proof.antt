@@ -13,7 +13,11 @@ judge-sides-requires : tie.Need-judge-sides-requires
 judge-sides-requires c κs = search needs
 
 returns : tie.Need-returns
-returns c = c .judge-sides .ensures ∙ judgeSides-facts (c .before .facts .ensures) (c .before .before .before .args .code) (kindOf (c .before .before .before .args .left)) (kindOf (c .before .before .before .args .right))
+returns c =
+    let at-start = c .before .before .before in
+    c .judge-sides .ensures
+    ∙ judgeSides-facts (c .before .facts .ensures) (at-start .args .code) (kindOf (at-start .args .left))
+    (kindOf (at-start .args .right))
 
 pub judge-binary-spec : {M : Type 1} → statement M
 judge-binary-spec = tie.close (tie.spec facts-requires judge-sides-requires returns)

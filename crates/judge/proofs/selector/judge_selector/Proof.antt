@@ -4,16 +4,40 @@ use Rattle.judge.proofs.selector.judge_selector.Statement.{statement}
 use Rattle.judge.proofs.selector.judge_selector.Tie as tie
 
 returns : tie.Need-returns
-returns c = λ page read. simp (span-full page (c .before .before .before .before .args .selector .name) (read .name) (c .before .if1 .taken), ← read .marked .names, c .if2 .taken)
+returns c =
+    let at-start = c .before .before .before .before in
+    λ page read. simp (
+      span-full page (at-start .args .selector .name) (read .name) (c .before .if1 .taken),
+      ← read .marked .names,
+      c .if2 .taken,
+    )
 
 returns-2 : tie.Need-returns-2
-returns-2 c = λ page read. simp (span-full page (c .before .before .before .before .args .selector .name) (read .name) (c .before .if1 .taken), ← read .marked .names, c .if2 .left)
+returns-2 c =
+    let at-start = c .before .before .before .before in
+    λ page read. simp (
+      span-full page (at-start .args .selector .name) (read .name) (c .before .if1 .taken),
+      ← read .marked .names,
+      c .if2 .left,
+    )
 
 returns-3 : tie.Need-returns-3
-returns-3 c = λ page read. simp (span-empty page (c .before .before .before .before .args .selector .name) (c .before .if1 .left), ← read .marked .accept, c .if3 .taken)
+returns-3 c =
+    let at-start = c .before .before .before .before in
+    λ page read. simp (
+      span-empty page (at-start .args .selector .name) (c .before .if1 .left),
+      ← read .marked .accept,
+      c .if3 .taken,
+    )
 
 returns-4 : tie.Need-returns-4
-returns-4 c = λ page read. simp (span-empty page (c .before .before .before .before .args .selector .name) (c .before .if1 .left), ← read .marked .accept, c .if3 .left)
+returns-4 c =
+    let at-start = c .before .before .before .before in
+    λ page read. simp (
+      span-empty page (at-start .args .selector .name) (c .before .if1 .left),
+      ← read .marked .accept,
+      c .if3 .left,
+    )
 
 pub judge-selector-spec : {M : Type 1} → statement M
 judge-selector-spec = tie.close (tie.spec returns returns-2 returns-3 returns-4)

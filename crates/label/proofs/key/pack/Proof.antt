@@ -45,10 +45,14 @@ bit-requires : tie.Need-bit-requires
 bit-requires c κs = search needs
 
 add-result-2 : tie.Need-add-result-2
-add-result-2 c = omega (arith, c .before .before .before .before .before .before .pre, bit-small (c .before .before .before .before .before .before .args .parts .bare), c .bit .ensures)
+add-result-2 c =
+    let at-start = c .before .before .before .before .before .before in
+    omega (arith, at-start .pre, bit-small (at-start .args .parts .bare), c .bit .ensures)
 
 returns : tie.Need-returns
-returns c = unpacked-packed _ _ (c .before .before .before .before .before .before .pre) (c .bit .ensures)
+returns c =
+    let at-start = c .before .before .before .before .before .before in
+    unpacked-packed _ _ (at-start .pre) (c .bit .ensures)
 
 pub pack-spec : {M : Type 1} → statement M
 pack-spec =

@@ -12,13 +12,17 @@ capped-add-requires : tie.Need-capped-add-requires
 capped-add-requires c κs = search needs
 
 returns : tie.Need-returns
-returns c = rw (displayLabel-bare _ _ (c .before .before .is-label .ensures) (c .before .if1 .taken)) (omega (arith, c .capped-add .ensures))
+returns c =
+    rw (displayLabel-bare _ _ (c .before .before .is-label .ensures) (c .before .if1 .taken))
+    (omega (arith, c .capped-add .ensures))
 
 quoted-len-requires : tie.Need-quoted-len-requires
 quoted-len-requires c κs = search needs
 
 returns-2 : tie.Need-returns-2
-returns-2 c = rw (displayLabel-quoted _ _ (c .before .before .is-label .ensures) (c .before .if1 .left)) (c .quoted-len .ensures)
+returns-2 c =
+    rw (displayLabel-quoted _ _ (c .before .before .is-label .ensures) (c .before .if1 .left))
+    (c .quoted-len .ensures)
 
 pub label-len-spec : {M : Type 1} → statement M
 label-len-spec =

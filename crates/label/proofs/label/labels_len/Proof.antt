@@ -10,10 +10,15 @@ use Rattle.label.proofs.label.labels_len.Statement.{statement}
 use Rattle.label.proofs.label.labels_len.Tie as tie
 
 returns : tie.Need-returns
-returns c = rw (displayLabels-none _ (drop (c .before .before .args .start) (now (c .before .before .args .page))) (c .if1 .taken)) (omega arith)
+returns c =
+    rw (displayLabels-none _ (drop (c .before .before .args .start) (now (c .before .before .args .page)))
+    (c .if1 .taken)) (omega arith)
 
 stored-text-requires : tie.Need-stored-text-requires
-stored-text-requires c κs = first-read readAnyText (c .before .before .args .count) (drop (c .before .before .args .start) (now (c .before .before .args .page))) (c .before .before .pre) (some-left _ (c .if1 .left))
+stored-text-requires c κs =
+    let at-start = c .before .before in
+    first-read readAnyText (at-start .args .count) (drop (at-start .args .start) (now (at-start .args .page)))
+    (at-start .pre) (some-left _ (c .if1 .left))
 
 text-at-requires : tie.Need-text-at-requires
 text-at-requires c κs = c .stored-text .ensures .1
@@ -25,13 +30,23 @@ sub-more-labels-len : tie.Need-sub-more-labels-len
 sub-more-labels-len c = search needs
 
 more-labels-len-requires : tie.Need-more-labels-len-requires
-more-labels-len-requires c κs = others-read readAnyText (c .before .before .before .before .before .args .count) (drop (c .before .before .before .before .before .args .start) (now (c .before .before .before .before .before .args .page))) (c .before .before .before .before .before .pre) (some-left _ (c .before .before .before .if1 .left)) (c .before .before .stored-text .ensures .0)
+more-labels-len-requires c κs =
+    let at-if = c .before .before .before in
+    let at-start = at-if .before .before in
+    others-read readAnyText (at-start .args .count) (drop (at-start .args .start) (now (at-start .args .page)))
+    (at-start .pre) (some-left _ (at-if .if1 .left)) (c .before .before .stored-text .ensures .0)
 
 capped-add-requires : tie.Need-capped-add-requires
 capped-add-requires c κs = search needs
 
 returns-2 : tie.Need-returns-2
-returns-2 c = labels-first _ _ _ _ _ _ _ (c .before .before .before .before .before .if1 .left) (c .before .before .before .before .stored-text .ensures .0) (c .before .before .before .text-at .ensures) (c .before .before .label-len .ensures) (c .before .more-labels-len .ensures) (c .capped-add .ensures)
+returns-2 c =
+    let at-text-at = c .before .before .before in
+    let at-stored-text = at-text-at .before in
+    let at-if = at-stored-text .before in
+    labels-first _ _ _ _ _ _ _ (at-if .if1 .left) (at-stored-text .stored-text .ensures .0)
+    (at-text-at .text-at .ensures) (c .before .before .label-len .ensures) (c .before .more-labels-len .ensures)
+    (c .capped-add .ensures)
 
 pub labels-len-spec : {M : Type 1} → statement M
 labels-len-spec =

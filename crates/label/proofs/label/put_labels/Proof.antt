@@ -13,31 +13,58 @@ use Rattle.label.proofs.label.put_labels.Statement.{statement}
 use Rattle.label.proofs.label.put_labels.Tie as tie
 
 returns : tie.Need-returns
-returns c = finish (begin _ _ _ (c .before .before .before .pre .1)) (displayLabels-none _ _ (c .if1 .taken))
+returns c =
+    let at-start = c .before .before .before in
+    finish (begin _ _ _ (at-start .pre .1)) (displayLabels-none _ _ (c .if1 .taken))
 
 stored-text-requires : tie.Need-stored-text-requires
-stored-text-requires c κs = first-read readAnyText (c .before .before .before .args .count) (drop (c .before .before .before .args .start) (now (c .before .before .before .args .page))) (c .before .before .before .pre .0) (some-left _ (c .if1 .left))
+stored-text-requires c κs =
+    let at-start = c .before .before .before in
+    first-read readAnyText (at-start .args .count) (drop (at-start .args .start) (now (at-start .args .page)))
+    (at-start .pre .0) (some-left _ (c .if1 .left))
 
 text-at-requires : tie.Need-text-at-requires
 text-at-requires c κs = c .stored-text .ensures .1
 
 put-label-requires : tie.Need-put-label-requires
-put-label-requires c κs = part-fits displayLabel (c .before .text-at .ensures) _ _ (first _ _ (c .before .before .before .before .before .before .pre .1) (displayLabels-first _ _ (some-left _ (c .before .before .before .if1 .left)) (c .before .before .stored-text .ensures .0)))
+put-label-requires c κs =
+    let at-if = c .before .before .before in
+    let at-start = at-if .before .before .before in
+    part-fits displayLabel (c .before .text-at .ensures) _ _
+    (first _ _ (at-start .pre .1)
+    (displayLabels-first _ _ (some-left _ (at-if .if1 .left)) (c .before .before .stored-text .ensures .0)))
 
 sub-put-more-labels : tie.Need-sub-put-more-labels
 sub-put-more-labels c = search needs
 
 put-more-labels-requires : tie.Need-put-more-labels-requires
-put-more-labels-requires c κs = (
-  others-read readAnyText (c .before .before .before .before .before .before .before .before .before .before .args .count) (drop (c .before .before .before .before .before .before .before .before .before .before .args .start) (now (c .before .before .before .before .before .before .before .before .before .before .args .page))) (c .before .before .before .before .before .before .before .before .before .before .pre .0) (some-left _ (c .before .before .before .before .before .before .before .if1 .left)) (c .before .before .before .before .before .before .stored-text .ensures .0),
-  room (step (begin _ _ _ (c .before .before .before .before .before .before .before .before .before .before .pre .1)) (displayLabels-first _ _ (some-left _ (c .before .before .before .before .before .before .before .if1 .left)) (c .before .before .before .before .before .before .stored-text .ensures .0)) (part-wrote displayLabel (c .before .before .before .before .before .text-at .ensures) (c .before .before .before .put-label .ensures))) (cut-last _),
-)
+put-more-labels-requires c κs =
+    let at-put-label = c .before .before .before in
+    let at-text-at = at-put-label .before .before in
+    let at-stored-text = at-text-at .before in
+    let at-if = at-stored-text .before in
+    let at-start = at-if .before .before .before in (
+      others-read readAnyText (at-start .args .count) (drop (at-start .args .start) (now (at-start .args .page)))
+          (at-start .pre .0) (some-left _ (at-if .if1 .left)) (at-stored-text .stored-text .ensures .0),
+      room (step (begin _ _ _ (at-start .pre .1))
+          (displayLabels-first _ _ (some-left _ (at-if .if1 .left)) (at-stored-text .stored-text .ensures .0))
+          (part-wrote displayLabel (at-text-at .text-at .ensures) (at-put-label .put-label .ensures))) (cut-last _),
+    )
 
 same-length : tie.Need-same-length
 same-length c = search needs
 
 returns-2 : tie.Need-returns-2
-returns-2 c = finish (step (step (begin _ _ _ (c .before .before .before .before .before .before .before .before .before .before .before .before .before .pre .1)) (displayLabels-first _ _ (some-left _ (c .before .before .before .before .before .before .before .before .before .before .if1 .left)) (c .before .before .before .before .before .before .before .before .before .stored-text .ensures .0)) (part-wrote displayLabel (c .before .before .before .before .before .before .before .before .text-at .ensures) (c .before .before .before .before .before .before .put-label .ensures))) (cut-last _) (c .before .before .put-more-labels .ensures)) refl
+returns-2 c =
+    let at-put-label = c .before .before .before .before .before .before in
+    let at-text-at = at-put-label .before .before in
+    let at-stored-text = at-text-at .before in
+    let at-if = at-stored-text .before in
+    let at-start = at-if .before .before .before in
+    finish (step (step (begin _ _ _ (at-start .pre .1))
+    (displayLabels-first _ _ (some-left _ (at-if .if1 .left)) (at-stored-text .stored-text .ensures .0))
+    (part-wrote displayLabel (at-text-at .text-at .ensures) (at-put-label .put-label .ensures))) (cut-last _)
+    (c .before .before .put-more-labels .ensures)) refl
 
 pub put-labels-spec : {M : Type 1} → statement M
 put-labels-spec =

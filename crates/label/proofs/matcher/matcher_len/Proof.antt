@@ -23,7 +23,9 @@ operator-number-requires : tie.Need-operator-number-requires
 operator-number-requires c κs = search needs
 
 operator-count-requires : tie.Need-operator-count-requires
-operator-count-requires c κs = rw (c .operator-number .ensures) (operator-small (opOf (c .before .before .before .before .before .before .args .matcher .op)))
+operator-count-requires c κs =
+    let at-start = c .before .before .before .before .before .before in
+    rw (c .operator-number .ensures) (operator-small (opOf (at-start .args .matcher .op)))
 
 capped-add-requires : tie.Need-capped-add-requires
 capped-add-requires c κs = search needs
@@ -32,7 +34,17 @@ capped-add-requires-2 : tie.Need-capped-add-requires-2
 capped-add-requires-2 c κs = search needs
 
 returns : tie.Need-returns
-returns c = matcher-measured (matcherOn (now (c .before .before .before .before .before .before .before .before .before .args .page)) (c .before .before .before .before .before .before .before .before .before .args .matcher)) _ _ _ _ _ _ _ _ _ (c .before .before .before .before .before .before .before .text-at .ensures) (c .before .before .before .before .before .before .label-len .ensures) (c .before .before .before .before .before .text-at2 .ensures) (c .before .before .before .before .quoted-len .ensures) (c .before .before .before .operator-number .ensures) (c .before .before .operator-count .ensures) (c .before .capped-add .ensures) (c .capped-add2 .ensures)
+returns c =
+    let at-operator-number = c .before .before .before in
+    let at-quoted-len = at-operator-number .before in
+    let at-second-text-at = at-quoted-len .before in
+    let at-label-len = at-second-text-at .before in
+    let at-text-at = at-label-len .before in
+    let at-start = at-text-at .before .before in
+    matcher-measured (matcherOn (now (at-start .args .page)) (at-start .args .matcher)) _ _ _ _ _ _ _ _ _
+    (at-text-at .text-at .ensures) (at-label-len .label-len .ensures) (at-second-text-at .text-at2 .ensures)
+    (at-quoted-len .quoted-len .ensures) (at-operator-number .operator-number .ensures)
+    (c .before .before .operator-count .ensures) (c .before .capped-add .ensures) (c .capped-add2 .ensures)
 
 pub matcher-len-spec : {M : Type 1} → statement M
 matcher-len-spec =

@@ -11,10 +11,20 @@ use Rattle.label.proofs.matcher.matchers_len.Statement.{statement}
 use Rattle.label.proofs.matcher.matchers_len.Tie as tie
 
 returns : tie.Need-returns
-returns c = omega (arith, matchers-empty (c .before .before .args .count) (drop (c .before .before .args .start) (now (c .before .before .args .page))) (matchers-none (c .before .before .args .count) (drop (c .before .before .args .start) (now (c .before .before .args .page))) (omega (arith, c .if1 .taken))))
+returns c =
+    let at-start = c .before .before in
+    omega (
+      arith,
+      matchers-empty (at-start .args .count) (drop (at-start .args .start) (now (at-start .args .page)))
+          (matchers-none (at-start .args .count) (drop (at-start .args .start) (now (at-start .args .page)))
+          (omega (arith, c .if1 .taken))),
+    )
 
 stored-matcher-requires : tie.Need-stored-matcher-requires
-stored-matcher-requires c κs = first-read readMatcher (c .before .before .args .count) (drop (c .before .before .args .start) (now (c .before .before .args .page))) (c .before .before .pre) (some-left _ (c .if1 .left))
+stored-matcher-requires c κs =
+    let at-start = c .before .before in
+    first-read readMatcher (at-start .args .count) (drop (at-start .args .start) (now (at-start .args .page)))
+    (at-start .pre) (some-left _ (c .if1 .left))
 
 matcher-len-requires : tie.Need-matcher-len-requires
 matcher-len-requires c κs = c .stored-matcher .ensures .1
@@ -23,13 +33,20 @@ sub-more-matchers-len : tie.Need-sub-more-matchers-len
 sub-more-matchers-len c = search needs
 
 more-matchers-len-requires : tie.Need-more-matchers-len-requires
-more-matchers-len-requires c κs = others-read readMatcher (c .before .before .before .before .args .count) (drop (c .before .before .before .before .args .start) (now (c .before .before .before .before .args .page))) (c .before .before .before .before .pre) (some-left _ (c .before .before .if1 .left)) (c .before .stored-matcher .ensures .0)
+more-matchers-len-requires c κs =
+    let at-start = c .before .before .before .before in
+    others-read readMatcher (at-start .args .count) (drop (at-start .args .start) (now (at-start .args .page)))
+    (at-start .pre) (some-left _ (c .before .before .if1 .left)) (c .before .stored-matcher .ensures .0)
 
 capped-add-requires : tie.Need-capped-add-requires
 capped-add-requires c κs = search needs
 
 returns-2 : tie.Need-returns-2
-returns-2 c = matchers-first _ _ _ _ _ _ (some-left _ (c .before .before .before .before .if1 .left)) (c .before .before .before .stored-matcher .ensures .0) (c .before .before .matcher-len .ensures) (c .before .more-matchers-len .ensures) (c .capped-add .ensures)
+returns-2 c =
+    let at-stored-matcher = c .before .before .before in
+    let at-if = at-stored-matcher .before in
+    matchers-first _ _ _ _ _ _ (some-left _ (at-if .if1 .left)) (at-stored-matcher .stored-matcher .ensures .0)
+    (c .before .before .matcher-len .ensures) (c .before .more-matchers-len .ensures) (c .capped-add .ensures)
 
 pub matchers-len-spec : {M : Type 1} → statement M
 matchers-len-spec =

@@ -1,4 +1,5 @@
--- `label::matcher::more_matchers_len` meets its contract. Invariant: the sum so far and what is left come to the whole, up to the cap.
+-- `label::matcher::more_matchers_len` meets its contract. Invariant:
+-- the sum so far and what is left come to the whole, up to the cap.
 -- The measure is the matchers left. Assumes nothing.
 use borrow.Author.Needs.{needs}
 use denote.Ref.{now}
@@ -17,8 +18,10 @@ use Rattle.label.proofs.matcher.more_matchers_len.Statement.{statement}
 use Rattle.label.proofs.matcher.more_matchers_len.Tie as tie
 
 abbrev Inv-loop : tie.InvT-loop
-Inv-loop page start count cap total₀ at₀ left₀ total at left = (min (length (moreByCommas (map displayMatcher (matchersOn page start count)))) cap
-    ≡ min (total + length (moreByCommas (map displayMatcher (matchersOn page at left)))) cap) × (total ≤ cap) × AllRead readMatcher left (drop at page)
+Inv-loop page start count cap total₀ at₀ left₀ total at left =
+    (min (length (moreByCommas (map displayMatcher (matchersOn page start count)))) cap
+    ≡ min (total + length (moreByCommas (map displayMatcher (matchersOn page at left)))) cap) × (total ≤ cap)
+    × AllRead readMatcher left (drop at page)
 
 abbrev μ-loop : tie.MeasureT-loop
 μ-loop page start count cap total₀ at₀ left₀ total at left = left
@@ -30,7 +33,11 @@ returns : tie.Need-returns Inv-loop μ-loop
 returns c = omega (arith, c .before .before .loop .inv)
 
 stored-matcher-requires : tie.Need-stored-matcher-requires Inv-loop μ-loop
-stored-matcher-requires c κs = first-read readMatcher (c .before .before .loop .left) (drop (c .before .before .loop .at) (now (c .before .before .before .before .args .page))) (c .before .before .loop .inv .2) (c .before .loop-test .taken)
+stored-matcher-requires c κs =
+    let at-loop = c .before .before in
+    let at-start = at-loop .before .before in
+    first-read readMatcher (at-loop .loop .left) (drop (at-loop .loop .at) (now (at-start .args .page)))
+    (at-loop .loop .inv .2) (c .before .loop-test .taken)
 
 matcher-len-requires : tie.Need-matcher-len-requires Inv-loop μ-loop
 matcher-len-requires c κs = c .stored-matcher .ensures .1
@@ -48,14 +55,29 @@ loop-less : tie.Need-loop-less Inv-loop μ-loop
 loop-less c = search needs
 
 loop-again : tie.Need-loop-again Inv-loop μ-loop
-loop-again c = (
-  matchers-sum-on _ _ _ _ _ _ _ _ (c .before .before .before .before .before .loop-test .taken) (c .before .before .before .stored-matcher .ensures .0) (c .before .before .before .before .before .before .loop .inv .0) (c .before .before .matcher-len .ensures) (c .before .capped-add .ensures) (c .capped-add2 .ensures),
-  omega (arith, c .capped-add2 .ensures),
-  others-read readMatcher (c .before .before .before .before .before .before .loop .left) (drop (c .before .before .before .before .before .before .loop .at) (now (c .before .before .before .before .before .before .before .before .args .page))) (c .before .before .before .before .before .before .loop .inv .2) (c .before .before .before .before .before .loop-test .taken) (c .before .before .before .stored-matcher .ensures .0),
-)
+loop-again c =
+    let at-stored-matcher = c .before .before .before in
+    let at-loop-test = at-stored-matcher .before .before in
+    let at-loop = at-loop-test .before in
+    let at-start = at-loop .before .before in (
+      matchers-sum-on _ _ _ _ _ _ _ _ (at-loop-test .loop-test .taken) (at-stored-matcher .stored-matcher .ensures .0)
+          (at-loop .loop .inv .0) (c .before .before .matcher-len .ensures) (c .before .capped-add .ensures)
+          (c .capped-add2 .ensures),
+      omega (arith, c .capped-add2 .ensures),
+      others-read readMatcher (at-loop .loop .left) (drop (at-loop .loop .at) (now (at-start .args .page)))
+          (at-loop .loop .inv .2) (at-loop-test .loop-test .taken) (at-stored-matcher .stored-matcher .ensures .0),
+    )
 
 returns-2 : tie.Need-returns-2 Inv-loop μ-loop
-returns-2 c = omega (arith, c .before .loop .inv, matchers-none (c .before .loop .left) (drop (c .before .loop .at) (now (c .before .before .before .args .page))) (c .loop-test .left))
+returns-2 c =
+    let at-loop = c .before in
+    let at-start = at-loop .before .before in
+    omega (
+      arith,
+      at-loop .loop .inv,
+      matchers-none (at-loop .loop .left) (drop (at-loop .loop .at) (now (at-start .args .page)))
+          (c .loop-test .left),
+    )
 
 pub more-matchers-len-spec : {M : Type 1} → statement M
 more-matchers-len-spec =

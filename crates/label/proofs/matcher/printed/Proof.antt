@@ -14,7 +14,10 @@ operator-number-requires : tie.Need-operator-number-requires
 operator-number-requires c κs = search needs
 
 returns : tie.Need-returns
-returns c = prints _ _ _ _ _ (c .before .before .before .before .before .before .pre .0) (c .before .before .before .before .before .before .pre .1) (c .before .before .text-at .ensures) (c .before .is-label .ensures) (c .operator-number .ensures)
+returns c =
+    let at-start = c .before .before .before .before .before .before in
+    prints _ _ _ _ _ (at-start .pre .0) (at-start .pre .1) (c .before .before .text-at .ensures)
+    (c .before .is-label .ensures) (c .operator-number .ensures)
 
 pub printed-spec : {M : Type 1} → statement M
 printed-spec =

@@ -10,7 +10,9 @@ slice-aggregate-collect : tie.Need-slice-aggregate-collect
 slice-aggregate-collect c = search needs
 
 collect-requires : tie.Need-collect-requires
-collect-requires c κs = (c .before .before .before .pre .0, (c .before .before .before .pre .1 .0 .0, c .before .before .before .pre .1 .0 .1))
+collect-requires c κs =
+    let at-start = c .before .before .before in
+    (at-start .pre .0, (at-start .pre .1 .0 .0, at-start .pre .1 .0 .1))
 
 array-borrow-prefix-keys : tie.Need-array-borrow-prefix-keys
 array-borrow-prefix-keys c = search needs
@@ -19,16 +21,28 @@ slice-aggregate-order : tie.Need-slice-aggregate-order
 slice-aggregate-order c = sym (length-take-le _ _ (c .before .before .collect .ensures .inside))
 
 arrange-requires : tie.Need-arrange-requires
-arrange-requires c κs = c .before .before .before .collect .ensures .areKeys
+arrange-requires c κs =
+    let at-collect = c .before .before .before in
+    at-collect .collect .ensures .areKeys
 
 put-in-order-requires : tie.Need-put-in-order-requires
-put-in-order-requires c κs = (c .before .before .before .before .arrange .ensures .keys, sorted-fits (c .before .before .before .before .before .before .before .before .collect .ensures) (c .before .before .before .before .arrange .ensures) _ _ (c .before .before .before .before .before .before .before .before .before .before .before .before .pre .1 .1))
+put-in-order-requires c κs =
+    let at-arrange = c .before .before .before .before in
+    let at-collect = at-arrange .before .before .before .before in
+    let at-start = at-collect .before .before .before .before in (
+      at-arrange .arrange .ensures .keys,
+      sorted-fits (at-collect .collect .ensures) (at-arrange .arrange .ensures) _ _ (at-start .pre .1 .1),
+    )
 
 same-length : tie.Need-same-length
 same-length c = search needs
 
 returns : tie.Need-returns
-returns c = sorted-wrote (c .before .before .before .before .before .before .before .before .before .before .before .before .collect .ensures) (c .before .before .before .before .before .before .before .before .arrange .ensures) (c .before .before .before .put-in-order .ensures)
+returns c =
+    let at-put-in-order = c .before .before .before in
+    let at-arrange = at-put-in-order .before .before .before .before .before in
+    let at-collect = at-arrange .before .before .before .before in
+    sorted-wrote (at-collect .collect .ensures) (at-arrange .arrange .ensures) (at-put-in-order .put-in-order .ensures)
 
 pub put-matchers-spec : {M : Type 1} → statement M
 put-matchers-spec =

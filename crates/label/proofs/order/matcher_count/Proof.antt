@@ -10,16 +10,45 @@ name-count-requires : tie.Need-name-count-requires
 name-count-requires c κs = search needs
 
 operator-count-requires : tie.Need-operator-count-requires
-operator-count-requires c κs = c .before .before .before .pre .0
+operator-count-requires c κs =
+    let at-start = c .before .before .before in
+    at-start .pre .0
 
 add-result : tie.Need-add-result
-add-result c = omega (arith, c .before .name-count .ensures, c .operator-count .ensures, name-short (c .before .before .before .before .args .bare) (now (c .before .before .before .before .args .name)), op-short (c .before .before .before .before .args .op) (c .before .before .before .before .pre .0), c .before .before .before .before .pre)
+add-result c =
+    let at-start = c .before .before .before .before in
+    omega (
+      arith,
+      c .before .name-count .ensures,
+      c .operator-count .ensures,
+      name-short (at-start .args .bare) (now (at-start .args .name)),
+      op-short (at-start .args .op) (at-start .pre .0),
+      at-start .pre,
+    )
 
 add-result-2 : tie.Need-add-result-2
-add-result-2 c = omega (arith, c .before .name-count .ensures, c .operator-count .ensures, name-short (c .before .before .before .before .args .bare) (now (c .before .before .before .before .args .name)), op-short (c .before .before .before .before .args .op) (c .before .before .before .before .pre .0), c .before .before .before .before .pre)
+add-result-2 c =
+    let at-start = c .before .before .before .before in
+    omega (
+      arith,
+      c .before .name-count .ensures,
+      c .operator-count .ensures,
+      name-short (at-start .args .bare) (now (at-start .args .name)),
+      op-short (at-start .args .op) (at-start .pre .0),
+      at-start .pre,
+    )
 
 add-result-3 : tie.Need-add-result-3
-add-result-3 c = omega (arith, c .before .name-count .ensures, c .operator-count .ensures, name-short (c .before .before .before .before .args .bare) (now (c .before .before .before .before .args .name)), op-short (c .before .before .before .before .args .op) (c .before .before .before .before .pre .0), c .before .before .before .before .pre)
+add-result-3 c =
+    let at-start = c .before .before .before .before in
+    omega (
+      arith,
+      c .before .name-count .ensures,
+      c .operator-count .ensures,
+      name-short (at-start .args .bare) (now (at-start .args .name)),
+      op-short (at-start .args .op) (at-start .pre .0),
+      at-start .pre,
+    )
 
 returns : tie.Need-returns
 returns c = matcher-count _ _ _ _ _ _ (c .before .name-count .ensures) (c .operator-count .ensures)

@@ -5,13 +5,17 @@ use Rattle.label.proofs.order.name_symbol.Statement.{statement}
 use Rattle.label.proofs.order.name_symbol.Tie as tie
 
 shared-slice-read-symbol : tie.Need-shared-slice-read-symbol
-shared-slice-read-symbol c = bare-inside _ _ _ (c .before .if1 .taken) (c .before .before .before .pre)
+shared-slice-read-symbol c =
+    let at-start = c .before .before .before in
+    bare-inside _ _ _ (c .before .if1 .taken) (at-start .pre)
 
 symbol-requires : tie.Need-symbol-requires
 symbol-requires c κs = search needs
 
 returns : tie.Need-returns
-returns c = bare-symbol _ _ _ _ (c .before .before .if1 .taken) (c .before .before .before .before .pre) (c .symbol .ensures)
+returns c =
+    let at-start = c .before .before .before .before in
+    bare-symbol _ _ _ _ (c .before .before .if1 .taken) (at-start .pre) (c .symbol .ensures)
 
 quoted-symbol-requires : tie.Need-quoted-symbol-requires
 quoted-symbol-requires c κs = quoted-inside _ _ _ (c .if1 .left) (c .before .before .pre)

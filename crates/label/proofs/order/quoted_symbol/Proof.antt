@@ -22,7 +22,9 @@ returns-2 : tie.Need-returns-2
 returns-2 c = c .symbol .ensures ∙ sym (symbol-inside _ _ (omega arith) (c .before .before .if2 .taken))
 
 returns-3 : tie.Need-returns-3
-returns-3 c = sym (symbol-last _ _ (c .if2 .left) (c .before .before .before .pre))
+returns-3 c =
+    let at-start = c .before .before .before in
+    sym (symbol-last _ _ (c .if2 .left) (at-start .pre))
 
 pub quoted-symbol-spec : {M : Type 1} → statement M
 quoted-symbol-spec =

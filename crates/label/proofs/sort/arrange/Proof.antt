@@ -1,5 +1,6 @@
 -- Assumes nothing.
--- `label::sort::arrange` meets its contract. Invariant: the keys from i on are in order, those before are as they were. The measure is i.
+-- `label::sort::arrange` meets its contract. Invariant: the keys from
+-- i on are in order, those before are as they were. The measure is i.
 use borrow.Author.Needs.{needs}
 use native.Mathlib.Omega.{arith}
 use Rattle.label.proofs.SortLaws.{Arranged, arrange-start, arrange-on, arrange-end, behind-keys, own-key}
@@ -25,13 +26,25 @@ slice-read-place : tie.Need-slice-read-place Inv-loop μ-loop
 slice-read-place c = search needs
 
 place-requires : tie.Need-place-requires Inv-loop μ-loop
-place-requires c κs = (own-key (c .before .before .before .before .before .before .pre) (c .before .before .before .loop .inv) (c .before .before .loop-test .taken), omega (arith, c .before .before .before .loop .inv .size, c .before .before .before .loop .inv .upto, c .before .before .loop-test .taken), behind-keys (c .before .before .before .loop .inv) (c .before .before .loop-test .taken))
+place-requires c κs =
+    let at-loop-test = c .before .before in
+    let at-loop = at-loop-test .before in
+    let at-start = at-loop .before .before .before in (
+      own-key (at-start .pre) (at-loop .loop .inv) (at-loop-test .loop-test .taken),
+      omega (arith, at-loop .loop .inv .size, at-loop .loop .inv .upto, at-loop-test .loop-test .taken),
+      behind-keys (at-loop .loop .inv) (at-loop-test .loop-test .taken),
+    )
 
 loop-less : tie.Need-loop-less Inv-loop μ-loop
 loop-less c = search needs
 
 loop-again : tie.Need-loop-again Inv-loop μ-loop
-loop-again c = arrange-on (c .before .before .before .before .before .before .before .before .before .pre) (c .before .before .before .before .before .before .loop .inv) (omega (arith, c .before .before .before .before .before .loop-test .taken)) (c .before .before .place .ensures) (c .before .before .place .kept .1 .1 .0)
+loop-again c =
+    let at-loop-test = c .before .before .before .before .before in
+    let at-loop = at-loop-test .before in
+    let at-start = at-loop .before .before .before in
+    arrange-on (at-start .pre) (at-loop .loop .inv) (omega (arith, at-loop-test .loop-test .taken))
+    (c .before .before .place .ensures) (c .before .before .place .kept .1 .1 .0)
 
 same-length : tie.Need-same-length Inv-loop μ-loop
 same-length c = search needs

@@ -1,5 +1,6 @@
 -- Assumes nothing.
--- `label::sort::place` meets its contract. Invariant: the item is still to be put among those after j. The measure is the places left.
+-- `label::sort::place` meets its contract. Invariant: the item is
+-- still to be put among those after j. The measure is the places left.
 use borrow.Author.Needs.{needs}
 use Prim.Native.Nat.{_-_}
 use native.Mathlib.Omega.{arith}
@@ -30,7 +31,9 @@ slice-read-next : tie.Need-slice-read-next Inv-loop μ-loop
 slice-read-next c = search needs
 
 key-at-most-requires : tie.Need-key-at-most-requires Inv-loop μ-loop
-key-at-most-requires c κs = (c .before .before .before .before .before .pre .0, next-key (c .before .before .loop .inv) (c .before .loop-test .taken))
+key-at-most-requires c κs =
+    let at-start = c .before .before .before .before .before in
+    (at-start .pre .0, next-key (c .before .before .loop .inv) (c .before .loop-test .taken))
 
 mul-order : tie.Need-mul-order Inv-loop μ-loop
 mul-order c = search needs
@@ -42,7 +45,10 @@ same-length : tie.Need-same-length Inv-loop μ-loop
 same-length c = search needs
 
 returns : tie.Need-returns Inv-loop μ-loop
-returns c = place-here _ (c .before .before .before .before .loop .inv) (c .before .before .before .loop-test .taken) (c .before .key-at-most .ensures) (c .if1 .taken)
+returns c =
+    let at-loop-test = c .before .before .before in
+    let at-loop = at-loop-test .before in
+    place-here _ (at-loop .loop .inv) (at-loop-test .loop-test .taken) (c .before .key-at-most .ensures) (c .if1 .taken)
 
 mul-order-2 : tie.Need-mul-order-2 Inv-loop μ-loop
 mul-order-2 c = search needs
@@ -54,10 +60,16 @@ add-j : tie.Need-add-j Inv-loop μ-loop
 add-j c = search needs
 
 loop-less : tie.Need-loop-less Inv-loop μ-loop
-loop-less c = omega (arith, c .before .before .before .before .loop .inv .size, c .before .before .before .loop-test .taken)
+loop-less c =
+    let at-loop-test = c .before .before .before in
+    let at-loop = at-loop-test .before in
+    omega (arith, at-loop .loop .inv .size, at-loop-test .loop-test .taken)
 
 loop-again : tie.Need-loop-again Inv-loop μ-loop
-loop-again c = place-on _ (c .before .before .before .before .loop .inv) (c .before .before .before .loop-test .taken) (c .before .key-at-most .ensures) (c .if1 .left)
+loop-again c =
+    let at-loop-test = c .before .before .before in
+    let at-loop = at-loop-test .before in
+    place-on _ (at-loop .loop .inv) (at-loop-test .loop-test .taken) (c .before .key-at-most .ensures) (c .if1 .left)
 
 mul-order-3 : tie.Need-mul-order-3 Inv-loop μ-loop
 mul-order-3 c = search needs

@@ -1,4 +1,5 @@
--- `leaves::decimal::decimal_len` meets its contract. The loop's invariant: the digits counted and those of `left` are those of n, and one more. Assumes nothing.
+-- `leaves::decimal::decimal_len` meets its contract. The loop's invariant: the
+-- digits counted and those of `left` are those of n, and one more. Assumes nothing.
 use Prim.Native.Nat.{_+_, _≤_}
 use native.Mathlib.Omega.{arith}
 use mathlib.Core.Path.{_≡_, ap}
@@ -28,8 +29,10 @@ loop-again c = omega (arith, decimal-length _ (c .loop-test .taken))
 
 returns : tie.Need-returns Inv-loop μ-loop
 returns c =
-    let short· = decimal-short-64 _ (c .before .before .fits .n .fits) in
-    (omega (arith, ap length (decimal-last _ (c .loop-test .left))), omega (arith, ap length (decimal-last _ (c .loop-test .left))))
+    let short· = decimal-short-64 _ (c .before .before .fits .n .fits) in (
+      omega (arith, ap length (decimal-last _ (c .loop-test .left))),
+      omega (arith, ap length (decimal-last _ (c .loop-test .left))),
+    )
 
 pub decimal-len-spec : {M : Type 1} → statement M
 decimal-len-spec =

@@ -11,7 +11,10 @@ use Rattle.leaves.proofs.decimal.put_three_digits.Statement.{statement}
 use Rattle.leaves.proofs.decimal.put_three_digits.Tie as tie
 
 -- the run, before the first write
-begun : (c : tie.Start) → Run (now (c .args .out)) (now (c .args .out)) (c .args .at) (threeDigits (c .args .n)) (((48 + c .args .n / 100) ∷ []) ∷ ((48 + c .args .n / 10 % 10) ∷ []) ∷ ((48 + c .args .n % 10) ∷ []) ∷ []) (c .args .at)
+begun : (c : tie.Start)
+    → Run (now (c .args .out)) (now (c .args .out)) (c .args .at) (threeDigits (c .args .n))
+    (((48 + c .args .n / 100) ∷ []) ∷ ((48 + c .args .n / 10 % 10) ∷ []) ∷ ((48 + c .args .n % 10) ∷ []) ∷ [])
+    (c .args .at)
 unfolding threeDigits join
 begun c = start (c .pre .1) refl
 
@@ -32,8 +35,9 @@ cast-put-byte-2 c = search needs
 
 put-byte-requires-2 : tie.Need-put-byte-requires-2
 put-byte-requires-2 c κs =
-    let a = c .before .before .before in
-    fits (next (begun (a .before .before .before)) (a .put-byte .ensures))
+    let at-put-byte = c .before .before .before in
+    let at-start = at-put-byte .before .before .before in
+    fits (next (begun at-start) (at-put-byte .put-byte .ensures))
 
 add-put-byte-3 : tie.Need-add-put-byte-3
 add-put-byte-3 c = search needs
@@ -43,19 +47,22 @@ cast-put-byte-3 c = search needs
 
 put-byte-requires-3 : tie.Need-put-byte-requires-3
 put-byte-requires-3 c κs =
-    let b = c .before .before .before in
-    let a = b .before .before .before .before in
-    fits (next (next (begun (a .before .before .before)) (a .put-byte .ensures)) (b .put-byte2 .ensures))
+    let at-second-put-byte = c .before .before .before in
+    let at-put-byte = at-second-put-byte .before .before .before .before in
+    let at-start = at-put-byte .before .before .before in
+    fits (next (next (begun at-start) (at-put-byte .put-byte .ensures)) (at-second-put-byte .put-byte2 .ensures))
 
 same-length : tie.Need-same-length
 same-length c = search needs
 
 returns : tie.Need-returns
 returns c =
-    let d = c .before .before in
-    let b = d .before .before .before .before in
-    let a = b .before .before .before .before in
-    end (next (next (next (begun (a .before .before .before)) (a .put-byte .ensures)) (b .put-byte2 .ensures)) (d .put-byte3 .ensures))
+    let at-second-put-byte = c .before .before .before .before .before .before in
+    let at-put-byte = at-second-put-byte .before .before .before .before in
+    let at-start = at-put-byte .before .before .before in
+    end (next
+    (next (next (begun at-start) (at-put-byte .put-byte .ensures)) (at-second-put-byte .put-byte2 .ensures))
+    (c .before .before .put-byte3 .ensures))
 
 pub put-three-digits-spec : {M : Type 1} → statement M
 put-three-digits-spec =

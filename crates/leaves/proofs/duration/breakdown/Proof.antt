@@ -1,4 +1,5 @@
--- `leaves::duration::breakdown` meets its contract. The loop's invariant: the counts written, then those of what is left, are the answer. Assumes nothing.
+-- `leaves::duration::breakdown` meets its contract. The loop's invariant: the
+-- counts written, then those of what is left, are the answer. Assumes nothing.
 use Prim.Native.Nat.{_-_, _*_, _≤_}
 use native.Mathlib.Omega.{arith}
 use mathlib.Core.List.{_++_}
@@ -52,14 +53,12 @@ loop-less : tie.Need-loop-less Inv-loop μ-loop
 loop-less c = omega arith
 
 loop-again : tie.Need-loop-again Inv-loop μ-loop
-loop-again c =
-    let g = c .before .before in
-    let inv = g .loop .inv in (
-      countsOf-turn _ _ _ _ _ (c .before .loop-test .taken) (omega arith) (c .count-of .ensures) (inv .0),
-      simp length-set (inv .1),
-      omega arith,
-      omega arith,
-    )
+loop-again c = let inv = c .before .before .loop .inv in (
+  countsOf-turn _ _ _ _ _ (c .before .loop-test .taken) (omega arith) (c .count-of .ensures) (inv .0),
+  simp length-set (inv .1),
+  omega arith,
+  omega arith,
+)
 
 returns : tie.Need-returns Inv-loop μ-loop
 returns c = let inv = c .before .loop .inv in countsOf-end _ _ _ _ (c .loop-test .left) (omega arith) (inv .0)

@@ -16,16 +16,18 @@ add-result c = omega (arith, c .before .decimal-len .ensures)
 
 returns-2 : tie.Need-returns-2
 returns-2 c =
-    let s = c .before .before .before in
-    count-len-ms _ _ _ (s .fits .count .fits) (c .before .before .if1 .left) (s .pre) (c .if2 .taken) (c .before .decimal-len .ensures .0)
+    let at-start = c .before .before .before in
+    count-len-ms _ _ _ (at-start .fits .count .fits) (c .before .before .if1 .left) (at-start .pre) (c .if2 .taken)
+    (c .before .decimal-len .ensures .0)
 
 add-result-2 : tie.Need-add-result-2
 add-result-2 c = omega (arith, c .before .decimal-len .ensures)
 
 returns-3 : tie.Need-returns-3
 returns-3 c =
-    let s = c .before .before .before in
-    count-len-one _ _ _ (s .fits .count .fits) (c .before .before .if1 .left) (s .pre) (c .if2 .left) (c .before .decimal-len .ensures .0)
+    let at-start = c .before .before .before in
+    count-len-one _ _ _ (at-start .fits .count .fits) (c .before .before .if1 .left) (at-start .pre) (c .if2 .left)
+    (c .before .decimal-len .ensures .0)
 
 pub count-len-spec : {M : Type 1} → statement M
 count-len-spec =

@@ -1,4 +1,5 @@
--- `leaves::duration::duration_len` meets its contract. The loop's invariant: the sum and what is left come to the whole length; 22 at most for each unit. Assumes nothing.
+-- `leaves::duration::duration_len` meets its contract. The loop's invariant: the sum
+-- and what is left come to the whole length; 22 at most for each unit. Assumes nothing.
 use borrow.Author.Needs.{needs}
 use Prim.Native.Nat.{_+_, _-_, _*_, _≤_}
 use native.Mathlib.Omega.{arith}
@@ -6,13 +7,15 @@ use mathlib.Core.Path.{_≡_, sym, ap}
 use lib.ListN.{length, drop}
 use Rattle.base.proofs.SpliceLaws.{cut-length}
 use Rattle.leaves.specs.Duration.{units, displayCounts, displayDuration}
-use Rattle.leaves.proofs.DurationLaws.{displayCounts-next, displayCounts-end, durationCounts-seven, displayDuration-zero, displayDuration-counts}
+use Rattle.leaves.proofs.DurationLaws.{displayCounts-next, displayCounts-end, durationCounts-seven}
+use Rattle.leaves.proofs.DurationLaws.{displayDuration-zero, displayDuration-counts}
 use Rattle.leaves.proofs.duration.duration_len.Statement.{statement}
 use Rattle.leaves.proofs.duration.duration_len.Tie as tie
 
 abbrev Inv-loop : tie.InvT-loop
 Inv-loop ms counts sum₀ i₀ sum i =
-    (sum + length (displayCounts (drop i units) (drop i counts)) ≡ length (displayDuration ms)) × (sum ≤ 22 * i) × (i ≤ 7)
+    (sum + length (displayCounts (drop i units) (drop i counts)) ≡ length (displayDuration ms)) × (sum ≤ 22 * i)
+    × (i ≤ 7)
 
 abbrev μ-loop : tie.MeasureT-loop
 μ-loop ms counts sum₀ i₀ sum i = 7 - i
@@ -46,9 +49,11 @@ loop-less c = omega arith
 
 loop-again : tie.Need-loop-again Inv-loop μ-loop
 loop-again c =
-    let t = c .before in
-    let b = t .before .before .breakdown in
-    let next = cut-length (displayCounts-next (b .result) (t .before .loop .i) (omega (arith, durationCounts-seven _ _ (b .ensures))) (t .loop-test .taken)) in
+    let at-breakdown = c .before .before .before in
+    let b = at-breakdown .breakdown in
+    let next = cut-length
+    (displayCounts-next (b .result) (c .before .before .loop .i)
+    (omega (arith, durationCounts-seven _ _ (b .ensures))) (c .before .loop-test .taken)) in
     omega arith
 
 returns-2 : tie.Need-returns-2 Inv-loop μ-loop

@@ -10,25 +10,31 @@ returns : tie.Need-returns
 returns c = finish (begin _ _ _ (c .before .before .pre .1)) (displayCount-none _ _ (c .if1 .taken))
 
 put-decimal-requires : tie.Need-put-decimal-requires
-put-decimal-requires c κs = first _ _ (c .before .before .before .pre .1) (displayCount-some _ _ (c .before .if1 .left))
+put-decimal-requires c κs =
+    let at-start = c .before .before .before in
+    first _ _ (at-start .pre .1) (displayCount-some _ _ (c .before .if1 .left))
 
 put-unit-requires : tie.Need-put-unit-requires
 put-unit-requires c κs =
-    let w = c .before .before .before in
-    let t = w .before .before in
-    let s = t .before .before in
-    (s .pre .0, room (step (begin _ _ _ (s .pre .1)) (displayCount-some _ _ (t .if1 .left)) (w .put-decimal .ensures)) (cut-last _))
+    let at-put-decimal = c .before .before .before in
+    let at-if = at-put-decimal .before .before in
+    let at-start = at-if .before .before in (
+      at-start .pre .0,
+      room (step (begin _ _ _ (at-start .pre .1)) (displayCount-some _ _ (at-if .if1 .left))
+          (at-put-decimal .put-decimal .ensures)) (cut-last _),
+    )
 
 same-length : tie.Need-same-length
 same-length c = search needs
 
 returns-2 : tie.Need-returns-2
 returns-2 c =
-    let w = c .before .before .before .before .before .before in
-    let t = w .before .before in
-    let s = t .before .before in
+    let at-put-decimal = c .before .before .before .before .before .before in
+    let at-if = at-put-decimal .before .before in
+    let at-start = at-if .before .before in
     finish
-    (step (step (begin _ _ _ (s .pre .1)) (displayCount-some _ _ (t .if1 .left)) (w .put-decimal .ensures)) (cut-last _) (c .before .before .put-unit .ensures))
+    (step (step (begin _ _ _ (at-start .pre .1)) (displayCount-some _ _ (at-if .if1 .left))
+    (at-put-decimal .put-decimal .ensures)) (cut-last _) (c .before .before .put-unit .ensures))
     refl
 
 pub put-count-spec : {M : Type 1} → statement M

@@ -10,24 +10,28 @@ array-read-put-byte : tie.Need-array-read-put-byte
 array-read-put-byte c = search needs
 
 put-byte-requires : tie.Need-put-byte-requires
-put-byte-requires c κs = let s = c .before .before in first _ _ (s .pre .1) (tabled _ (s .pre .0) .name)
+put-byte-requires c κs = first _ _ (c .before .before .pre .1) (tabled _ (c .before .before .pre .0) .name)
 
 put-byte-requires-2 : tie.Need-put-byte-requires-2
 put-byte-requires-2 c κs =
-    let w = c .before .before .before .before in
-    let s = w .before .before .before in
-    room (step (begin _ _ _ (s .pre .1)) (tabled _ (s .pre .0) .name) (w .put-byte .ensures)) (behindLetter-ms _ (c .before .if1 .taken))
+    let at-put-byte = c .before .before .before .before in
+    let at-start = at-put-byte .before .before .before in
+    room
+    (step (begin _ _ _ (at-start .pre .1)) (tabled _ (at-start .pre .0) .name) (at-put-byte .put-byte .ensures))
+    (behindLetter-ms _ (c .before .if1 .taken))
 
 same-length : tie.Need-same-length
 same-length c = search needs
 
 returns : tie.Need-returns
 returns c =
-    let t = c .before .before .before .before in
-    let w = t .before .before .before in
-    let s = w .before .before .before in
+    let at-if = c .before .before .before .before in
+    let at-put-byte = at-if .before .before .before in
+    let at-start = at-put-byte .before .before .before in
     finish
-    (step (step (begin _ _ _ (s .pre .1)) (tabled _ (s .pre .0) .name) (w .put-byte .ensures)) (behindLetter-ms _ (t .if1 .taken)) (c .before .before .put-byte2 .ensures))
+    (step
+    (step (begin _ _ _ (at-start .pre .1)) (tabled _ (at-start .pre .0) .name) (at-put-byte .put-byte .ensures))
+    (behindLetter-ms _ (at-if .if1 .taken)) (c .before .before .put-byte2 .ensures))
     refl
 
 same-length-2 : tie.Need-same-length-2
@@ -35,9 +39,11 @@ same-length-2 c = search needs
 
 returns-2 : tie.Need-returns-2
 returns-2 c =
-    let w = c .before .before .before in
-    let s = w .before .before .before in
-    finish (step (begin _ _ _ (s .pre .1)) (tabled _ (s .pre .0) .name) (w .put-byte .ensures)) (behindLetter-none _ (c .if1 .left))
+    let at-put-byte = c .before .before .before in
+    let at-start = at-put-byte .before .before .before in
+    finish
+    (step (begin _ _ _ (at-start .pre .1)) (tabled _ (at-start .pre .0) .name) (at-put-byte .put-byte .ensures))
+    (behindLetter-none _ (c .if1 .left))
 
 pub put-unit-spec : {M : Type 1} → statement M
 put-unit-spec =

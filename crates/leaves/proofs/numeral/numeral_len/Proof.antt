@@ -1,7 +1,8 @@
 -- `leaves::numeral::numeral_len` meets its contract, form by form. Assumes nothing.
 use borrow.Author.Needs.{needs}
 use native.Mathlib.Omega.{arith}
-use Rattle.leaves.proofs.NumeralLaws.{measured-whole, measured-negative, measured-nan, measured-inf, measured-neg-inf}
+use Rattle.leaves.proofs.NumeralLaws.{measured-whole, measured-negative, measured-nan, measured-inf}
+use Rattle.leaves.proofs.NumeralLaws.{measured-neg-inf}
 use Rattle.leaves.proofs.numeral.numeral_len.Statement.{statement}
 use Rattle.leaves.proofs.numeral.numeral_len.Tie as tie
 

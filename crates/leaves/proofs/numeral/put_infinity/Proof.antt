@@ -7,25 +7,33 @@ slice-aggregate-put-bytes : tie.Need-slice-aggregate-put-bytes
 slice-aggregate-put-bytes c = search needs
 
 put-bytes-requires : tie.Need-put-bytes-requires
-put-bytes-requires c κs = rw (c .before .before .if1 .taken) at (c .before .before .before .before .pre)
+put-bytes-requires c κs =
+    let at-start = c .before .before .before .before in
+    rw (c .before .before .if1 .taken) at (at-start .pre)
 
 same-length : tie.Need-same-length
 same-length c = search needs
 
 returns : tie.Need-returns
-returns c = rw (c .before .before .before .before .before .if1 .taken) (c .before .before .put-bytes .ensures)
+returns c =
+    let at-if = c .before .before .before .before .before in
+    rw (at-if .if1 .taken) (c .before .before .put-bytes .ensures)
 
 slice-aggregate-put-bytes-2 : tie.Need-slice-aggregate-put-bytes-2
 slice-aggregate-put-bytes-2 c = search needs
 
 put-bytes-requires-2 : tie.Need-put-bytes-requires-2
-put-bytes-requires-2 c κs = rw (c .before .before .if1 .left) at (c .before .before .before .before .pre)
+put-bytes-requires-2 c κs =
+    let at-start = c .before .before .before .before in
+    rw (c .before .before .if1 .left) at (at-start .pre)
 
 same-length-2 : tie.Need-same-length-2
 same-length-2 c = search needs
 
 returns-2 : tie.Need-returns-2
-returns-2 c = rw (c .before .before .before .before .before .if1 .left) (c .before .before .put-bytes2 .ensures)
+returns-2 c =
+    let at-if = c .before .before .before .before .before in
+    rw (at-if .if1 .left) (c .before .before .put-bytes2 .ensures)
 
 pub put-infinity-spec : {M : Type 1} → statement M
 put-infinity-spec =

@@ -2,7 +2,8 @@
 use borrow.Author.Needs.{needs}
 use mathlib.Core.Path.{refl}
 use Rattle.base.proofs.SpliceLaws.{begin, first, room, step, finish, cut-last}
-use Rattle.leaves.proofs.NumeralLaws.{displayNumber-whole, displayNumber-negative, displayNumber-nan, displayNumber-inf, displayNumber-neg-inf}
+use Rattle.leaves.proofs.NumeralLaws.{displayNumber-whole, displayNumber-negative, displayNumber-nan}
+use Rattle.leaves.proofs.NumeralLaws.{displayNumber-inf, displayNumber-neg-inf}
 use Rattle.leaves.proofs.numeral.put_numeral.Statement.{statement}
 use Rattle.leaves.proofs.numeral.put_numeral.Tie as tie
 
@@ -10,16 +11,25 @@ enum-known-literal : tie.Need-enum-known-literal
 enum-known-literal c = search needs
 
 put-decimal-requires : tie.Need-put-decimal-requires
-put-decimal-requires c κs = rw (displayNumber-whole _ _ _ (c .before .before .literal .given .1)) at (c .before .before .before .before .before .pre)
+put-decimal-requires c κs =
+    let at-start = c .before .before .before .before .before in
+    rw (displayNumber-whole _ _ _ (c .before .before .literal .given .1)) at (at-start .pre)
 
 enum-known-literal-2 : tie.Need-enum-known-literal-2
 enum-known-literal-2 c = search needs
 
 put-byte-requires : tie.Need-put-byte-requires
-put-byte-requires c κs = first _ _ (c .before .before .before .before .before .pre) (displayNumber-negative _ _ _ (c .before .before .literal2 .given .1))
+put-byte-requires c κs =
+    let at-start = c .before .before .before .before .before in
+    first _ _ (at-start .pre) (displayNumber-negative _ _ _ (c .before .before .literal2 .given .1))
 
 put-decimal-requires-2 : tie.Need-put-decimal-requires-2
-put-decimal-requires-2 c κs = room (step (begin _ _ _ (c .before .before .before .before .before .before .before .before .before .pre)) (displayNumber-negative _ _ _ (c .before .before .before .before .before .before .literal2 .given .1)) (c .before .before .before .put-byte .ensures)) (cut-last _)
+put-decimal-requires-2 c κs =
+    let at-put-byte = c .before .before .before in
+    let at-second-literal = at-put-byte .before .before .before in
+    let at-start = at-second-literal .before .before .before in
+    room (step (begin _ _ _ (at-start .pre)) (displayNumber-negative _ _ _ (at-second-literal .literal2 .given .1))
+    (at-put-byte .put-byte .ensures)) (cut-last _)
 
 enum-told : tie.Need-enum-told
 enum-told c = search needs
@@ -28,52 +38,81 @@ slice-aggregate-put-bytes : tie.Need-slice-aggregate-put-bytes
 slice-aggregate-put-bytes c = search needs
 
 put-bytes-requires : tie.Need-put-bytes-requires
-put-bytes-requires c κs = rw (displayNumber-nan _ _ (c .before .before .enum-told .given .1)) at (c .before .before .before .before .before .pre)
+put-bytes-requires c κs =
+    let at-start = c .before .before .before .before .before in
+    rw (displayNumber-nan _ _ (c .before .before .enum-told .given .1)) at (at-start .pre)
 
 enum-told-2 : tie.Need-enum-told-2
 enum-told-2 c = search needs
 
 put-infinity-requires : tie.Need-put-infinity-requires
-put-infinity-requires c κs = rw (displayNumber-inf _ _ (c .before .enum-told2 .given .1)) at (c .before .before .before .before .pre)
+put-infinity-requires c κs =
+    let at-start = c .before .before .before .before in
+    rw (displayNumber-inf _ _ (c .before .enum-told2 .given .1)) at (at-start .pre)
 
 enum-told-3 : tie.Need-enum-told-3
 enum-told-3 c = search needs
 
 put-byte-requires-2 : tie.Need-put-byte-requires-2
-put-byte-requires-2 c κs = first _ _ (c .before .before .before .before .pre) (displayNumber-neg-inf _ _ (c .before .enum-told3 .given .1))
+put-byte-requires-2 c κs =
+    let at-start = c .before .before .before .before in
+    first _ _ (at-start .pre) (displayNumber-neg-inf _ _ (c .before .enum-told3 .given .1))
 
 put-infinity-requires-2 : tie.Need-put-infinity-requires-2
-put-infinity-requires-2 c κs = room (step (begin _ _ _ (c .before .before .before .before .before .before .before .before .pre)) (displayNumber-neg-inf _ _ (c .before .before .before .before .before .enum-told3 .given .1)) (c .before .before .before .put-byte2 .ensures)) (cut-last _)
+put-infinity-requires-2 c κs =
+    let at-second-put-byte = c .before .before .before in
+    let at-third-told = at-second-put-byte .before .before in
+    let at-start = at-third-told .before .before .before in
+    room (step (begin _ _ _ (at-start .pre)) (displayNumber-neg-inf _ _ (at-third-told .enum-told3 .given .1))
+    (at-second-put-byte .put-byte2 .ensures)) (cut-last _)
 
 same-length : tie.Need-same-length
 same-length c = search needs
 
 returns : tie.Need-returns
-returns c = rw (displayNumber-whole _ _ _ (c .before .before .before .before .before .literal .given .1)) (c .before .before .put-decimal .ensures)
+returns c =
+    let at-literal = c .before .before .before .before .before in
+    rw (displayNumber-whole _ _ _ (at-literal .literal .given .1)) (c .before .before .put-decimal .ensures)
 
 same-length-2 : tie.Need-same-length-2
 same-length-2 c = search needs
 
 returns-2 : tie.Need-returns-2
-returns-2 c = finish (step (step (begin _ _ _ (c .before .before .before .before .before .before .before .before .before .before .before .before .pre)) (displayNumber-negative _ _ _ (c .before .before .before .before .before .before .before .before .before .literal2 .given .1)) (c .before .before .before .before .before .before .put-byte .ensures)) (cut-last _) (c .before .before .put-decimal2 .ensures)) refl
+returns-2 c =
+    let at-put-byte = c .before .before .before .before .before .before in
+    let at-second-literal = at-put-byte .before .before .before in
+    let at-start = at-second-literal .before .before .before in
+    finish (step (step (begin _ _ _ (at-start .pre))
+    (displayNumber-negative _ _ _ (at-second-literal .literal2 .given .1)) (at-put-byte .put-byte .ensures))
+    (cut-last _) (c .before .before .put-decimal2 .ensures)) refl
 
 same-length-3 : tie.Need-same-length-3
 same-length-3 c = search needs
 
 returns-3 : tie.Need-returns-3
-returns-3 c = rw (displayNumber-nan _ _ (c .before .before .before .before .before .enum-told .given .1)) (c .before .before .put-bytes .ensures)
+returns-3 c =
+    let at-told = c .before .before .before .before .before in
+    rw (displayNumber-nan _ _ (at-told .enum-told .given .1)) (c .before .before .put-bytes .ensures)
 
 same-length-4 : tie.Need-same-length-4
 same-length-4 c = search needs
 
 returns-4 : tie.Need-returns-4
-returns-4 c = rw (displayNumber-inf _ _ (c .before .before .before .before .enum-told2 .given .1)) (c .before .before .put-infinity .ensures)
+returns-4 c =
+    let at-second-told = c .before .before .before .before in
+    rw (displayNumber-inf _ _ (at-second-told .enum-told2 .given .1)) (c .before .before .put-infinity .ensures)
 
 same-length-5 : tie.Need-same-length-5
 same-length-5 c = search needs
 
 returns-5 : tie.Need-returns-5
-returns-5 c = finish (step (step (begin _ _ _ (c .before .before .before .before .before .before .before .before .before .before .before .pre)) (displayNumber-neg-inf _ _ (c .before .before .before .before .before .before .before .before .enum-told3 .given .1)) (c .before .before .before .before .before .before .put-byte2 .ensures)) (cut-last _) (c .before .before .put-infinity2 .ensures)) refl
+returns-5 c =
+    let at-second-put-byte = c .before .before .before .before .before .before in
+    let at-third-told = at-second-put-byte .before .before in
+    let at-start = at-third-told .before .before .before in
+    finish (step (step (begin _ _ _ (at-start .pre))
+    (displayNumber-neg-inf _ _ (at-third-told .enum-told3 .given .1)) (at-second-put-byte .put-byte2 .ensures))
+    (cut-last _) (c .before .before .put-infinity2 .ensures)) refl
 
 pub put-numeral-spec : {M : Type 1} → statement M
 put-numeral-spec =

@@ -28,7 +28,13 @@ returns-6 : tie.Need-returns-6
 unfolding escapeByte escapeWith
 returns-6 c =
     let r = c .match .rest in
-    simp (ne-eqb _ _ (r .1), ne-eqb _ _ (r .0 .1), ne-eqb _ _ (r .0 .0 .1), ne-eqb _ _ (r .0 .0 .0 .1), ne-eqb _ _ (r .0 .0 .0 .0 .1))
+    simp (
+      ne-eqb _ _ (r .1),
+      ne-eqb _ _ (r .0 .1),
+      ne-eqb _ _ (r .0 .0 .1),
+      ne-eqb _ _ (r .0 .0 .0 .1),
+      ne-eqb _ _ (r .0 .0 .0 .0 .1),
+    )
 
 pub escape-letter-spec : {M : Type 1} → statement M
 escape-letter-spec = tie.close (tie.spec returns returns-2 returns-3 returns-4 returns-5 returns-6)

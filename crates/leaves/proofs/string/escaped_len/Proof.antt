@@ -1,4 +1,5 @@
--- `leaves::string::escaped_len` meets its contract. The loop's invariant: the count and what is left come to the whole length; two at most for each byte. Assumes nothing.
+-- `leaves::string::escaped_len` meets its contract. The loop's invariant: the count and
+-- what is left come to the whole length; two at most for each byte. Assumes nothing.
 use borrow.Author.Needs.{needs}
 use denote.Ref.{now}
 use Prim.Native.Nat.{_+_, _-_, _*_, _≤_}
@@ -12,7 +13,8 @@ use Rattle.leaves.proofs.string.escaped_len.Statement.{statement}
 use Rattle.leaves.proofs.string.escaped_len.Tie as tie
 
 abbrev Inv-loop : tie.InvT-loop
-Inv-loop text count₀ i₀ count i = (count + length (escape (drop i text)) ≡ length (escape text)) × (count ≤ 2 * i) × (i ≤ length text)
+Inv-loop text count₀ i₀ count i =
+    (count + length (escape (drop i text)) ≡ length (escape text)) × (count ≤ 2 * i) × (i ≤ length text)
 
 abbrev μ-loop : tie.MeasureT-loop
 μ-loop text count₀ i₀ count i = length text - i
@@ -40,14 +42,22 @@ loop-less c = search needs
 
 loop-again : tie.Need-loop-again Inv-loop μ-loop
 loop-again c =
-    let b = c .before in
-    let h = b .before .before in
-    let l = now (h .before .before .before .args .text) in
-    ⊎-elim (λ w. omega (arith, escape-adds-one l _ _ (h .loop-test .taken) (b .escape-letter .ensures) (w .0 .taken)))
-    (λ w. omega (arith, escape-adds-two l _ _ (h .loop-test .taken) (b .escape-letter .ensures) (w .0 .left))) (c .if1 .came)
+    let at-loop-test = c .before .before .before in
+    let at-start = at-loop-test .before .before .before in
+    let l = now (at-start .args .text) in
+    ⊎-elim (λ w. omega (
+      arith,
+      escape-adds-one l _ _ (at-loop-test .loop-test .taken) (c .before .escape-letter .ensures) (w .0 .taken),
+    ))
+    (λ w. omega (
+      arith,
+      escape-adds-two l _ _ (at-loop-test .loop-test .taken) (c .before .escape-letter .ensures) (w .0 .left),
+    )) (c .if1 .came)
 
 returns : tie.Need-returns Inv-loop μ-loop
-returns c = omega (arith, ap length (escape-end (now (c .before .before .before .args .text)) _ (c .loop-test .left)))
+returns c =
+    let at-start = c .before .before .before in
+    omega (arith, ap length (escape-end (now (at-start .args .text)) _ (c .loop-test .left)))
 
 pub escaped-len-spec : {M : Type 1} → statement M
 escaped-len-spec =

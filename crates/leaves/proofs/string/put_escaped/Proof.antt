@@ -1,4 +1,5 @@
--- `leaves::string::put_escaped` meets its contract. The loop's invariant: what is left of the text, escaped, is left to be written. Assumes nothing.
+-- `leaves::string::put_escaped` meets its contract. The loop's invariant:
+-- what is left of the text, escaped, is left to be written. Assumes nothing.
 use borrow.Author.Needs.{needs}
 use Prim.Native.Nat.{_-_}
 use lib.ListN.{length, drop}
@@ -21,7 +22,9 @@ shared-slice-read-put-escaped-byte : tie.Need-shared-slice-read-put-escaped-byte
 shared-slice-read-put-escaped-byte c = search needs
 
 put-escaped-byte-requires : tie.Need-put-escaped-byte-requires Inv-loop μ-loop
-put-escaped-byte-requires c κs = room (c .before .before .before .loop .inv) (escape-next _ _ (c .before .before .loop-test .taken))
+put-escaped-byte-requires c κs =
+    let at-loop = c .before .before .before in
+    room (at-loop .loop .inv) (escape-next _ _ (c .before .before .loop-test .taken))
 
 add-i : tie.Need-add-i Inv-loop μ-loop
 add-i c = search needs
@@ -31,8 +34,10 @@ loop-less c = search needs
 
 loop-again : tie.Need-loop-again Inv-loop μ-loop
 loop-again c =
-    let h = c .before .before .before .before .before in
-    step (h .before .loop .inv) (escape-next _ _ (h .loop-test .taken)) (c .before .before .put-escaped-byte .ensures)
+    let at-loop-test = c .before .before .before .before .before in
+    let at-loop = at-loop-test .before in
+    step (at-loop .loop .inv) (escape-next _ _ (at-loop-test .loop-test .taken))
+    (c .before .before .put-escaped-byte .ensures)
 
 same-length : tie.Need-same-length Inv-loop μ-loop
 same-length c = search needs

@@ -13,38 +13,51 @@ escape-letter-requires c κs = search needs
 
 put-byte-requires : tie.Need-put-byte-requires
 put-byte-requires c κs =
-    let e = c .before .before in
-    omega (arith, ap length (escapeByte-stands _ _ (e .escape-letter .ensures) (c .before .if1 .taken)), e .before .before .pre)
+    let at-start = c .before .before .before .before in
+    omega (
+      arith,
+      ap length (escapeByte-stands _ _ (c .before .before .escape-letter .ensures) (c .before .if1 .taken)),
+      at-start .pre,
+    )
 
 same-length : tie.Need-same-length
 same-length c = search needs
 
 returns : tie.Need-returns
 returns c =
-    let t = c .before .before .before .before in
-    rw (escapeByte-stands _ _ (t .before .escape-letter .ensures) (t .if1 .taken)) (c .before .before .put-byte .ensures)
+    let at-if = c .before .before .before .before in
+    let at-escape-letter = at-if .before in
+    rw (escapeByte-stands _ _ (at-escape-letter .escape-letter .ensures) (at-if .if1 .taken))
+    (c .before .before .put-byte .ensures)
 
 put-byte-requires-2 : tie.Need-put-byte-requires-2
 put-byte-requires-2 c κs =
-    let e = c .before .before in
-    first _ _ (e .before .before .pre) (escapeByte-letter _ _ (e .escape-letter .ensures) (c .before .if1 .left))
+    let at-start = c .before .before .before .before in
+    first _ _ (at-start .pre) (escapeByte-letter _ _ (c .before .before .escape-letter .ensures) (c .before .if1 .left))
 
 put-byte-requires-3 : tie.Need-put-byte-requires-3
 put-byte-requires-3 c κs =
-    let t = c .before .before .before .before .before in
-    let e = t .before in
-    room (step (begin _ _ _ (e .before .before .pre)) (escapeByte-letter _ _ (e .escape-letter .ensures) (t .if1 .left)) (c .before .before .before .put-byte2 .ensures)) (cut-last _)
+    let at-second-put-byte = c .before .before .before in
+    let at-if = at-second-put-byte .before .before in
+    let at-escape-letter = at-if .before in
+    let at-start = at-escape-letter .before .before in
+    room (step (begin _ _ _ (at-start .pre))
+    (escapeByte-letter _ _ (at-escape-letter .escape-letter .ensures) (at-if .if1 .left))
+    (at-second-put-byte .put-byte2 .ensures)) (cut-last _)
 
 same-length-2 : tie.Need-same-length-2
 same-length-2 c = search needs
 
 returns-2 : tie.Need-returns-2
 returns-2 c =
-    let w = c .before .before .before .before .before .before in
-    let t = w .before .before in
-    let e = t .before in
+    let at-second-put-byte = c .before .before .before .before .before .before in
+    let at-if = at-second-put-byte .before .before in
+    let at-escape-letter = at-if .before in
+    let at-start = at-escape-letter .before .before in
     finish
-    (step (step (begin _ _ _ (e .before .before .pre)) (escapeByte-letter _ _ (e .escape-letter .ensures) (t .if1 .left)) (w .put-byte2 .ensures)) (cut-last _)
+    (step (step (begin _ _ _ (at-start .pre))
+    (escapeByte-letter _ _ (at-escape-letter .escape-letter .ensures) (at-if .if1 .left))
+    (at-second-put-byte .put-byte2 .ensures)) (cut-last _)
     (c .before .before .put-byte3 .ensures))
     refl
 

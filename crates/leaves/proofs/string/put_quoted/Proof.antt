@@ -17,19 +17,33 @@ unfolding join quote
 begun s = start (s .pre) (refl)
 
 put-byte-requires : tie.Need-put-byte-requires
-put-byte-requires c κs = fits (begun (c .before .before .before))
+put-byte-requires c κs =
+    let at-start = c .before .before .before in
+    fits (begun at-start)
 
 put-escaped-requires : tie.Need-put-escaped-requires
-put-escaped-requires c κs = fits (next (begun (c .before .before .before .before .before .before .before)) (c .before .before .before .put-byte .ensures))
+put-escaped-requires c κs =
+    let at-put-byte = c .before .before .before in
+    let at-start = at-put-byte .before .before .before .before in
+    fits (next (begun at-start) (at-put-byte .put-byte .ensures))
 
 put-byte-requires-2 : tie.Need-put-byte-requires-2
-put-byte-requires-2 c κs = fits (next (next (begun (c .before .before .before .before .before .before .before .before .before .before .before)) (c .before .before .before .before .before .before .before .put-byte .ensures)) (c .before .before .before .put-escaped .ensures))
+put-byte-requires-2 c κs =
+    let at-put-escaped = c .before .before .before in
+    let at-put-byte = at-put-escaped .before .before .before .before in
+    let at-start = at-put-byte .before .before .before .before in
+    fits (next (next (begun at-start) (at-put-byte .put-byte .ensures)) (at-put-escaped .put-escaped .ensures))
 
 same-length : tie.Need-same-length
 same-length c = search needs
 
 returns : tie.Need-returns
-returns c = end (next (next (next (begun (c .before .before .before .before .before .before .before .before .before .before .before .before .before .before)) (c .before .before .before .before .before .before .before .before .before .before .put-byte .ensures)) (c .before .before .before .before .before .before .put-escaped .ensures)) (c .before .before .put-byte2 .ensures))
+returns c =
+    let at-put-escaped = c .before .before .before .before .before .before in
+    let at-put-byte = at-put-escaped .before .before .before .before in
+    let at-start = at-put-byte .before .before .before .before in
+    end (next (next (next (begun at-start) (at-put-byte .put-byte .ensures)) (at-put-escaped .put-escaped .ensures))
+    (c .before .before .put-byte2 .ensures))
 
 pub put-quoted-spec : {M : Type 1} → statement M
 put-quoted-spec =

@@ -13,7 +13,9 @@ capped-add-requires : tie.Need-capped-add-requires
 capped-add-requires c κs = search needs
 
 returns : tie.Need-returns
-returns c = omega (arith, c .capped-add .ensures, c .before .escaped-len .ensures, length-quote (now (c .before .before .before .args .text)))
+returns c =
+    let at-start = c .before .before .before in
+    omega (arith, c .capped-add .ensures, c .before .escaped-len .ensures, length-quote (now (at-start .args .text)))
 
 pub quoted-len-spec : {M : Type 1} → statement M
 quoted-len-spec = tie.close (tie.spec escaped-len-requires capped-add-requires returns)

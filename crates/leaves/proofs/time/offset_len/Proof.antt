@@ -24,7 +24,8 @@ returns : tie.Need-returns
 returns c = rw (displayOffset-pos _ _ (c .before .before .offset .given .1)) (omega (arith, c .duration-len .ensures))
 
 returns-2 : tie.Need-returns-2
-returns-2 c = rw (displayOffset-neg _ _ (c .before .before .offset2 .given .1) .is) (omega (arith, c .duration-len2 .ensures))
+returns-2 c =
+    rw (displayOffset-neg _ _ (c .before .before .offset2 .given .1) .is) (omega (arith, c .duration-len2 .ensures))
 
 pub offset-len-spec : {M : Type 1} → statement M
 offset-len-spec =

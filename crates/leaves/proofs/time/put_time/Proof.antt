@@ -22,22 +22,47 @@ slice-aggregate-put-bytes : tie.Need-slice-aggregate-put-bytes
 slice-aggregate-put-bytes c = search needs
 
 put-bytes-requires : tie.Need-put-bytes-requires
-put-bytes-requires c κs = fits (begun (c .before .before .before))
+put-bytes-requires c κs =
+    let at-start = c .before .before .before in
+    fits (begun at-start)
 
 put-decimal-requires : tie.Need-put-decimal-requires
-put-decimal-requires c κs = fits (next (begun (c .before .before .before .before .before .before .before)) (c .before .before .before .put-bytes .ensures))
+put-decimal-requires c κs =
+    let at-put-bytes = c .before .before .before in
+    let at-start = at-put-bytes .before .before .before .before in
+    fits (next (begun at-start) (at-put-bytes .put-bytes .ensures))
 
 put-byte-requires : tie.Need-put-byte-requires
-put-byte-requires c κs = fits (next (next (begun (c .before .before .before .before .before .before .before .before .before .before .before)) (c .before .before .before .before .before .before .before .put-bytes .ensures)) (c .before .before .before .put-decimal .ensures))
+put-byte-requires c κs =
+    let at-put-decimal = c .before .before .before in
+    let at-put-bytes = at-put-decimal .before .before .before .before in
+    let at-start = at-put-bytes .before .before .before .before in
+    fits (next (next (begun at-start) (at-put-bytes .put-bytes .ensures)) (at-put-decimal .put-decimal .ensures))
 
 put-three-digits-requires : tie.Need-put-three-digits-requires
-put-three-digits-requires c κs = (omega arith, fits (next (next (next (begun (c .before .before .before .before .before .before .before .before .before .before .before .before .before .before .before)) (c .before .before .before .before .before .before .before .before .before .before .before .put-bytes .ensures)) (c .before .before .before .before .before .before .before .put-decimal .ensures)) (c .before .before .before .put-byte .ensures)))
+put-three-digits-requires c κs =
+    let at-put-byte = c .before .before .before in
+    let at-put-decimal = at-put-byte .before .before .before .before in
+    let at-put-bytes = at-put-decimal .before .before .before .before in
+    let at-start = at-put-bytes .before .before .before .before in (
+      omega arith,
+      fits (next
+          (next (next (begun at-start) (at-put-bytes .put-bytes .ensures)) (at-put-decimal .put-decimal .ensures))
+          (at-put-byte .put-byte .ensures)),
+    )
 
 same-length : tie.Need-same-length
 same-length c = search needs
 
 returns : tie.Need-returns
-returns c = end (next (next (next (next (begun (c .before .before .before .before .before .before .before .before .before .before .before .before .before .before .before .before .before .before)) (c .before .before .before .before .before .before .before .before .before .before .before .before .before .before .put-bytes .ensures)) (c .before .before .before .before .before .before .before .before .before .before .put-decimal .ensures)) (c .before .before .before .before .before .before .put-byte .ensures)) (c .before .before .put-three-digits .ensures))
+returns c =
+    let at-put-byte = c .before .before .before .before .before .before in
+    let at-put-decimal = at-put-byte .before .before .before .before in
+    let at-put-bytes = at-put-decimal .before .before .before .before in
+    let at-start = at-put-bytes .before .before .before .before in
+    end (next (next
+    (next (next (begun at-start) (at-put-bytes .put-bytes .ensures)) (at-put-decimal .put-decimal .ensures))
+    (at-put-byte .put-byte .ensures)) (c .before .before .put-three-digits .ensures))
 
 pub put-time-spec : {M : Type 1} → statement M
 put-time-spec =

@@ -23,8 +23,9 @@ same-length c = search needs
 returns : tie.Need-returns
 unfolding kindName
 returns c =
-    let start = c .before .before .before .before .before .before .before in
-    does-as (now (start .args .out)) (nameAt-run kindNames (start .args .number)) (c .before .before .write-name .ensures)
+    let at-start = c .before .before .before .before .before .before .before in
+    does-as (now (at-start .args .out)) (nameAt-run kindNames (at-start .args .number))
+    (c .before .before .write-name .ensures)
 
 pub kind-name-spec : {M : Type 1} → statement M
 kind-name-spec =

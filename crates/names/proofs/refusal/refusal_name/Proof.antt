@@ -23,8 +23,9 @@ same-length c = search needs
 returns : tie.Need-returns
 unfolding refusalName
 returns c =
-    let start = c .before .before .before .before .before .before .before in
-    does-as (now (start .args .out)) (nameAt-run refusalNames (start .args .number)) (c .before .before .write-name .ensures)
+    let at-start = c .before .before .before .before .before .before .before in
+    does-as (now (at-start .args .out)) (nameAt-run refusalNames (at-start .args .number))
+    (c .before .before .write-name .ensures)
 
 pub refusal-name-spec : {M : Type 1} → statement M
 refusal-name-spec =

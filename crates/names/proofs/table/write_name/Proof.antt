@@ -18,28 +18,40 @@ abbrev name : tie.Start → List ℕ
 name start = nameAt (now (start .args .letters)) (now (start .args .starts)) (start .args .number)
 
 -- where both its ends are read: it lies within the letters, and is what stands there
-here : (c : tie.After-wide2) → let start = c .before .before .before .before .before .before .before .before in
-    Placed (now (start .args .letters)) (c .before .before .wide .result) (c .wide2 .result)
+here : (c : tie.After-wide2) →
+    let at-start = c .before .before .before .before .before .before .before .before in
+    Placed (now (at-start .args .letters)) (c .before .before .wide .result) (c .wide2 .result)
 here c =
-    let at-test = c .before .before .before .before in
-    let start = at-test .before .before .before .before in
-    rw (c .before .before .wide .ensures, c .wide2 .ensures) (placed (now (start .args .letters)) (now (start .args .starts)) (start .args .number) (start .pre) (at-test .if1 .left))
+    let at-first-if = c .before .before .before .before in
+    let at-start = at-first-if .before .before .before .before in
+    rw (c .before .before .wide .ensures, c .wide2 .ensures)
+    (placed (now (at-start .args .letters)) (now (at-start .args .starts)) (at-start .args .number)
+    (at-start .pre) (at-first-if .if1 .left))
 
-stands : (c : tie.After-wide2) → let start = c .before .before .before .before .before .before .before .before in
-    name start ≡ take (c .wide2 .result - c .before .before .wide .result) (drop (c .before .before .wide .result) (now (start .args .letters)))
+stands : (c : tie.After-wide2) →
+    let at-start = c .before .before .before .before .before .before .before .before in
+    name at-start
+    ≡ take (c .wide2 .result - c .before .before .wide .result)
+    (drop (c .before .before .wide .result) (now (at-start .args .letters)))
 unfolding nameAt
 stands c = rw (c .before .before .wide .ensures, c .wide2 .ensures)
 
-size : (c : tie.After-wide2) → length (name (c .before .before .before .before .before .before .before .before)) ≡ c .wide2 .result - c .before .before .wide .result
+size : (c : tie.After-wide2) →
+    let at-name = c .before .before .before .before .before .before .before .before in
+    length (name at-name) ≡ c .wide2 .result - c .before .before .wide .result
 size c = ap length (stands c) ∙ length-between (here c)
 
 sub-last : tie.Need-sub-last
-sub-last c = let start = c .before .before .before in table-starts (now (start .args .letters)) (now (start .args .starts)) (start .pre)
+sub-last c =
+    let at-start = c .before .before .before in
+    table-starts (now (at-start .args .letters)) (now (at-start .args .starts)) (at-start .pre)
 
 returns : tie.Need-returns
 returns c =
-    let start = c .before .before .before .before in
-    does-nothing _ (now (start .args .out)) (nameAt-past (now (start .args .letters)) (now (start .args .starts)) (start .args .number) (c .if1 .taken))
+    let at-start = c .before .before .before .before in
+    does-nothing _ (now (at-start .args .out))
+    (nameAt-past (now (at-start .args .letters)) (now (at-start .args .starts)) (at-start .args .number)
+    (c .if1 .taken))
 
 mul-wide : tie.Need-mul-wide
 mul-wide c = search needs
@@ -67,8 +79,8 @@ sub-size c = here c .ordered
 
 returns-2 : tie.Need-returns-2
 returns-2 c =
-    let start = c .before .before .before .before .before .before .before .before .before in
-    does-short (name start) (now (start .args .out)) (omega (arith, size (c .before), c .if2 .taken))
+    let at-start = c .before .before .before .before .before .before .before .before .before in
+    does-short (name at-start) (now (at-start .args .out)) (omega (arith, size (c .before), c .if2 .taken))
 
 sub-put-bytes : tie.Need-sub-put-bytes
 sub-put-bytes c = here (c .before) .ordered
@@ -84,18 +96,20 @@ put-bytes-requires c κs = search needs
 
 mul-result : tie.Need-mul-result
 mul-result c =
-    let at-name = c .before .before .before .before .before .before in
-    omega (arith, c .before .before .put-bytes .ensures .ends, size at-name, here at-name .short)
+    let at-second-wide = c .before .before .before .before .before .before in
+    omega (arith, c .before .before .put-bytes .ensures .ends, size at-second-wide, here at-second-wide .short)
 
 same-length : tie.Need-same-length
 same-length c = search needs
 
 returns-3 : tie.Need-returns-3
 returns-3 c =
-    let at-test = c .before .before .before .before .before in
-    let start = at-test .before .before .before .before .before .before .before .before .before in
-    let wrote = rw (← stands (at-test .before)) at (c .before .before .put-bytes .ensures) in
-    does-write (name start) (now (start .args .out)) (omega (arith, size (at-test .before), at-test .if2 .left)) wrote
+    let at-second-if = c .before .before .before .before .before in
+    let at-second-wide = at-second-if .before in
+    let at-start = at-second-wide .before .before .before .before .before .before .before .before in
+    let wrote = rw (← stands at-second-wide) at (c .before .before .put-bytes .ensures) in
+    does-write (name at-start) (now (at-start .args .out))
+    (omega (arith, size at-second-wide, at-second-if .if2 .left)) wrote
 
 pub write-name-spec : {M : Type 1} → statement M
 write-name-spec =

@@ -25,7 +25,10 @@ byte-is-requires : tie.Need-byte-is-requires Inv-loop μ-loop
 byte-is-requires c κs = search needs
 
 returns : tie.Need-returns Inv-loop μ-loop
-returns c = all-stop _ _ _ _ (c .before .before .before .loop-test .taken) (c .before .byte-is .ensures) (c .if1 .taken) (c .before .before .before .before .loop .inv)
+returns c =
+    let at-loop-test = c .before .before .before in
+    let at-loop = at-loop-test .before in
+    all-stop _ _ _ _ (at-loop-test .loop-test .taken) (c .before .byte-is .ensures) (c .if1 .taken) (at-loop .loop .inv)
 
 add-i : tie.Need-add-i Inv-loop μ-loop
 add-i c = search needs
@@ -34,7 +37,10 @@ loop-less : tie.Need-loop-less Inv-loop μ-loop
 loop-less c = search needs
 
 loop-again : tie.Need-loop-again Inv-loop μ-loop
-loop-again c = all-go _ _ _ _ (c .before .before .before .loop-test .taken) (c .before .byte-is .ensures) (c .if1 .left) (c .before .before .before .before .loop .inv)
+loop-again c =
+    let at-loop-test = c .before .before .before in
+    let at-loop = at-loop-test .before in
+    all-go _ _ _ _ (at-loop-test .loop-test .taken) (c .before .byte-is .ensures) (c .if1 .left) (at-loop .loop .inv)
 
 returns-2 : tie.Need-returns-2 Inv-loop μ-loop
 returns-2 c = sym (c .before .loop .inv ∙ all-end _ _ _ (c .loop-test .left))

@@ -7,7 +7,10 @@ use Rattle.page.proofs.name.is_name_of.Statement.{statement}
 use Rattle.page.proofs.name.is_name_of.Tie as tie
 
 returns : tie.Need-returns
-returns c = name-empty (inClass (c .before .before .args .first)) (inClass (c .before .before .args .other)) (now (c .before .before .args .text)) (c .if1 .taken)
+returns c =
+    let at-start = c .before .before in
+    name-empty (inClass (at-start .args .first)) (inClass (at-start .args .other)) (now (at-start .args .text))
+    (c .if1 .taken)
 
 shared-slice-read-byte-is : tie.Need-shared-slice-read-byte-is
 shared-slice-read-byte-is c = search needs
@@ -16,7 +19,11 @@ byte-is-requires : tie.Need-byte-is-requires
 byte-is-requires c κs = search needs
 
 returns-2 : tie.Need-returns-2
-returns-2 c = name-first (inClass (c .before .before .before .before .before .args .first)) (inClass (c .before .before .before .before .before .args .other)) (now (c .before .before .before .before .before .args .text)) _ (c .before .before .before .if1 .left) (c .before .byte-is .ensures) (c .if2 .taken)
+returns-2 c =
+    let at-first-if = c .before .before .before in
+    let at-start = at-first-if .before .before in
+    name-first (inClass (at-start .args .first)) (inClass (at-start .args .other)) (now (at-start .args .text)) _
+    (at-first-if .if1 .left) (c .before .byte-is .ensures) (c .if2 .taken)
 
 sub-all-in : tie.Need-sub-all-in
 sub-all-in c = search needs
@@ -31,7 +38,12 @@ all-in-requires : tie.Need-all-in-requires
 all-in-requires c κs = search needs
 
 returns-3 : tie.Need-returns-3
-returns-3 c = name-rest (inClass (c .before .before .before .before .before .before .before .args .first)) (inClass (c .before .before .before .before .before .before .before .args .other)) (now (c .before .before .before .before .before .before .before .args .text)) _ _ (c .before .before .before .before .before .if1 .left) (c .before .before .before .byte-is .ensures) (c .before .before .if2 .left) (c .all-in .ensures)
+returns-3 c =
+    let at-byte-is = c .before .before .before in
+    let at-first-if = at-byte-is .before .before in
+    let at-start = at-first-if .before .before in
+    name-rest (inClass (at-start .args .first)) (inClass (at-start .args .other)) (now (at-start .args .text)) _ _
+    (at-first-if .if1 .left) (at-byte-is .byte-is .ensures) (c .before .before .if2 .left) (c .all-in .ensures)
 
 pub is-name-of-spec : {M : Type 1} → statement M
 is-name-of-spec =

@@ -1,8 +1,10 @@
--- `page::number::read_up_to` meets its contract: a law for each way out. The measure is the limit, which falls to 1/128. Assumes nothing.
+-- `page::number::read_up_to` meets its contract: a law for each way
+-- out. The measure is the limit, which falls to 1/128. Assumes nothing.
 use lib.ListN.{drop}
 use Prim.Native.Nat.{_+_, _/_}
 use native.Mathlib.Omega.{arith}
-use Rattle.page.proofs.FieldLaws.{past-end, over-first, one-byte, read-small, none-behind, zero-behind, fits, over}
+use Rattle.page.proofs.FieldLaws.{past-end, over-first, one-byte, read-small, none-behind, zero-behind, fits}
+use Rattle.page.proofs.FieldLaws.{over}
 use borrow.Author.Needs.{needs}
 use Prim.Native.Nat.{ℕ, _<_}
 use borrow.Fn.Kinds.{In}
@@ -30,7 +32,9 @@ read-up-to-returns :
     (read-up-to-below t, read-up-to.Post)
     (read-up-to-at t)
     read-up-to.Post
-read-up-to-returns t c = (past-end (c .before .before .args .page .now) (c .before .before .args .at) (c .before .before .args .limit) (c .if1 .taken), omega arith)
+read-up-to-returns t c =
+    let at-start = c .before .before in
+    (past-end (at-start .args .page .now) (at-start .args .at) (at-start .args .limit) (c .if1 .taken), omega arith)
 
 read-up-to-shared-slice-read-b : (t : ℕ) → read-up-to-lts.Need-shared-slice-read-b (
   read-up-to-below t,
@@ -44,13 +48,20 @@ read-up-to-cast-b :
     (read-up-to-below t, read-up-to.Post)
     (read-up-to-at t)
     read-up-to.Post
-read-up-to-cast-b t c = omega (arith, c .shared-slice-known2 .given (c .before .before .before .args .at))
+read-up-to-cast-b t c =
+    let at-start = c .before .before .before in
+    omega (arith, c .shared-slice-known2 .given (at-start .args .at))
 
 read-up-to-returns-2 : (t : ℕ) → read-up-to-lts.Need-returns-2 (
   read-up-to-below t,
   read-up-to.Post,
 ) (read-up-to-at t) read-up-to.Post
-read-up-to-returns-2 t c = (over-first (c .before .before .before .before .args .page .now) (c .before .before .before .before .args .at) (c .before .before .before .before .args .limit) (omega arith) (c .if2 .taken), omega arith)
+read-up-to-returns-2 t c =
+    let at-start = c .before .before .before .before in (
+      over-first (at-start .args .page .now) (at-start .args .at) (at-start .args .limit) (omega arith)
+          (c .if2 .taken),
+      omega arith,
+    )
 
 read-up-to-add-t12 :
     (t : ℕ) →
@@ -64,7 +75,12 @@ read-up-to-returns-3 : (t : ℕ) → read-up-to-lts.Need-returns-3 (
   read-up-to-below t,
   read-up-to.Post,
 ) (read-up-to-at t) read-up-to.Post
-read-up-to-returns-3 t c = (one-byte (c .before .before .before .before .before .args .page .now) (c .before .before .before .before .before .args .at) (c .before .before .before .before .before .args .limit) (omega arith) (c .before .if2 .left) (c .if3 .taken), omega arith)
+read-up-to-returns-3 t c =
+    let at-start = c .before .before .before .before .before in (
+      one-byte (at-start .args .page .now) (at-start .args .at) (at-start .args .limit) (omega arith)
+          (c .before .if2 .left) (c .if3 .taken),
+      omega arith,
+    )
 
 read-up-to-add-read-up-to : (t : ℕ) → read-up-to-lts.Need-add-read-up-to (
   read-up-to-below t,
@@ -89,8 +105,14 @@ read-up-to-returns-4 : (t : ℕ) → read-up-to-lts.Need-returns-4 (
   read-up-to.Post,
 ) (read-up-to-at t) read-up-to.Post
 read-up-to-returns-4 t c =
-    let e = rw (c .before .before .v .given .1) at (c .before .before .before .before .read-up-to .ensures .0) in
-    (zero-behind (c .before .before .before .before .before .before .before .before .before .before .args .page .now) (c .before .before .before .before .before .before .before .before .before .before .args .at) (c .before .before .before .before .before .before .before .before .before .before .args .limit) (omega arith) (c .before .before .before .before .before .if3 .left) e (c .if4 .taken), omega arith)
+    let at-read-up-to = c .before .before .before .before in
+    let at-third-if = at-read-up-to .before in
+    let at-start = at-third-if .before .before .before .before .before in
+    let e = rw (c .before .before .v .given .1) at (at-read-up-to .read-up-to .ensures .0) in (
+      zero-behind (at-start .args .page .now) (at-start .args .at) (at-start .args .limit) (omega arith)
+          (at-third-if .if3 .left) e (c .if4 .taken),
+      omega arith,
+    )
 
 read-up-to-mul-n :
     (t : ℕ) →
@@ -99,8 +121,13 @@ read-up-to-mul-n :
     (read-up-to-at t)
     read-up-to.Post
 read-up-to-mul-n t c =
-    let e = rw (c .before .before .v .given .1) at (c .before .before .before .before .read-up-to .ensures .0) in
-    omega (arith, read-small (c .before .before .before .before .before .before .before .before .before .before .args .limit / 128) _ _ (drop (c .before .before .before .before .before .before .before .before .before .before .args .at + 1) (c .before .before .before .before .before .before .before .before .before .before .args .page .now)) e)
+    let at-read-up-to = c .before .before .before .before in
+    let at-start = at-read-up-to .before .before .before .before .before .before in
+    let e = rw (c .before .before .v .given .1) at (at-read-up-to .read-up-to .ensures .0) in
+    omega (
+      arith,
+      read-small (at-start .args .limit / 128) _ _ (drop (at-start .args .at + 1) (at-start .args .page .now)) e,
+    )
 
 read-up-to-add-n :
     (t : ℕ) →
@@ -109,16 +136,30 @@ read-up-to-add-n :
     (read-up-to-at t)
     read-up-to.Post
 read-up-to-add-n t c =
-    let e = rw (c .before .before .v .given .1) at (c .before .before .before .before .read-up-to .ensures .0) in
-    omega (arith, read-small (c .before .before .before .before .before .before .before .before .before .before .args .limit / 128) _ _ (drop (c .before .before .before .before .before .before .before .before .before .before .args .at + 1) (c .before .before .before .before .before .before .before .before .before .before .args .page .now)) e, c .before .before .before .before .before .before .before .shared-slice-known2 .given (c .before .before .before .before .before .before .before .before .before .before .args .at))
+    let at-read-up-to = c .before .before .before .before in
+    let at-shared-slice-known = at-read-up-to .before .before .before in
+    let at-start = at-shared-slice-known .before .before .before in
+    let e = rw (c .before .before .v .given .1) at (at-read-up-to .read-up-to .ensures .0) in
+    omega (
+      arith,
+      read-small (at-start .args .limit / 128) _ _ (drop (at-start .args .at + 1) (at-start .args .page .now)) e,
+      at-shared-slice-known .shared-slice-known2 .given (at-start .args .at),
+    )
 
 read-up-to-returns-5 : (t : ℕ) → read-up-to-lts.Need-returns-5 (
   read-up-to-below t,
   read-up-to.Post,
 ) (read-up-to-at t) read-up-to.Post
 read-up-to-returns-5 t c =
-    let e = rw (c .before .before .before .v .given .1) at (c .before .before .before .before .before .read-up-to .ensures .0) in
-    (over (c .before .before .before .before .before .before .before .before .before .before .before .args .page .now) (c .before .before .before .before .before .before .before .before .before .before .before .args .at) (c .before .before .before .before .before .before .before .before .before .before .before .args .limit) (omega arith) (c .before .before .before .before .before .before .if3 .left) e (c .before .if4 .left) (c .if5 .taken), omega arith)
+    let at-v = c .before .before .before in
+    let at-read-up-to = at-v .before .before in
+    let at-third-if = at-read-up-to .before in
+    let at-start = at-third-if .before .before .before .before .before in
+    let e = rw (at-v .v .given .1) at (at-read-up-to .read-up-to .ensures .0) in (
+      over (at-start .args .page .now) (at-start .args .at) (at-start .args .limit) (omega arith)
+          (at-third-if .if3 .left) e (c .before .if4 .left) (c .if5 .taken),
+      omega arith,
+    )
 
 read-up-to-enum-told : (t : ℕ) → read-up-to-lts.Need-enum-told (
   read-up-to-below t,
@@ -131,17 +172,29 @@ read-up-to-returns-6 : (t : ℕ) → read-up-to-lts.Need-returns-6 (
   read-up-to.Post,
 ) (read-up-to-at t) read-up-to.Post
 read-up-to-returns-6 t c =
-    let e = rw (c .before .before .before .v .given .1) at (c .before .before .before .before .before .read-up-to .ensures .0) in
-    let h = rw (c .before .before .before .v .given .1) at (c .before .before .before .before .before .read-up-to .ensures .1) in
-    (fits (c .before .before .before .before .before .before .before .before .before .before .before .args .page .now) (c .before .before .before .before .before .before .before .before .before .before .before .args .at) (c .before .before .before .before .before .before .before .before .before .before .before .args .limit) (omega arith) (c .before .before .before .before .before .before .if3 .left) e (c .before .if4 .left) (c .if5 .left), h)
+    let at-v = c .before .before .before in
+    let at-read-up-to = at-v .before .before in
+    let at-third-if = at-read-up-to .before in
+    let at-start = at-third-if .before .before .before .before .before in
+    let e = rw (at-v .v .given .1) at (at-read-up-to .read-up-to .ensures .0) in
+    let h = rw (at-v .v .given .1) at (at-read-up-to .read-up-to .ensures .1) in (
+      fits (at-start .args .page .now) (at-start .args .at) (at-start .args .limit) (omega arith)
+          (at-third-if .if3 .left) e (c .before .if4 .left) (c .if5 .left),
+      h,
+    )
 
 read-up-to-returns-7 : (t : ℕ) → read-up-to-lts.Need-returns-7 (
   read-up-to-below t,
   read-up-to.Post,
 ) (read-up-to-at t) read-up-to.Post
 read-up-to-returns-7 t c =
-    let e = rw (c .enum-told .given .1) at (c .before .before .read-up-to .ensures .0) in
-    (none-behind (c .before .before .before .before .before .before .before .before .args .page .now) (c .before .before .before .before .before .before .before .before .args .at) (c .before .before .before .before .before .before .before .before .args .limit) (omega arith) (c .before .before .before .if3 .left) e, omega arith)
+    let at-third-if = c .before .before .before in
+    let at-start = at-third-if .before .before .before .before .before in
+    let e = rw (c .enum-told .given .1) at (c .before .before .read-up-to .ensures .0) in (
+      none-behind (at-start .args .page .now) (at-start .args .at) (at-start .args .limit) (omega arith)
+          (at-third-if .if3 .left) e,
+      omega arith,
+    )
 
 pub +read-up-to-spec : {M : Type 1} → statement M
 +read-up-to-spec = close μ-read-up-to λ t. read-up-to-lts.spec (

@@ -14,10 +14,16 @@ enum-told : tie.Need-enum-told
 enum-told c = search needs
 
 returns : tie.Need-returns
-returns c = let e = rw (c .before .before .n .given .1) at (c .before .before .before .before .read-number .ensures .0) in simp (← e, le-leb _ _ (c .if1 .taken))
+returns c =
+    let at-read-number = c .before .before .before .before in
+    let e = rw (c .before .before .n .given .1) at (at-read-number .read-number .ensures .0) in
+    simp (← e, le-leb _ _ (c .if1 .taken))
 
 returns-2 : tie.Need-returns-2
-returns-2 c = let e = rw (c .before .before .n .given .1) at (c .before .before .before .before .read-number .ensures .0) in simp (← e, lt-leb _ _ (c .if1 .left))
+returns-2 c =
+    let at-read-number = c .before .before .before .before in
+    let e = rw (c .before .before .n .given .1) at (at-read-number .read-number .ensures .0) in
+    simp (← e, lt-leb _ _ (c .if1 .left))
 
 returns-3 : tie.Need-returns-3
 returns-3 c = let e = rw (c .enum-told .given .1) at (c .before .before .read-number .ensures .0) in simp (← e)

@@ -12,7 +12,9 @@ is-metric-name-requires : tie.Need-is-metric-name-requires
 is-metric-name-requires c κs = search needs
 
 returns-2 : tie.Need-returns-2
-returns-2 c = rw (empty-false (now (c .before .before .before .args .text)) (c .before .if1 .left), c .is-metric-name .ensures)
+returns-2 c =
+    let at-start = c .before .before .before in
+    rw (empty-false (now (at-start .args .text)) (c .before .if1 .left), c .is-metric-name .ensures)
 
 pub is-selector-name-spec : {M : Type 1} → statement M
 is-selector-name-spec = tie.close (tie.spec returns is-metric-name-requires returns-2)

@@ -15,11 +15,14 @@ enum-known-n : tie.Need-enum-known-n
 enum-known-n c = search needs
 
 sub-if1 : tie.Need-sub-if1
-sub-if1 c = rw (c .before .n .given .1) at (c .before .before .before .read-number .ensures .1)
+sub-if1 c =
+    let at-read-number = c .before .before .before in
+    rw (c .before .n .given .1) at (at-read-number .read-number .ensures .1)
 
 returns : tie.Need-returns
 returns c =
-    let e = rw (c .before .before .n .given .1) at (c .before .before .before .before .read-number .ensures .0) in
+    let at-read-number = c .before .before .before .before in
+    let e = rw (c .before .before .n .given .1) at (at-read-number .read-number .ensures .0) in
     (simp (← e, length-drop, lt-leb _ _ (c .if1 .taken)), tt)
 
 text-limit-requires : tie.Need-text-limit-requires
@@ -27,7 +30,9 @@ text-limit-requires c κs = search needs
 
 returns-2 : tie.Need-returns-2
 returns-2 c =
-    let e = rw (c .before .before .before .before .n .given .1) at (c .before .before .before .before .before .before .read-number .ensures .0) in
+    let at-n = c .before .before .before .before in
+    let at-read-number = at-n .before .before in
+    let e = rw (at-n .n .given .1) at (at-read-number .read-number .ensures .0) in
     let long = rw (c .before .text-limit .ensures) at (c .if2 .taken) in
     (simp (← e, length-drop, le-leb _ _ (c .before .before .if1 .left), lt-leb _ _ long), tt)
 
@@ -42,7 +47,9 @@ part-text-allowed-start c = search needs
 
 part-text-allowed-end : tie.Need-part-text-allowed-end
 part-text-allowed-end c =
-    let h = rw (c .before .before .before .before .n .given .1) at (c .before .before .before .before .before .before .read-number .ensures .1) in omega arith
+    let at-n = c .before .before .before .before in
+    let at-read-number = at-n .before .before in
+    let h = rw (at-n .n .given .1) at (at-read-number .read-number .ensures .1) in omega arith
 
 text-allowed-requires : tie.Need-text-allowed-requires
 text-allowed-requires c κs = search needs
@@ -52,18 +59,39 @@ enum-told c = search needs
 
 returns-3 : tie.Need-returns-3
 returns-3 c =
-    let e = rw (c .before .before .before .before .before .before .before .n .given .1) at (c .before .before .before .before .before .before .before .before .before .read-number .ensures .0) in
-    let h = rw (c .before .before .before .before .before .before .before .n .given .1) at (c .before .before .before .before .before .before .before .before .before .read-number .ensures .1) in
-    let short = rw (c .before .before .before .before .text-limit .ensures) at (c .before .before .before .if2 .left) in
-    let allowed = rw add-sub-cancel-left at (c .before .text-allowed .ensures) in
-    (simp (← e, length-drop, add-sub-cancel-left, le-leb _ _ (c .before .before .before .before .before .if1 .left), le-leb _ _ short, ← allowed, c .if3 .taken, drop-drop), record { ordered = omega arith; inside = omega arith })
+    let at-second-if = c .before .before .before in
+    let at-text-limit = at-second-if .before in
+    let at-first-if = at-text-limit .before in
+    let at-n = at-first-if .before .before in
+    let at-read-number = at-n .before .before in
+    let e = rw (at-n .n .given .1) at (at-read-number .read-number .ensures .0) in
+    let h = rw (at-n .n .given .1) at (at-read-number .read-number .ensures .1) in
+    let short = rw (at-text-limit .text-limit .ensures) at (at-second-if .if2 .left) in
+    let allowed = rw add-sub-cancel-left at (c .before .text-allowed .ensures) in (
+      simp (
+        ← e,
+        length-drop,
+        add-sub-cancel-left,
+        le-leb _ _ (at-first-if .if1 .left),
+        le-leb _ _ short,
+        ← allowed,
+        c .if3 .taken,
+        drop-drop,
+      ),
+      record { ordered = omega arith; inside = omega arith },
+    )
 
 returns-4 : tie.Need-returns-4
 returns-4 c =
-    let e = rw (c .before .before .before .before .before .before .before .n .given .1) at (c .before .before .before .before .before .before .before .before .before .read-number .ensures .0) in
-    let short = rw (c .before .before .before .before .text-limit .ensures) at (c .before .before .before .if2 .left) in
+    let at-second-if = c .before .before .before in
+    let at-text-limit = at-second-if .before in
+    let at-first-if = at-text-limit .before in
+    let at-n = at-first-if .before .before in
+    let at-read-number = at-n .before .before in
+    let e = rw (at-n .n .given .1) at (at-read-number .read-number .ensures .0) in
+    let short = rw (at-text-limit .text-limit .ensures) at (at-second-if .if2 .left) in
     let allowed = rw add-sub-cancel-left at (c .before .text-allowed .ensures) in
-    (simp (← e, length-drop, le-leb _ _ (c .before .before .before .before .before .if1 .left), le-leb _ _ short, ← allowed, c .if3 .left), tt)
+    (simp (← e, length-drop, le-leb _ _ (at-first-if .if1 .left), le-leb _ _ short, ← allowed, c .if3 .left), tt)
 
 returns-5 : tie.Need-returns-5
 returns-5 c =

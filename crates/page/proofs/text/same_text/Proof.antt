@@ -1,4 +1,5 @@
--- `page::text::same_text` meets its contract. The loop's invariant: what is left of both texts decides. Assumes nothing.
+-- `page::text::same_text` meets its contract. The loop's
+-- invariant: what is left of both texts decides. Assumes nothing.
 use denote.Ref.{now}
 use Rattle.page.proofs.TextLaws.{lengths-differ, equal-stop, equal-go, equal-end}
 use Rattle.page.specs.Bytes.{equal}
@@ -28,7 +29,13 @@ shared-slice-read-if2-2 : tie.Need-shared-slice-read-if2-2 Inv-loop μ-loop
 shared-slice-read-if2-2 c = search needs
 
 returns-2 : tie.Need-returns-2 Inv-loop μ-loop
-returns-2 c = equal-stop (now (c .before .before .before .before .before .before .args .a)) (now (c .before .before .before .before .before .before .args .b)) (c .before .before .before .before .loop .i) (c .before .before .before .before .loop .inv) (c .before .before .before .before .before .if1 .left) (c .before .before .before .loop-test .taken) (c .if2 .taken)
+returns-2 c =
+    let at-loop-test = c .before .before .before in
+    let at-loop = at-loop-test .before in
+    let at-first-if = at-loop .before in
+    let at-start = at-first-if .before in
+    equal-stop (now (at-start .args .a)) (now (at-start .args .b)) (at-loop .loop .i) (at-loop .loop .inv)
+    (at-first-if .if1 .left) (at-loop-test .loop-test .taken) (c .if2 .taken)
 
 add-i : tie.Need-add-i Inv-loop μ-loop
 add-i c = search needs
@@ -37,10 +44,19 @@ loop-less : tie.Need-loop-less Inv-loop μ-loop
 loop-less c = search needs
 
 loop-again : tie.Need-loop-again Inv-loop μ-loop
-loop-again c = equal-go (now (c .before .before .before .before .before .before .args .a)) (now (c .before .before .before .before .before .before .args .b)) (c .before .before .before .before .loop .i) (c .before .before .before .before .loop .inv) (c .before .before .before .before .before .if1 .left) (c .before .before .before .loop-test .taken) (c .if2 .left)
+loop-again c =
+    let at-loop-test = c .before .before .before in
+    let at-loop = at-loop-test .before in
+    let at-first-if = at-loop .before in
+    let at-start = at-first-if .before in
+    equal-go (now (at-start .args .a)) (now (at-start .args .b)) (at-loop .loop .i) (at-loop .loop .inv)
+    (at-first-if .if1 .left) (at-loop-test .loop-test .taken) (c .if2 .left)
 
 returns-3 : tie.Need-returns-3 Inv-loop μ-loop
-returns-3 c = equal-end (now (c .before .before .before .args .a)) (now (c .before .before .before .args .b)) (c .before .loop .i) (c .before .loop .inv) (c .before .before .if1 .left) (c .loop-test .left)
+returns-3 c =
+    let at-start = c .before .before .before in
+    equal-end (now (at-start .args .a)) (now (at-start .args .b)) (c .before .loop .i) (c .before .loop .inv)
+    (c .before .before .if1 .left) (c .loop-test .left)
 
 pub same-text-spec : {M : Type 1} → statement M
 same-text-spec =

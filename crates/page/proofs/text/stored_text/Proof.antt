@@ -18,24 +18,37 @@ enum-known-n c = search needs
 
 add-t8 : tie.Need-add-t8
 add-t8 c =
-    let e = rw (c .before .n .given .1) at (c .before .before .before .read-number .ensures .0) in
-    let h = rw (c .before .n .given .1) at (c .before .before .before .read-number .ensures .1) in
-    omega (arith, span-stored textLimit isText (now (c .before .before .before .before .before .args .page)) (c .before .before .before .before .before .args .at) (c .before .n .given .0 .0) (c .before .n .given .0 .1 .0) (c .before .before .before .before .before .pre) e h .0)
+    let at-n = c .before in
+    let at-read-number = at-n .before .before in
+    let at-start = at-read-number .before .before in
+    let e = rw (at-n .n .given .1) at (at-read-number .read-number .ensures .0) in
+    let h = rw (at-n .n .given .1) at (at-read-number .read-number .ensures .1) in
+    omega (
+      arith,
+      span-stored textLimit isText (now (at-start .args .page)) (at-start .args .at) (at-n .n .given .0 .0)
+          (at-n .n .given .0 .1 .0) (at-start .pre) e h .0,
+    )
 
 enum-told : tie.Need-enum-told
 enum-told c = search needs
 
 returns : tie.Need-returns
 returns c =
-    let e = rw (c .before .n .given .1) at (c .before .before .before .read-number .ensures .0) in
-    let h = rw (c .before .n .given .1) at (c .before .before .before .read-number .ensures .1) in
-    let is = span-stored textLimit isText (now (c .before .before .before .before .before .args .page)) (c .before .before .before .before .before .args .at) (c .before .n .given .0 .0) (c .before .n .given .0 .1 .0) (c .before .before .before .before .before .pre) e h in
+    let at-n = c .before in
+    let at-read-number = at-n .before .before in
+    let at-start = at-read-number .before .before in
+    let e = rw (at-n .n .given .1) at (at-read-number .read-number .ensures .0) in
+    let h = rw (at-n .n .given .1) at (at-read-number .read-number .ensures .1) in
+    let is = span-stored textLimit isText (now (at-start .args .page)) (at-start .args .at) (at-n .n .given .0 .0)
+    (at-n .n .given .0 .1 .0) (at-start .pre) e h in
     (is .1, record { ordered = omega arith; inside = is .0 })
 
 returns-2 : tie.Need-returns-2
 returns-2 c =
+    let at-start = c .before .before .before .before in
     let e = rw (c .enum-told .given .1) at (c .before .before .read-number .ensures .0) in
-    no-refusal readNumber _ (first-readable readNumber _ (drop (c .before .before .before .before .args .at) (now (c .before .before .before .before .args .page))) (c .before .before .before .before .pre)) e
+    no-refusal readNumber _
+    (first-readable readNumber _ (drop (at-start .args .at) (now (at-start .args .page))) (at-start .pre)) e
 
 pub stored-text-spec : {M : Type 1} → statement M
 stored-text-spec =

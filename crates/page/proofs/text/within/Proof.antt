@@ -12,7 +12,13 @@ returns : tie.Need-returns
 returns c = search needs
 
 returns-2 : tie.Need-returns-2
-returns-2 c = record { same = drop-of-length-le (now (c .before .args .page)) (le-refl _) ∙ sym (drop-of-length-le (now (c .before .args .page)) {i = c .before .args .at} (omega arith)); inside = omega arith }
+returns-2 c =
+    let at-start = c .before in
+    record {
+      same = drop-of-length-le (now (at-start .args .page)) (le-refl _)
+          ∙ sym (drop-of-length-le (now (at-start .args .page)) {i = at-start .args .at} (omega arith));
+      inside = omega arith;
+    }
 
 pub within-spec : {M : Type 1} → statement M
 within-spec = tie.close (tie.spec returns returns-2)

@@ -1,4 +1,5 @@
--- `page::write::put_bytes` meets its contract. The loop's invariant: what is left of the text is left to be written. Assumes nothing.
+-- `page::write::put_bytes` meets its contract. The loop's invariant:
+-- what is left of the text is left to be written. Assumes nothing.
 use borrow.Author.Needs.{needs}
 use Prim.Native.Nat.{_-_}
 use lib.ListN.{length, drop, drop-of-length-le}
@@ -19,7 +20,9 @@ shared-slice-read-put-byte : tie.Need-shared-slice-read-put-byte Inv-loop μ-loo
 shared-slice-read-put-byte c = search needs
 
 put-byte-requires : tie.Need-put-byte-requires Inv-loop μ-loop
-put-byte-requires c κs = room (c .before .before .before .loop .inv) (drop-next _ _ 0 (c .before .before .loop-test .taken))
+put-byte-requires c κs =
+    let at-loop = c .before .before .before in
+    room (at-loop .loop .inv) (drop-next _ _ 0 (c .before .before .loop-test .taken))
 
 add-i : tie.Need-add-i Inv-loop μ-loop
 add-i c = search needs
@@ -29,8 +32,9 @@ loop-less c = search needs
 
 loop-again : tie.Need-loop-again Inv-loop μ-loop
 loop-again c =
-    let h = c .before .before .before .before .before in
-    step (h .before .loop .inv) (drop-next _ _ 0 (h .loop-test .taken)) (c .before .before .put-byte .ensures)
+    let at-loop-test = c .before .before .before .before .before in
+    let at-loop = at-loop-test .before in
+    step (at-loop .loop .inv) (drop-next _ _ 0 (at-loop-test .loop-test .taken)) (c .before .before .put-byte .ensures)
 
 same-length : tie.Need-same-length Inv-loop μ-loop
 same-length c = search needs

@@ -16,10 +16,20 @@ enum-known-time : tie.Need-enum-known-time
 enum-known-time c = search needs
 
 put-byte-requires : tie.Need-put-byte-requires
-put-byte-requires c κs = fits (run-two (bytes " ") (displayAt (atModifierOf (c .before .before .time .given .0 .0))) (c .before .before .before .before .before .args .out .now) (c .before .before .before .before .before .args .at) refl (rw (c .before .before .time .given .1) at (c .before .before .before .before .before .pre)))
+put-byte-requires c κs =
+    let at-start = c .before .before .before .before .before in
+    fits (run-two (bytes " ") (displayAt (atModifierOf (c .before .before .time .given .0 .0)))
+    (at-start .args .out .now) (at-start .args .at) refl
+    (rw (c .before .before .time .given .1) at (at-start .pre)))
 
 put-at-requires : tie.Need-put-at-requires
-put-at-requires c κs = fits (next (run-two (bytes " ") (displayAt (atModifierOf (c .before .before .before .before .before .before .time .given .0 .0))) (c .before .before .before .before .before .before .before .before .before .args .out .now) (c .before .before .before .before .before .before .before .before .before .args .at) refl (rw (c .before .before .before .before .before .before .time .given .1) at (c .before .before .before .before .before .before .before .before .before .pre))) (c .before .before .before .put-byte .ensures))
+put-at-requires c κs =
+    let at-put-byte = c .before .before .before in
+    let at-time = at-put-byte .before .before .before in
+    let at-start = at-time .before .before .before in
+    fits (next (run-two (bytes " ") (displayAt (atModifierOf (at-time .time .given .0 .0)))
+    (at-start .args .out .now) (at-start .args .at) refl (rw (at-time .time .given .1) at (at-start .pre)))
+    (at-put-byte .put-byte .ensures))
 
 returns : tie.Need-returns
 returns c = rw (c .enum-told .given .1) (wrote-nothing _ _ refl)
@@ -28,7 +38,14 @@ same-length : tie.Need-same-length
 same-length c = search needs
 
 returns-2 : tie.Need-returns-2
-returns-2 c = rw (c .before .before .before .before .before .before .before .before .before .time .given .1) (end (next (next (run-two (bytes " ") (displayAt (atModifierOf (c .before .before .before .before .before .before .before .before .before .time .given .0 .0))) (c .before .before .before .before .before .before .before .before .before .before .before .before .args .out .now) (c .before .before .before .before .before .before .before .before .before .before .before .before .args .at) refl (rw (c .before .before .before .before .before .before .before .before .before .time .given .1) at (c .before .before .before .before .before .before .before .before .before .before .before .before .pre))) (c .before .before .before .before .before .before .put-byte .ensures)) (c .before .before .put-at .ensures)))
+returns-2 c =
+    let at-put-byte = c .before .before .before .before .before .before in
+    let at-time = at-put-byte .before .before .before in
+    let at-start = at-time .before .before .before in
+    rw (at-time .time .given .1)
+    (end (next (next (run-two (bytes " ") (displayAt (atModifierOf (at-time .time .given .0 .0)))
+    (at-start .args .out .now) (at-start .args .at) refl (rw (at-time .time .given .1) at (at-start .pre)))
+    (at-put-byte .put-byte .ensures)) (c .before .before .put-at .ensures)))
 
 pub put-at-spec : {M : Type 1} → statement M
 put-at-spec =

@@ -16,13 +16,35 @@ enum-known-range : tie.Need-enum-known-range
 enum-known-range c = search needs
 
 put-byte-requires : tie.Need-put-byte-requires
-put-byte-requires c κs = fits (run-three (bytes "[") (displayDuration (c .before .before .range .given .0 .0)) (bytes "]") (c .before .before .before .before .before .args .out .now) (c .before .before .before .before .before .args .at) (append-assoc (bytes "[") (displayDuration (c .before .before .range .given .0 .0)) (bytes "]")) (rw (c .before .before .range .given .1) at (c .before .before .before .before .before .pre)))
+put-byte-requires c κs =
+    let at-range = c .before .before in
+    let at-start = at-range .before .before .before in
+    fits (run-three (bytes "[") (displayDuration (at-range .range .given .0 .0)) (bytes "]")
+    (at-start .args .out .now) (at-start .args .at)
+    (append-assoc (bytes "[") (displayDuration (at-range .range .given .0 .0)) (bytes "]"))
+    (rw (at-range .range .given .1) at (at-start .pre)))
 
 put-duration-requires : tie.Need-put-duration-requires
-put-duration-requires c κs = fits (next (run-three (bytes "[") (displayDuration (c .before .before .before .before .before .before .range .given .0 .0)) (bytes "]") (c .before .before .before .before .before .before .before .before .before .args .out .now) (c .before .before .before .before .before .before .before .before .before .args .at) (append-assoc (bytes "[") (displayDuration (c .before .before .before .before .before .before .range .given .0 .0)) (bytes "]")) (rw (c .before .before .before .before .before .before .range .given .1) at (c .before .before .before .before .before .before .before .before .before .pre))) (c .before .before .before .put-byte .ensures))
+put-duration-requires c κs =
+    let at-put-byte = c .before .before .before in
+    let at-range = at-put-byte .before .before .before in
+    let at-start = at-range .before .before .before in
+    fits (next (run-three (bytes "[") (displayDuration (at-range .range .given .0 .0)) (bytes "]")
+    (at-start .args .out .now) (at-start .args .at)
+    (append-assoc (bytes "[") (displayDuration (at-range .range .given .0 .0)) (bytes "]"))
+    (rw (at-range .range .given .1) at (at-start .pre))) (at-put-byte .put-byte .ensures))
 
 put-byte-requires-2 : tie.Need-put-byte-requires-2
-put-byte-requires-2 c κs = fits (next (next (run-three (bytes "[") (displayDuration (c .before .before .before .before .before .before .before .before .before .before .range .given .0 .0)) (bytes "]") (c .before .before .before .before .before .before .before .before .before .before .before .before .before .args .out .now) (c .before .before .before .before .before .before .before .before .before .before .before .before .before .args .at) (append-assoc (bytes "[") (displayDuration (c .before .before .before .before .before .before .before .before .before .before .range .given .0 .0)) (bytes "]")) (rw (c .before .before .before .before .before .before .before .before .before .before .range .given .1) at (c .before .before .before .before .before .before .before .before .before .before .before .before .before .pre))) (c .before .before .before .before .before .before .before .put-byte .ensures)) (c .before .before .before .put-duration .ensures))
+put-byte-requires-2 c κs =
+    let at-put-duration = c .before .before .before in
+    let at-put-byte = at-put-duration .before .before .before .before in
+    let at-range = at-put-byte .before .before .before in
+    let at-start = at-range .before .before .before in
+    fits (next (next (run-three (bytes "[") (displayDuration (at-range .range .given .0 .0)) (bytes "]")
+    (at-start .args .out .now) (at-start .args .at)
+    (append-assoc (bytes "[") (displayDuration (at-range .range .given .0 .0)) (bytes "]"))
+    (rw (at-range .range .given .1) at (at-start .pre))) (at-put-byte .put-byte .ensures))
+    (at-put-duration .put-duration .ensures))
 
 returns : tie.Need-returns
 returns c = rw (c .enum-told .given .1) (wrote-nothing _ _ refl)
@@ -31,7 +53,17 @@ same-length : tie.Need-same-length
 same-length c = search needs
 
 returns-2 : tie.Need-returns-2
-returns-2 c = rw (c .before .before .before .before .before .before .before .before .before .before .before .before .before .range .given .1) (end (next (next (next (run-three (bytes "[") (displayDuration (c .before .before .before .before .before .before .before .before .before .before .before .before .before .range .given .0 .0)) (bytes "]") (c .before .before .before .before .before .before .before .before .before .before .before .before .before .before .before .before .args .out .now) (c .before .before .before .before .before .before .before .before .before .before .before .before .before .before .before .before .args .at) (append-assoc (bytes "[") (displayDuration (c .before .before .before .before .before .before .before .before .before .before .before .before .before .range .given .0 .0)) (bytes "]")) (rw (c .before .before .before .before .before .before .before .before .before .before .before .before .before .range .given .1) at (c .before .before .before .before .before .before .before .before .before .before .before .before .before .before .before .before .pre))) (c .before .before .before .before .before .before .before .before .before .before .put-byte .ensures)) (c .before .before .before .before .before .before .put-duration .ensures)) (c .before .before .put-byte2 .ensures)))
+returns-2 c =
+    let at-put-duration = c .before .before .before .before .before .before in
+    let at-put-byte = at-put-duration .before .before .before .before in
+    let at-range = at-put-byte .before .before .before in
+    let at-start = at-range .before .before .before in
+    rw (at-range .range .given .1)
+    (end (next (next (next (run-three (bytes "[") (displayDuration (at-range .range .given .0 .0)) (bytes "]")
+    (at-start .args .out .now) (at-start .args .at)
+    (append-assoc (bytes "[") (displayDuration (at-range .range .given .0 .0)) (bytes "]"))
+    (rw (at-range .range .given .1) at (at-start .pre))) (at-put-byte .put-byte .ensures))
+    (at-put-duration .put-duration .ensures)) (c .before .before .put-byte2 .ensures)))
 
 pub put-range-spec : {M : Type 1} → statement M
 put-range-spec =

@@ -19,10 +19,20 @@ slice-aggregate-put-bytes : tie.Need-slice-aggregate-put-bytes
 slice-aggregate-put-bytes c = search needs
 
 put-bytes-requires : tie.Need-put-bytes-requires
-put-bytes-requires c κs = fits (run-two (bytes " offset ") (displayOffset (offsetOf (c .before .before .before .offset .given .0 .0))) (c .before .before .before .before .before .before .args .out .now) (c .before .before .before .before .before .before .args .at) refl (rw (c .before .before .before .offset .given .1) at (c .before .before .before .before .before .before .pre)))
+put-bytes-requires c κs =
+    let at-offset = c .before .before .before in
+    let at-start = at-offset .before .before .before in
+    fits (run-two (bytes " offset ") (displayOffset (offsetOf (at-offset .offset .given .0 .0)))
+    (at-start .args .out .now) (at-start .args .at) refl (rw (at-offset .offset .given .1) at (at-start .pre)))
 
 put-offset-requires : tie.Need-put-offset-requires
-put-offset-requires c κs = fits (next (run-two (bytes " offset ") (displayOffset (offsetOf (c .before .before .before .before .before .before .before .offset .given .0 .0))) (c .before .before .before .before .before .before .before .before .before .before .args .out .now) (c .before .before .before .before .before .before .before .before .before .before .args .at) refl (rw (c .before .before .before .before .before .before .before .offset .given .1) at (c .before .before .before .before .before .before .before .before .before .before .pre))) (c .before .before .before .put-bytes .ensures))
+put-offset-requires c κs =
+    let at-put-bytes = c .before .before .before in
+    let at-offset = at-put-bytes .before .before .before .before in
+    let at-start = at-offset .before .before .before in
+    fits (next (run-two (bytes " offset ") (displayOffset (offsetOf (at-offset .offset .given .0 .0)))
+    (at-start .args .out .now) (at-start .args .at) refl (rw (at-offset .offset .given .1) at (at-start .pre)))
+    (at-put-bytes .put-bytes .ensures))
 
 returns : tie.Need-returns
 returns c = rw (c .enum-told .given .1) (wrote-nothing _ _ refl)
@@ -31,7 +41,14 @@ same-length : tie.Need-same-length
 same-length c = search needs
 
 returns-2 : tie.Need-returns-2
-returns-2 c = rw (c .before .before .before .before .before .before .before .before .before .before .offset .given .1) (end (next (next (run-two (bytes " offset ") (displayOffset (offsetOf (c .before .before .before .before .before .before .before .before .before .before .offset .given .0 .0))) (c .before .before .before .before .before .before .before .before .before .before .before .before .before .args .out .now) (c .before .before .before .before .before .before .before .before .before .before .before .before .before .args .at) refl (rw (c .before .before .before .before .before .before .before .before .before .before .offset .given .1) at (c .before .before .before .before .before .before .before .before .before .before .before .before .before .pre))) (c .before .before .before .before .before .before .put-bytes .ensures)) (c .before .before .put-offset .ensures)))
+returns-2 c =
+    let at-put-bytes = c .before .before .before .before .before .before in
+    let at-offset = at-put-bytes .before .before .before .before in
+    let at-start = at-offset .before .before .before in
+    rw (at-offset .offset .given .1)
+    (end (next (next (run-two (bytes " offset ") (displayOffset (offsetOf (at-offset .offset .given .0 .0)))
+    (at-start .args .out .now) (at-start .args .at) refl (rw (at-offset .offset .given .1) at (at-start .pre)))
+    (at-put-bytes .put-bytes .ensures)) (c .before .before .put-offset .ensures)))
 
 pub put-shift-spec : {M : Type 1} → statement M
 put-shift-spec =

@@ -12,7 +12,9 @@ enum-known-step : tie.Need-enum-known-step
 enum-known-step c = search needs
 
 put-duration-requires : tie.Need-put-duration-requires
-put-duration-requires c κs = rw (c .before .before .step .given .1) at (c .before .before .before .before .before .pre)
+put-duration-requires c κs =
+    let at-start = c .before .before .before .before .before in
+    rw (c .before .before .step .given .1) at (at-start .pre)
 
 returns : tie.Need-returns
 returns c = rw (c .enum-told .given .1) (wrote-nothing _ _ refl)
@@ -21,7 +23,9 @@ same-length : tie.Need-same-length
 same-length c = search needs
 
 returns-2 : tie.Need-returns-2
-returns-2 c = rw (c .before .before .before .before .before .step .given .1) (c .before .before .put-duration .ensures)
+returns-2 c =
+    let at-step = c .before .before .before .before .before in
+    rw (at-step .step .given .1) (c .before .before .put-duration .ensures)
 
 pub put-step-spec : {M : Type 1} → statement M
 put-step-spec =

@@ -13,25 +13,81 @@ put-byte-requires : tie.Need-put-byte-requires
 put-byte-requires c κs = search needs
 
 put-duration-requires : tie.Need-put-duration-requires
-put-duration-requires c κs = fits (next (run-suffix (displayDuration (c .before .before .before .before .before .before .args .range)) (optional displayDuration (optionalDurationOf (c .before .before .before .before .before .before .args .step))) (displayTimes (timesOf (c .before .before .before .before .before .before .args .times))) (c .before .before .before .before .before .before .args .out .now) (c .before .before .before .before .before .before .args .at) (c .before .before .before .before .before .before .pre)) (c .before .before .before .put-byte .ensures))
+put-duration-requires c κs =
+    let at-put-byte = c .before .before .before in
+    let at-start = at-put-byte .before .before .before in
+    fits (next (run-suffix (displayDuration (at-start .args .range))
+    (optional displayDuration (optionalDurationOf (at-start .args .step)))
+    (displayTimes (timesOf (at-start .args .times))) (at-start .args .out .now) (at-start .args .at)
+    (at-start .pre)) (at-put-byte .put-byte .ensures))
 
 put-byte-requires-2 : tie.Need-put-byte-requires-2
-put-byte-requires-2 c κs = fits (next (next (run-suffix (displayDuration (c .before .before .before .before .before .before .before .before .before .before .args .range)) (optional displayDuration (optionalDurationOf (c .before .before .before .before .before .before .before .before .before .before .args .step))) (displayTimes (timesOf (c .before .before .before .before .before .before .before .before .before .before .args .times))) (c .before .before .before .before .before .before .before .before .before .before .args .out .now) (c .before .before .before .before .before .before .before .before .before .before .args .at) (c .before .before .before .before .before .before .before .before .before .before .pre)) (c .before .before .before .before .before .before .before .put-byte .ensures)) (c .before .before .before .put-duration .ensures))
+put-byte-requires-2 c κs =
+    let at-put-duration = c .before .before .before in
+    let at-put-byte = at-put-duration .before .before .before .before in
+    let at-start = at-put-byte .before .before .before in
+    fits (next (next (run-suffix (displayDuration (at-start .args .range))
+    (optional displayDuration (optionalDurationOf (at-start .args .step)))
+    (displayTimes (timesOf (at-start .args .times))) (at-start .args .out .now) (at-start .args .at)
+    (at-start .pre)) (at-put-byte .put-byte .ensures)) (at-put-duration .put-duration .ensures))
 
 put-step-requires : tie.Need-put-step-requires
-put-step-requires c κs = fits (next (next (next (run-suffix (displayDuration (c .before .before .before .before .before .before .before .before .before .before .before .before .before .before .args .range)) (optional displayDuration (optionalDurationOf (c .before .before .before .before .before .before .before .before .before .before .before .before .before .before .args .step))) (displayTimes (timesOf (c .before .before .before .before .before .before .before .before .before .before .before .before .before .before .args .times))) (c .before .before .before .before .before .before .before .before .before .before .before .before .before .before .args .out .now) (c .before .before .before .before .before .before .before .before .before .before .before .before .before .before .args .at) (c .before .before .before .before .before .before .before .before .before .before .before .before .before .before .pre)) (c .before .before .before .before .before .before .before .before .before .before .before .put-byte .ensures)) (c .before .before .before .before .before .before .before .put-duration .ensures)) (c .before .before .before .put-byte2 .ensures))
+put-step-requires c κs =
+    let at-second-put-byte = c .before .before .before in
+    let at-put-duration = at-second-put-byte .before .before .before .before in
+    let at-put-byte = at-put-duration .before .before .before .before in
+    let at-start = at-put-byte .before .before .before in
+    fits (next (next (next (run-suffix (displayDuration (at-start .args .range))
+    (optional displayDuration (optionalDurationOf (at-start .args .step)))
+    (displayTimes (timesOf (at-start .args .times))) (at-start .args .out .now) (at-start .args .at)
+    (at-start .pre)) (at-put-byte .put-byte .ensures)) (at-put-duration .put-duration .ensures))
+    (at-second-put-byte .put-byte2 .ensures))
 
 put-byte-requires-3 : tie.Need-put-byte-requires-3
-put-byte-requires-3 c κs = fits (next (next (next (next (run-suffix (displayDuration (c .before .before .before .before .before .before .before .before .before .before .before .before .before .before .before .before .before .before .args .range)) (optional displayDuration (optionalDurationOf (c .before .before .before .before .before .before .before .before .before .before .before .before .before .before .before .before .before .before .args .step))) (displayTimes (timesOf (c .before .before .before .before .before .before .before .before .before .before .before .before .before .before .before .before .before .before .args .times))) (c .before .before .before .before .before .before .before .before .before .before .before .before .before .before .before .before .before .before .args .out .now) (c .before .before .before .before .before .before .before .before .before .before .before .before .before .before .before .before .before .before .args .at) (c .before .before .before .before .before .before .before .before .before .before .before .before .before .before .before .before .before .before .pre)) (c .before .before .before .before .before .before .before .before .before .before .before .before .before .before .before .put-byte .ensures)) (c .before .before .before .before .before .before .before .before .before .before .before .put-duration .ensures)) (c .before .before .before .before .before .before .before .put-byte2 .ensures)) (c .before .before .before .put-step .ensures))
+put-byte-requires-3 c κs =
+    let at-put-step = c .before .before .before in
+    let at-second-put-byte = at-put-step .before .before .before .before in
+    let at-put-duration = at-second-put-byte .before .before .before .before in
+    let at-put-byte = at-put-duration .before .before .before .before in
+    let at-start = at-put-byte .before .before .before in
+    fits (next (next (next (next (run-suffix (displayDuration (at-start .args .range))
+    (optional displayDuration (optionalDurationOf (at-start .args .step)))
+    (displayTimes (timesOf (at-start .args .times))) (at-start .args .out .now) (at-start .args .at)
+    (at-start .pre)) (at-put-byte .put-byte .ensures)) (at-put-duration .put-duration .ensures))
+    (at-second-put-byte .put-byte2 .ensures)) (at-put-step .put-step .ensures))
 
 put-times-requires : tie.Need-put-times-requires
-put-times-requires c κs = fits (next (next (next (next (next (run-suffix (displayDuration (c .before .before .before .before .before .before .before .before .before .before .before .before .before .before .before .before .before .before .before .before .before .before .args .range)) (optional displayDuration (optionalDurationOf (c .before .before .before .before .before .before .before .before .before .before .before .before .before .before .before .before .before .before .before .before .before .before .args .step))) (displayTimes (timesOf (c .before .before .before .before .before .before .before .before .before .before .before .before .before .before .before .before .before .before .before .before .before .before .args .times))) (c .before .before .before .before .before .before .before .before .before .before .before .before .before .before .before .before .before .before .before .before .before .before .args .out .now) (c .before .before .before .before .before .before .before .before .before .before .before .before .before .before .before .before .before .before .before .before .before .before .args .at) (c .before .before .before .before .before .before .before .before .before .before .before .before .before .before .before .before .before .before .before .before .before .before .pre)) (c .before .before .before .before .before .before .before .before .before .before .before .before .before .before .before .before .before .before .before .put-byte .ensures)) (c .before .before .before .before .before .before .before .before .before .before .before .before .before .before .before .put-duration .ensures)) (c .before .before .before .before .before .before .before .before .before .before .before .put-byte2 .ensures)) (c .before .before .before .before .before .before .before .put-step .ensures)) (c .before .before .before .put-byte3 .ensures))
+put-times-requires c κs =
+    let at-third-put-byte = c .before .before .before in
+    let at-put-step = at-third-put-byte .before .before .before .before in
+    let at-second-put-byte = at-put-step .before .before .before .before in
+    let at-put-duration = at-second-put-byte .before .before .before .before in
+    let at-put-byte = at-put-duration .before .before .before .before in
+    let at-start = at-put-byte .before .before .before in
+    fits (next (next (next (next (next (run-suffix (displayDuration (at-start .args .range))
+    (optional displayDuration (optionalDurationOf (at-start .args .step)))
+    (displayTimes (timesOf (at-start .args .times))) (at-start .args .out .now) (at-start .args .at)
+    (at-start .pre)) (at-put-byte .put-byte .ensures)) (at-put-duration .put-duration .ensures))
+    (at-second-put-byte .put-byte2 .ensures)) (at-put-step .put-step .ensures))
+    (at-third-put-byte .put-byte3 .ensures))
 
 same-length : tie.Need-same-length
 same-length c = search needs
 
 returns : tie.Need-returns
-returns c = end (next (next (next (next (next (next (run-suffix (displayDuration (c .before .before .before .before .before .before .before .before .before .before .before .before .before .before .before .before .before .before .before .before .before .before .before .before .before .args .range)) (optional displayDuration (optionalDurationOf (c .before .before .before .before .before .before .before .before .before .before .before .before .before .before .before .before .before .before .before .before .before .before .before .before .before .args .step))) (displayTimes (timesOf (c .before .before .before .before .before .before .before .before .before .before .before .before .before .before .before .before .before .before .before .before .before .before .before .before .before .args .times))) (c .before .before .before .before .before .before .before .before .before .before .before .before .before .before .before .before .before .before .before .before .before .before .before .before .before .args .out .now) (c .before .before .before .before .before .before .before .before .before .before .before .before .before .before .before .before .before .before .before .before .before .before .before .before .before .args .at) (c .before .before .before .before .before .before .before .before .before .before .before .before .before .before .before .before .before .before .before .before .before .before .before .before .before .pre)) (c .before .before .before .before .before .before .before .before .before .before .before .before .before .before .before .before .before .before .before .before .before .before .put-byte .ensures)) (c .before .before .before .before .before .before .before .before .before .before .before .before .before .before .before .before .before .before .put-duration .ensures)) (c .before .before .before .before .before .before .before .before .before .before .before .before .before .before .put-byte2 .ensures)) (c .before .before .before .before .before .before .before .before .before .before .put-step .ensures)) (c .before .before .before .before .before .before .put-byte3 .ensures)) (c .before .before .put-times .ensures))
+returns c =
+    let at-third-put-byte = c .before .before .before .before .before .before in
+    let at-put-step = at-third-put-byte .before .before .before .before in
+    let at-second-put-byte = at-put-step .before .before .before .before in
+    let at-put-duration = at-second-put-byte .before .before .before .before in
+    let at-put-byte = at-put-duration .before .before .before .before in
+    let at-start = at-put-byte .before .before .before in
+    end (next (next (next (next (next (next (run-suffix (displayDuration (at-start .args .range))
+    (optional displayDuration (optionalDurationOf (at-start .args .step)))
+    (displayTimes (timesOf (at-start .args .times))) (at-start .args .out .now) (at-start .args .at)
+    (at-start .pre)) (at-put-byte .put-byte .ensures)) (at-put-duration .put-duration .ensures))
+    (at-second-put-byte .put-byte2 .ensures)) (at-put-step .put-step .ensures))
+    (at-third-put-byte .put-byte3 .ensures)) (c .before .before .put-times .ensures))
 
 pub put-subquery-spec : {M : Type 1} → statement M
 put-subquery-spec =

@@ -10,16 +10,31 @@ use Rattle.pieces.proofs.times.put_times.Statement.{statement}
 use Rattle.pieces.proofs.times.put_times.Tie as tie
 
 put-at-requires : tie.Need-put-at-requires
-put-at-requires c κs = fits (run-two (optional spacedAt (atOf (c .before .before .args .times .at))) (optional spacedOffset (shiftOf (c .before .before .args .times .offset))) (c .before .before .args .out .now) (c .before .before .args .at) refl (c .before .before .pre))
+put-at-requires c κs =
+    let at-start = c .before .before in
+    fits (run-two (optional spacedAt (atOf (at-start .args .times .at)))
+    (optional spacedOffset (shiftOf (at-start .args .times .offset))) (at-start .args .out .now)
+    (at-start .args .at) refl (at-start .pre))
 
 put-shift-requires : tie.Need-put-shift-requires
-put-shift-requires c κs = fits (next (run-two (optional spacedAt (atOf (c .before .before .before .before .before .before .args .times .at))) (optional spacedOffset (shiftOf (c .before .before .before .before .before .before .args .times .offset))) (c .before .before .before .before .before .before .args .out .now) (c .before .before .before .before .before .before .args .at) refl (c .before .before .before .before .before .before .pre)) (c .before .before .before .put-at .ensures))
+put-shift-requires c κs =
+    let at-put-at = c .before .before .before in
+    let at-start = at-put-at .before .before .before in
+    fits (next (run-two (optional spacedAt (atOf (at-start .args .times .at)))
+    (optional spacedOffset (shiftOf (at-start .args .times .offset))) (at-start .args .out .now)
+    (at-start .args .at) refl (at-start .pre)) (at-put-at .put-at .ensures))
 
 same-length : tie.Need-same-length
 same-length c = search needs
 
 returns : tie.Need-returns
-returns c = end (next (next (run-two (optional spacedAt (atOf (c .before .before .before .before .before .before .before .before .before .args .times .at))) (optional spacedOffset (shiftOf (c .before .before .before .before .before .before .before .before .before .args .times .offset))) (c .before .before .before .before .before .before .before .before .before .args .out .now) (c .before .before .before .before .before .before .before .before .before .args .at) refl (c .before .before .before .before .before .before .before .before .before .pre)) (c .before .before .before .before .before .before .put-at .ensures)) (c .before .before .put-shift .ensures))
+returns c =
+    let at-put-at = c .before .before .before .before .before .before in
+    let at-start = at-put-at .before .before .before in
+    end (next (next (run-two (optional spacedAt (atOf (at-start .args .times .at)))
+    (optional spacedOffset (shiftOf (at-start .args .times .offset))) (at-start .args .out .now)
+    (at-start .args .at) refl (at-start .pre)) (at-put-at .put-at .ensures))
+    (c .before .before .put-shift .ensures))
 
 pub put-times-spec : {M : Type 1} → statement M
 put-times-spec = tie.close (tie.spec put-at-requires put-shift-requires same-length returns)

@@ -22,7 +22,10 @@ returns : tie.Need-returns
 returns c = search needs
 
 returns-2 : tie.Need-returns-2
-returns-2 c = rw (c .before .before .range .given .1) (omega (arith, c .duration-len .ensures, bracketed-len (displayDuration (c .before .before .range .given .0 .0))))
+returns-2 c =
+    rw (c .before .before .range .given .1)
+    (omega
+    (arith, c .duration-len .ensures, bracketed-len (displayDuration (c .before .before .range .given .0 .0))))
 
 pub range-len-spec : {M : Type 1} → statement M
 range-len-spec =

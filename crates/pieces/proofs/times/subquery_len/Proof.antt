@@ -28,7 +28,17 @@ add-result-3 : tie.Need-add-result-3
 add-result-3 c = search needs
 
 returns : tie.Need-returns
-returns c = omega (arith, c .before .before .duration-len .ensures .0, c .before .step-len .ensures .0, c .times-len .ensures .0, suffix-len (displayDuration (c .before .before .before .args .range)) (optional displayDuration (optionalDurationOf (c .before .before .before .args .step))) (displayTimes (timesOf (c .before .before .before .args .times))))
+returns c =
+    let at-start = c .before .before .before in
+    omega (
+      arith,
+      c .before .before .duration-len .ensures .0,
+      c .before .step-len .ensures .0,
+      c .times-len .ensures .0,
+      suffix-len (displayDuration (at-start .args .range))
+          (optional displayDuration (optionalDurationOf (at-start .args .step)))
+          (displayTimes (timesOf (at-start .args .times))),
+    )
 
 pub subquery-len-spec : {M : Type 1} → statement M
 subquery-len-spec =

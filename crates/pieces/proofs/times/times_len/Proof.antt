@@ -18,7 +18,14 @@ add-result : tie.Need-add-result
 add-result c = search needs
 
 returns : tie.Need-returns
-returns c = omega (arith, c .before .at-len .ensures, c .shift-len .ensures, length-append (optional spacedAt (atOf (c .before .before .args .times .at))) (optional spacedOffset (shiftOf (c .before .before .args .times .offset))))
+returns c =
+    omega (
+      arith,
+      c .before .at-len .ensures,
+      c .shift-len .ensures,
+      length-append (optional spacedAt (atOf (c .before .before .args .times .at)))
+          (optional spacedOffset (shiftOf (c .before .before .args .times .offset))),
+    )
 
 pub times-len-spec : {M : Type 1} → statement M
 times-len-spec = tie.close (tie.spec at-len-requires shift-len-requires add-result returns)

@@ -28,26 +28,25 @@ enum-known-f-2 c = search needs
 
 returns : tie.Need-returns
 returns c =
-    let at-value = c .before .before in
-    let at-read-value = at-value .before .before in
-    let at-name = at-read-value .before .before in
-    let at-read-name = at-name .before .before in
-    let name = label-read _ _ (at-name .name .given .1) (at-read-name .read-text .ensures) in
-    let value = label-read _ _ (at-value .value .given .1) (at-read-value .read-text2 .ensures) in
+    let at-second-read-text = c .before .before .before .before in
+    let at-name = at-second-read-text .before .before in
+    let at-read-text = at-name .before .before in
+    let name = label-read _ _ (at-name .name .given .1) (at-read-text .read-text .ensures) in
+    let value = label-read _ _ (c .before .before .value .given .1) (at-second-read-text .read-text2 .ensures) in
     c .read-pattern-flag .ensures ∙ texts-read _ _ _ _ _ name value
 
 returns-2 : tie.Need-returns-2
 returns-2 c =
-    let at-read-value = c .before .before .before in
-    let at-name = at-read-value .before .before in
-    let at-read-name = at-name .before .before in
-    let name = label-read _ _ (at-name .name .given .1) (at-read-name .read-text .ensures) in
-    value-refused _ _ _ _ name (label-refused _ _ (c .before .f .given .1) (at-read-value .read-text2 .ensures))
+    let at-second-read-text = c .before .before .before in
+    let at-name = at-second-read-text .before .before in
+    let at-read-text = at-name .before .before in
+    let name = label-read _ _ (at-name .name .given .1) (at-read-text .read-text .ensures) in
+    value-refused _ _ _ _ name (label-refused _ _ (c .before .f .given .1) (at-second-read-text .read-text2 .ensures))
 
 returns-3 : tie.Need-returns-3
 returns-3 c =
-    let at-read-name = c .before .before .before in
-    name-refused _ _ _ (label-refused _ _ (c .before .f2 .given .1) (at-read-name .read-text .ensures))
+    let at-read-text = c .before .before .before in
+    name-refused _ _ _ (label-refused _ _ (c .before .f2 .given .1) (at-read-text .read-text .ensures))
 
 pub read-texts-spec : {M : Type 1} → statement M
 read-texts-spec =

@@ -34,16 +34,16 @@ same-length-2 c = search needs
 
 returns-2 : tie.Need-returns-2
 returns-2 c =
-    let at-e = c .before .before .before .before .before in
-    rw (at-e .e2 .given .1) (c .before .before .put-matcher .ensures)
+    let at-second-e = c .before .before .before .before .before in
+    rw (at-second-e .e2 .given .1) (c .before .before .put-matcher .ensures)
 
 same-length-3 : tie.Need-same-length-3
 same-length-3 c = search needs
 
 returns-3 : tie.Need-returns-3
 returns-3 c =
-    let at-e = c .before .before .before .before .before in
-    rw (at-e .e3 .given .1) (c .before .before .put-spaced .ensures)
+    let at-third-e = c .before .before .before .before .before in
+    rw (at-third-e .e3 .given .1) (c .before .before .put-spaced .ensures)
 
 pub put-element-spec : {M : Type 1} → statement M
 put-element-spec =

@@ -1,4 +1,5 @@
--- `record_lines::list::put_list` meets its contract. Invariant: the elements that are left give what all of them give. The measure is their
+-- `record_lines::list::put_list` meets its contract. Invariant: the
+-- elements that are left give what all of them give. The measure is their
 -- count. Assumes nothing.
 use borrow.Author.Needs.{needs}
 use mathlib.Core.Path.{_≡_, refl}
@@ -15,7 +16,8 @@ use Rattle.record_lines.proofs.list.put_list.Tie as tie
 abbrev Inv-loop : tie.InvT-loop
 Inv-loop elements page start count line₀ at end₀ from₀ left₀ line end from left =
     (length line ≡ length line₀)
-    × Showing line₀ end₀ (join (listed (readElement elements page) count (drop start page))) line end (join (listed (readElement elements page) left (drop from page)))
+    × Showing line₀ end₀ (join (listed (readElement elements page) count (drop start page))) line end
+    (join (listed (readElement elements page) left (drop from page)))
 
 abbrev μ-loop : tie.MeasureT-loop
 μ-loop elements page start count line₀ at end₀ from₀ left₀ line end from left = left
@@ -46,8 +48,13 @@ loop-again c =
     let at-e = c .before .before .before .before .before in
     let at-read-element = at-e .before .before in
     let at-loop-test = at-read-element .before in
-    let at-loop = at-loop-test .before in
-    (search needs, showing-next (at-loop .loop .inv .1) (elements-more _ _ _ (at-loop-test .loop-test .taken) (rw (at-e .e .given .1) at (at-read-element .read-element .ensures))) (c .before .before .put-element .ensures))
+    let at-loop = at-loop-test .before in (
+      search needs,
+      showing-next (at-loop .loop .inv .1)
+          (elements-more _ _ _ (at-loop-test .loop-test .taken)
+          (rw (at-e .e .given .1) at (at-read-element .read-element .ensures)))
+          (c .before .before .put-element .ensures),
+    )
 
 enum-told : tie.Need-enum-told Inv-loop μ-loop
 enum-told c = search needs
@@ -60,7 +67,9 @@ unfolding listNumbers
 returns c =
     let at-loop = c .before .before .before .before in
     let at-put-spaced = at-loop .before .before .before in
-    shows-then (at-put-spaced .put-spaced .ensures) (showing-end (at-loop .loop .inv .1) (elements-refused _ _ _ (rw (c .enum-told .given .1) at (c .before .before .read-element .ensures))))
+    shows-then (at-put-spaced .put-spaced .ensures)
+    (showing-end (at-loop .loop .inv .1)
+    (elements-refused _ _ _ (rw (c .enum-told .given .1) at (c .before .before .read-element .ensures))))
 
 same-length-2 : tie.Need-same-length-2 Inv-loop μ-loop
 same-length-2 c = search needs
@@ -69,7 +78,8 @@ returns-2 : tie.Need-returns-2 Inv-loop μ-loop
 unfolding listNumbers
 returns-2 c =
     let at-put-spaced = c .before .before .before .before in
-    shows-then (at-put-spaced .put-spaced .ensures) (showing-end (c .before .loop .inv .1) (elements-none _ _ _ (c .loop-test .left)))
+    shows-then (at-put-spaced .put-spaced .ensures)
+    (showing-end (c .before .loop .inv .1) (elements-none _ _ _ (c .loop-test .left)))
 
 pub put-list-spec : {M : Type 1} → statement M
 put-list-spec =

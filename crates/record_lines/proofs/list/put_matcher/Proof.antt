@@ -21,10 +21,11 @@ same-length c = search needs
 
 returns : tie.Need-returns
 returns c =
-    let at-put-span = c .before .before .before .before .before .before in
-    let at-put-span· = at-put-span .before .before .before .before in
-    let at-put-spaced = at-put-span· .before .before .before .before in
-    shows-then (shows-then (shows-then (at-put-spaced .put-spaced .ensures) (at-put-span· .put-span .ensures)) (at-put-span .put-span2 .ensures)) (c .before .before .put-numbers .ensures)
+    let at-second-put-span = c .before .before .before .before .before .before in
+    let at-put-span = at-second-put-span .before .before .before .before in
+    let at-put-spaced = at-put-span .before .before .before .before in
+    shows-then (shows-then (shows-then (at-put-spaced .put-spaced .ensures) (at-put-span .put-span .ensures))
+    (at-second-put-span .put-span2 .ensures)) (c .before .before .put-numbers .ensures)
 
 pub put-matcher-spec : {M : Type 1} → statement M
 put-matcher-spec =

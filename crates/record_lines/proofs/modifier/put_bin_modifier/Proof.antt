@@ -38,7 +38,8 @@ returns c =
     let at-flag-number = at-put-spaced .before .before in
     let flag = rw (at-flag-number .flag-number .ensures) at (at-put-spaced .put-spaced .ensures) in
     let card = rw (at-cardinality-form .cardinality-form .ensures _) at (at-put-form .put-form .ensures) in
-    shows-then (shows-then (shows-then (shows-then flag (at-put-label-modifier .put-label-modifier .ensures)) card) (at-put-fill .put-fill .ensures)) (c .before .before .put-fill2 .ensures)
+    shows-then (shows-then (shows-then (shows-then flag (at-put-label-modifier .put-label-modifier .ensures)) card)
+    (at-put-fill .put-fill .ensures)) (c .before .before .put-fill2 .ensures)
 
 pub put-bin-modifier-spec : {M : Type 1} → statement M
 put-bin-modifier-spec =

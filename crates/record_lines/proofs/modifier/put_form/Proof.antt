@@ -32,9 +32,10 @@ same-length-2 c = search needs
 
 returns-2 : tie.Need-returns-2
 returns-2 c =
-    let at-put-spaced = c .before .before .before .before .before .before in
-    let at-form = at-put-spaced .before .before .before in
-    rw (at-form .form2 .given .1) (shows-then (at-put-spaced .put-spaced2 .ensures) (c .before .before .put-list .ensures))
+    let at-second-put-spaced = c .before .before .before .before .before .before in
+    let at-second-form = at-second-put-spaced .before .before .before in
+    rw (at-second-form .form2 .given .1)
+    (shows-then (at-second-put-spaced .put-spaced2 .ensures) (c .before .before .put-list .ensures))
 
 pub put-form-spec : {M : Type 1} → statement M
 put-form-spec =

@@ -38,9 +38,10 @@ same-length-2 c = search needs
 
 returns-3 : tie.Need-returns-3
 returns-3 c =
-    let at-put-spaced = c .before .before .before .before .before .before in
-    let at-numbers = at-put-spaced .before .before .before in
-    rw (at-numbers .numbers2 .given .1) (shows-then (at-put-spaced .put-spaced2 .ensures) (c .before .before .put-spaced3 .ensures))
+    let at-second-put-spaced = c .before .before .before .before .before .before in
+    let at-second-numbers = at-second-put-spaced .before .before .before in
+    rw (at-second-numbers .numbers2 .given .1)
+    (shows-then (at-second-put-spaced .put-spaced2 .ensures) (c .before .before .put-spaced3 .ensures))
 
 pub put-numbers-spec : {M : Type 1} → statement M
 put-numbers-spec =

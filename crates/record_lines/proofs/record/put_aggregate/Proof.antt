@@ -20,7 +20,9 @@ returns : tie.Need-returns
 returns c =
     let at-put-label-modifier = c .before .before .before .before .before .before in
     let at-put-spaced = at-put-label-modifier .before .before .before .before in
-    shows-then (shows-then (at-put-spaced .put-spaced .ensures) (at-put-label-modifier .put-label-modifier .ensures)) (c .before .before .put-spaced2 .ensures)
+    shows-then
+    (shows-then (at-put-spaced .put-spaced .ensures) (at-put-label-modifier .put-label-modifier .ensures))
+    (c .before .before .put-spaced2 .ensures)
 
 pub put-aggregate-spec : {M : Type 1} → statement M
 put-aggregate-spec =

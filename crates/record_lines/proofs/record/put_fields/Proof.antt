@@ -89,32 +89,32 @@ same-length-2 c = search needs
 
 returns-2 : tie.Need-returns-2
 returns-2 c =
-    let at-r = c .before .before .before .before .before in
-    rw (at-r .r2 .given .1) (c .before .before .put-span .ensures)
+    let at-second-r = c .before .before .before .before .before in
+    rw (at-second-r .r2 .given .1) (c .before .before .put-span .ensures)
 
 same-length-3 : tie.Need-same-length-3
 same-length-3 c = search needs
 
 returns-3 : tie.Need-returns-3
 returns-3 c =
-    let at-r = c .before .before .before .before .before in
-    rw (at-r .r3 .given .1) (c .before .before .put-selector .ensures)
+    let at-third-r = c .before .before .before .before .before in
+    rw (at-third-r .r3 .given .1) (c .before .before .put-selector .ensures)
 
 same-length-4 : tie.Need-same-length-4
 same-length-4 c = search needs
 
 returns-4 : tie.Need-returns-4
 returns-4 c =
-    let at-r = c .before .before .before .before .before in
-    rw (at-r .r4 .given .1) (c .before .before .put-spaced .ensures)
+    let at-fourth-r = c .before .before .before .before .before in
+    rw (at-fourth-r .r4 .given .1) (c .before .before .put-spaced .ensures)
 
 same-length-5 : tie.Need-same-length-5
 same-length-5 c = search needs
 
 returns-5 : tie.Need-returns-5
 returns-5 c =
-    let at-r = c .before .before .before .before .before in
-    rw (at-r .r5 .given .1) (c .before .before .put-subquery .ensures)
+    let at-fifth-r = c .before .before .before .before .before in
+    rw (at-fifth-r .r5 .given .1) (c .before .before .put-subquery .ensures)
 
 same-length-6 : tie.Need-same-length-6
 same-length-6 c = search needs
@@ -122,8 +122,8 @@ same-length-6 c = search needs
 returns-6 : tie.Need-returns-6
 returns-6 c =
     let at-at-numbers = c .before .before .before .before in
-    let at-r = at-at-numbers .before .before in
-    rw (at-r .r6 .given .1, ← at-at-numbers .at-numbers .ensures) (c .before .before .put-numbers .ensures)
+    let at-sixth-r = at-at-numbers .before .before in
+    rw (at-sixth-r .r6 .given .1, ← at-at-numbers .at-numbers .ensures) (c .before .before .put-numbers .ensures)
 
 same-length-7 : tie.Need-same-length-7
 same-length-7 c = search needs
@@ -131,8 +131,9 @@ same-length-7 c = search needs
 returns-7 : tie.Need-returns-7
 returns-7 c =
     let at-offset-numbers = c .before .before .before .before in
-    let at-r = at-offset-numbers .before .before in
-    rw (at-r .r7 .given .1, ← at-offset-numbers .offset-numbers .ensures) (c .before .before .put-numbers2 .ensures)
+    let at-seventh-r = at-offset-numbers .before .before in
+    rw (at-seventh-r .r7 .given .1, ← at-offset-numbers .offset-numbers .ensures)
+    (c .before .before .put-numbers2 .ensures)
 
 returns-8 : tie.Need-returns-8
 returns-8 c = rw (c .enum-told .given .1) shows-none
@@ -145,24 +146,24 @@ same-length-8 c = search needs
 
 returns-10 : tie.Need-returns-10
 returns-10 c =
-    let at-r = c .before .before .before .before .before in
-    rw (at-r .r8 .given .1) (c .before .before .put-binary .ensures)
+    let at-eighth-r = c .before .before .before .before .before in
+    rw (at-eighth-r .r8 .given .1) (c .before .before .put-binary .ensures)
 
 same-length-9 : tie.Need-same-length-9
 same-length-9 c = search needs
 
 returns-11 : tie.Need-returns-11
 returns-11 c =
-    let at-r = c .before .before .before .before .before in
-    rw (at-r .r9 .given .1) (c .before .before .put-aggregate .ensures)
+    let at-ninth-r = c .before .before .before .before .before in
+    rw (at-ninth-r .r9 .given .1) (c .before .before .put-aggregate .ensures)
 
 same-length-10 : tie.Need-same-length-10
 same-length-10 c = search needs
 
 returns-12 : tie.Need-returns-12
 returns-12 c =
-    let at-r = c .before .before .before .before .before in
-    rw (at-r .r10 .given .1) (c .before .before .put-call .ensures)
+    let at-tenth-r = c .before .before .before .before .before in
+    rw (at-tenth-r .r10 .given .1) (c .before .before .put-call .ensures)
 
 pub put-fields-spec : {M : Type 1} → statement M
 put-fields-spec =

@@ -34,7 +34,8 @@ returns c =
     let at-put-span = at-put-list .before .before .before .before in
     let variadic = rw (at-variadic-numbers .variadic-numbers .ensures) at (at-put-numbers .put-numbers .ensures) in
     let result = rw (at-kind-number .kind-number .ensures) at (c .before .before .put-spaced .ensures) in
-    shows-then (shows-then (shows-then (at-put-span .put-span .ensures) (at-put-list .put-list .ensures)) variadic) result
+    shows-then (shows-then (shows-then (at-put-span .put-span .ensures) (at-put-list .put-list .ensures)) variadic)
+    result
 
 pub put-function-spec : {M : Type 1} → statement M
 put-function-spec =

@@ -20,7 +20,8 @@ returns : tie.Need-returns
 returns c =
     let at-step-numbers = c .before .before .before .before in
     let at-put-spaced = at-step-numbers .before .before .before in
-    shows-then (at-put-spaced .put-spaced .ensures) (rw (at-step-numbers .step-numbers .ensures) at (c .before .before .put-numbers .ensures))
+    shows-then (at-put-spaced .put-spaced .ensures)
+    (rw (at-step-numbers .step-numbers .ensures) at (c .before .before .put-numbers .ensures))
 
 pub put-subquery-spec : {M : Type 1} → statement M
 put-subquery-spec =

@@ -1,4 +1,5 @@
--- `records::label::labels_from` meets its contract. The loop's invariant: `left` labels are still to be passed over from `at` on. Assumes nothing.
+-- `records::label::labels_from` meets its contract. The loop's invariant:
+-- `left` labels are still to be passed over from `at` on. Assumes nothing.
 use borrow.Author.Needs.{needs}
 use mathlib.Core.Path.{_≡_, refl, _∙_}
 use lib.ListN.{drop}
@@ -9,7 +10,8 @@ use Rattle.records.proofs.label.labels_from.Statement.{statement}
 use Rattle.records.proofs.label.labels_from.Tie as tie
 
 abbrev Inv-loop : tie.InvT-loop
-Inv-loop page start count left₀ at₀ left at = passed readAnyText count (drop start page) ≡ passed readAnyText left (drop at page)
+Inv-loop page start count left₀ at₀ left at =
+    passed readAnyText count (drop start page) ≡ passed readAnyText left (drop at page)
 
 abbrev μ-loop : tie.MeasureT-loop
 μ-loop page start count left₀ at₀ left at = left
@@ -31,21 +33,38 @@ loop-less c = search needs
 
 loop-again : tie.Need-loop-again Inv-loop μ-loop
 loop-again c =
-    let e = rw (c .before .label .given .1) at (c .before .before .before .read-text .ensures .0) in
-    c .before .before .before .before .before .loop .inv ∙ passed-more readAnyText (c .before .before .before .before .before .loop .left) (drop (c .before .before .before .before .before .loop .at) (now (c .before .before .before .before .before .before .before .args .page))) (c .before .before .before .before .loop-test .taken) e
+    let at-read-text = c .before .before .before in
+    let at-loop-test = at-read-text .before in
+    let at-loop = at-loop-test .before in
+    let at-start = at-loop .before .before in
+    let e = rw (c .before .label .given .1) at (at-read-text .read-text .ensures .0) in
+    at-loop .loop .inv
+    ∙ passed-more readAnyText (at-loop .loop .left) (drop (at-loop .loop .at) (now (at-start .args .page)))
+    (at-loop-test .loop-test .taken) e
 
 enum-known-f : tie.Need-enum-known-f Inv-loop μ-loop
 enum-known-f c = search needs
 
 returns : tie.Need-returns Inv-loop μ-loop
 returns c =
-    let e = rw (c .before .f .given .1) at (c .before .before .before .read-text .ensures .0) in
-    (one-refused readAnyText _ _ (c .before .before .before .before .before .loop .left) (drop (c .before .before .before .before .before .loop .at) (now (c .before .before .before .before .before .before .before .args .page))) (c .before .before .before .before .before .loop .inv) (c .before .before .before .before .loop-test .taken) e, tt)
+    let at-read-text = c .before .before .before in
+    let at-loop-test = at-read-text .before in
+    let at-loop = at-loop-test .before in
+    let at-start = at-loop .before .before in
+    let e = rw (c .before .f .given .1) at (at-read-text .read-text .ensures .0) in (
+      one-refused readAnyText _ _ (at-loop .loop .left) (drop (at-loop .loop .at) (now (at-start .args .page)))
+          (at-loop .loop .inv) (at-loop-test .loop-test .taken) e,
+      tt,
+    )
 
 returns-2 : tie.Need-returns-2 Inv-loop μ-loop
 returns-2 c =
-    let e = all-read readAnyText (c .before .before .before .args .count) (drop (c .before .before .before .args .start) (now (c .before .before .before .args .page))) (c .before .loop .left) (drop (c .before .loop .at) (now (c .before .before .before .args .page))) (c .before .loop .inv) (c .loop-test .left) in
-    (e, read-length readAnyText (c .before .before .before .args .count) (drop (c .before .before .before .args .start) (now (c .before .before .before .args .page))) e)
+    let at-loop = c .before in
+    let at-start = at-loop .before .before in
+    let e = all-read readAnyText (at-start .args .count) (drop (at-start .args .start) (now (at-start .args .page)))
+    (at-loop .loop .left) (drop (at-loop .loop .at) (now (at-start .args .page))) (at-loop .loop .inv)
+    (c .loop-test .left) in
+    (e, read-length readAnyText (at-start .args .count) (drop (at-start .args .start) (now (at-start .args .page))) e)
 
 pub labels-from-spec : {M : Type 1} → statement M
 labels-from-spec =

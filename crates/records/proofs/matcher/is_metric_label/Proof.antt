@@ -16,7 +16,8 @@ same-text-requires : tie.Need-same-text-requires
 same-text-requires c κs = search needs
 
 returns : tie.Need-returns
-returns c = c .same-text .ensures ∙ ap (λ (t : List _). equal t (bytes "__name__")) (c .before .before .text-at .ensures)
+returns c =
+    c .same-text .ensures ∙ ap (λ (t : List _). equal t (bytes "__name__")) (c .before .before .text-at .ensures)
 
 pub is-metric-label-spec : {M : Type 1} → statement M
 is-metric-label-spec =

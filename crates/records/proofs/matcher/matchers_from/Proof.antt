@@ -1,4 +1,5 @@
--- `records::matcher::matchers_from` meets its contract. The loop's invariant: what was seen and what is left of the list make the whole. Assumes nothing.
+-- `records::matcher::matchers_from` meets its contract. The loop's invariant:
+-- what was seen and what is left of the list make the whole. Assumes nothing.
 use denote.Ref.{now}
 use lib.ListN.{drop}
 use mathlib.Core.Path.{refl}
@@ -10,7 +11,8 @@ use Rattle.records.proofs.matcher.matchers_from.Statement.{statement}
 use Rattle.records.proofs.matcher.matchers_from.Tie as tie
 
 abbrev Inv-loop : tie.InvT-loop
-Inv-loop page start count left₀ at₀ named₀ empty₀ left at named empty = FactsSoFar count (drop start page) left (drop at page) named empty
+Inv-loop page start count left₀ at₀ named₀ empty₀ left at named empty =
+    FactsSoFar count (drop start page) left (drop at page) named empty
 
 abbrev μ-loop : tie.MeasureT-loop
 μ-loop page start count left₀ at₀ named₀ empty₀ left at named empty = left
@@ -32,21 +34,47 @@ loop-less c = search needs
 
 loop-again : tie.Need-loop-again Inv-loop μ-loop
 loop-again c =
-    let e = rw (c .before .name .given .1) at (c .before .before .before .read-matcher-facts .ensures) in
-    facts-more (c .before .before .before .before .before .before .before .args .count) (drop (c .before .before .before .before .before .before .before .args .start) (now (c .before .before .before .before .before .before .before .args .page))) (c .before .before .before .before .before .loop .left) (drop (c .before .before .before .before .before .loop .at) (now (c .before .before .before .before .before .before .before .args .page))) _ (c .before .before .before .before .before .loop .named) (c .before .before .before .before .before .loop .empty) _ _ (c .before .before .before .before .before .loop .inv) (c .before .before .before .before .loop-test .taken) e
+    let at-read-matcher-facts = c .before .before .before in
+    let at-loop-test = at-read-matcher-facts .before in
+    let at-loop = at-loop-test .before in
+    let at-start = at-loop .before .before in
+    let e = rw (c .before .name .given .1) at (at-read-matcher-facts .read-matcher-facts .ensures) in
+    facts-more (at-start .args .count) (drop (at-start .args .start) (now (at-start .args .page)))
+    (at-loop .loop .left) (drop (at-loop .loop .at) (now (at-start .args .page))) _ (at-loop .loop .named)
+    (at-loop .loop .empty) _ _ (at-loop .loop .inv) (at-loop-test .loop-test .taken) e
 
 enum-known-f : tie.Need-enum-known-f Inv-loop μ-loop
 enum-known-f c = search needs
 
 returns : tie.Need-returns Inv-loop μ-loop
 returns c =
-    let e = rw (c .before .f .given .1) at (c .before .before .before .read-matcher-facts .ensures) in
-    (one-refused readMatcher _ _ (c .before .before .before .before .before .loop .left) (drop (c .before .before .before .before .before .loop .at) (now (c .before .before .before .before .before .before .before .args .page))) (c .before .before .before .before .before .loop .inv .passes) (c .before .before .before .before .loop-test .taken) (readMatcherFacts-refused (drop (c .before .before .before .before .before .loop .at) (now (c .before .before .before .before .before .before .before .args .page))) e), tt)
+    let at-read-matcher-facts = c .before .before .before in
+    let at-loop-test = at-read-matcher-facts .before in
+    let at-loop = at-loop-test .before in
+    let at-start = at-loop .before .before in
+    let e = rw (c .before .f .given .1) at (at-read-matcher-facts .read-matcher-facts .ensures) in (
+      one-refused readMatcher _ _ (at-loop .loop .left) (drop (at-loop .loop .at) (now (at-start .args .page)))
+          (at-loop .loop .inv .passes) (at-loop-test .loop-test .taken)
+          (readMatcherFacts-refused (drop (at-loop .loop .at) (now (at-start .args .page))) e),
+      tt,
+    )
 
 returns-2 : tie.Need-returns-2 Inv-loop μ-loop
 returns-2 c =
-    let e = all-read readMatcher (c .before .before .before .args .count) (drop (c .before .before .before .args .start) (now (c .before .before .before .args .page))) (c .before .loop .left) (drop (c .before .loop .at) (now (c .before .before .before .args .page))) (c .before .loop .inv .passes) (c .loop-test .left) in
-    (e, (facts-all (c .before .before .before .args .count) (drop (c .before .before .before .args .start) (now (c .before .before .before .args .page))) (c .before .loop .left) _ (c .before .loop .named) (c .before .loop .empty) (c .before .loop .inv) (c .loop-test .left), read-length readMatcher (c .before .before .before .args .count) (drop (c .before .before .before .args .start) (now (c .before .before .before .args .page))) e))
+    let at-loop = c .before in
+    let at-start = at-loop .before .before in
+    let e = all-read readMatcher (at-start .args .count) (drop (at-start .args .start) (now (at-start .args .page)))
+    (at-loop .loop .left) (drop (at-loop .loop .at) (now (at-start .args .page))) (at-loop .loop .inv .passes)
+    (c .loop-test .left) in (
+      e,
+      (
+        facts-all (at-start .args .count) (drop (at-start .args .start) (now (at-start .args .page)))
+            (at-loop .loop .left) _ (at-loop .loop .named) (at-loop .loop .empty) (at-loop .loop .inv)
+            (c .loop-test .left),
+        read-length readMatcher (at-start .args .count) (drop (at-start .args .start) (now (at-start .args .page)))
+            e,
+      ),
+    )
 
 pub matchers-from-spec : {M : Type 1} → statement M
 matchers-from-spec =

@@ -1,4 +1,5 @@
--- `records::matcher::read_matcher_facts` meets its contract: the number, the name, and what follows it. Assumes nothing.
+-- `records::matcher::read_matcher_facts` meets its contract:
+-- the number, the name, and what follows it. Assumes nothing.
 use denote.Ref.{now}
 use lib.ListN.{drop}
 use mathlib.Core.Bool.{Bool}
@@ -18,8 +19,11 @@ enum-known-op c = search needs
 
 returns : tie.Need-returns
 returns c =
-    let e = rw (c .before .before .op .given .1) at (c .before .before .before .before .read-number .ensures .0) in
-    facts-no-form (c .before .before .op .given .0 .0) (drop (c .before .before .before .before .before .before .args .at) (now (c .before .before .before .before .before .before .args .page))) _ (c .if1 .taken) e
+    let at-read-number = c .before .before .before .before in
+    let at-start = at-read-number .before .before in
+    let e = rw (c .before .before .op .given .1) at (at-read-number .read-number .ensures .0) in
+    facts-no-form (c .before .before .op .given .0 .0) (drop (at-start .args .at) (now (at-start .args .page))) _
+    (c .if1 .taken) e
 
 read-text-requires : tie.Need-read-text-requires
 read-text-requires c κs = search needs
@@ -28,7 +32,9 @@ enum-known-name : tie.Need-enum-known-name
 enum-known-name c = search needs
 
 is-metric-label-requires : tie.Need-is-metric-label-requires
-is-metric-label-requires c κs = rw (c .before .name .given .1) at (c .before .before .before .read-text .ensures .1)
+is-metric-label-requires c κs =
+    let at-read-text = c .before .before .before in
+    rw (c .before .name .given .1) at (at-read-text .read-text .ensures .1)
 
 read-value-facts-requires : tie.Need-read-value-facts-requires
 read-value-facts-requires c κs = search needs
@@ -41,15 +47,30 @@ enum-told c = search needs
 
 returns-2 : tie.Need-returns-2
 returns-2 c =
-    let e = rw (c .before .before .before .before .before .before .before .before .op .given .1) at (c .before .before .before .before .before .before .before .before .before .before .read-number .ensures .0) in
-    let n = rw (c .before .before .before .name .given .1) at (c .before .before .before .before .before .read-text .ensures .0) in
-    c .read-value-facts .ensures ∙ ap (λ (b : Bool). readerAt (factForms b) (c .before .before .before .before .before .before .before .before .op .given .0 .0) (drop (c .before .before .before .name .given .0 .0 .end) (now (c .before .before .before .before .before .before .before .before .before .before .before .before .args .page)))) (c .before .is-metric-label .ensures) ∙ facts-read (c .before .before .before .before .before .before .before .before .op .given .0 .0) _ (drop (c .before .before .before .before .before .before .before .before .before .before .before .before .args .at) (now (c .before .before .before .before .before .before .before .before .before .before .before .before .args .page))) _ _ (c .before .before .before .before .before .before .if1 .left) e n
+    let at-name = c .before .before .before in
+    let at-read-text = at-name .before .before in
+    let at-if = at-read-text .before in
+    let at-op = at-if .before .before in
+    let at-read-number = at-op .before .before in
+    let at-start = at-read-number .before .before in
+    let e = rw (at-op .op .given .1) at (at-read-number .read-number .ensures .0) in
+    let n = rw (at-name .name .given .1) at (at-read-text .read-text .ensures .0) in
+    c .read-value-facts .ensures
+    ∙ ap (λ (b : Bool). readerAt (factForms b) (at-op .op .given .0 .0)
+    (drop (at-name .name .given .0 .0 .end) (now (at-start .args .page)))) (c .before .is-metric-label .ensures)
+    ∙ facts-read (at-op .op .given .0 .0) _ (drop (at-start .args .at) (now (at-start .args .page))) _ _
+    (at-if .if1 .left) e n
 
 returns-3 : tie.Need-returns-3
 returns-3 c =
-    let e = rw (c .before .before .before .before .before .before .op .given .1) at (c .before .before .before .before .before .before .before .before .read-number .ensures .0) in
-    let n = rw (c .before .f .given .1) at (c .before .before .before .read-text .ensures .0) in
-    facts-cut (c .before .before .before .before .before .before .op .given .0 .0) (drop (c .before .before .before .before .before .before .before .before .before .before .args .at) (now (c .before .before .before .before .before .before .before .before .before .before .args .page))) _ (c .before .before .before .before .if1 .left) e n
+    let at-read-text = c .before .before .before in
+    let at-if = at-read-text .before in
+    let at-op = at-if .before .before in
+    let at-read-number = at-op .before .before in
+    let at-start = at-read-number .before .before in
+    let e = rw (at-op .op .given .1) at (at-read-number .read-number .ensures .0) in
+    let n = rw (c .before .f .given .1) at (at-read-text .read-text .ensures .0) in
+    facts-cut (at-op .op .given .0 .0) (drop (at-start .args .at) (now (at-start .args .page))) _ (at-if .if1 .left) e n
 
 returns-4 : tie.Need-returns-4
 returns-4 c = let e = rw (c .enum-told .given .1) at (c .before .before .read-number .ensures .0) in simp (← e)

@@ -16,10 +16,15 @@ enum-known-f : tie.Need-enum-known-f
 enum-known-f c = search needs
 
 returns : tie.Need-returns
-returns c = let e = rw (c .before .before .count .given .1) at (c .before .before .before .before .read-count .ensures) in (simp (← e, c .matchers-from .ensures .0), c .matchers-from .ensures .1)
+returns c =
+    let at-read-count = c .before .before .before .before in
+    let e = rw (c .before .before .count .given .1) at (at-read-count .read-count .ensures) in
+    (simp (← e, c .matchers-from .ensures .0), c .matchers-from .ensures .1)
 
 returns-2 : tie.Need-returns-2
-returns-2 c = let e = rw (c .before .f .given .1) at (c .before .before .before .read-count .ensures) in (simp (← e), tt)
+returns-2 c =
+    let at-read-count = c .before .before .before in
+    let e = rw (c .before .f .given .1) at (at-read-count .read-count .ensures) in (simp (← e), tt)
 
 pub read-matchers-spec : {M : Type 1} → statement M
 read-matchers-spec =

@@ -1,4 +1,5 @@
--- `records::matcher::read_pattern_facts` meets its contract: the operator says whether the flag is inverted. Assumes nothing.
+-- `records::matcher::read_pattern_facts` meets its contract: the
+-- operator says whether the flag is inverted. Assumes nothing.
 use borrow.Author.Tests.{eq-eqb, ne-eqb}
 use borrow.Author.Needs.{needs}
 use Rattle.records.proofs.matcher.read_pattern_facts.Statement.{statement}
@@ -11,13 +12,21 @@ enum-known-flag : tie.Need-enum-known-flag
 enum-known-flag c = search needs
 
 returns : tie.Need-returns
-returns c = let e = rw (c .before .before .flag .given .1) at (c .before .before .before .before .read-flag .ensures) in simp (← e, eq-eqb (c .before .before .before .before .before .before .args .op) 2 (c .if1 .taken))
+returns c =
+    let at-read-flag = c .before .before .before .before in
+    let at-start = at-read-flag .before .before in
+    let e = rw (c .before .before .flag .given .1) at (at-read-flag .read-flag .ensures) in
+    simp (← e, eq-eqb (at-start .args .op) 2 (c .if1 .taken))
 
 enum-told : tie.Need-enum-told
 enum-told c = search needs
 
 returns-2 : tie.Need-returns-2
-returns-2 c = let e = rw (c .before .before .flag .given .1) at (c .before .before .before .before .read-flag .ensures) in simp (← e, ne-eqb (c .before .before .before .before .before .before .args .op) 2 (c .if1 .left))
+returns-2 c =
+    let at-read-flag = c .before .before .before .before in
+    let at-start = at-read-flag .before .before in
+    let e = rw (c .before .before .flag .given .1) at (at-read-flag .read-flag .ensures) in
+    simp (← e, ne-eqb (at-start .args .op) 2 (c .if1 .left))
 
 returns-3 : tie.Need-returns-3
 returns-3 c = let e = rw (c .enum-told .given .1) at (c .before .before .read-flag .ensures) in simp (← e)

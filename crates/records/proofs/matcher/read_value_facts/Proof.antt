@@ -1,4 +1,5 @@
--- `records::matcher::read_value_facts` meets its contract: by the operator, the value or the flag after it decides. Assumes nothing.
+-- `records::matcher::read_value_facts` meets its contract: by the
+-- operator, the value or the flag after it decides. Assumes nothing.
 use denote.Ref.{now}
 use lib.ListN.{drop}
 use mathlib.Core.Path.{sym, _∙_}
@@ -16,14 +17,18 @@ enum-known-value c = search needs
 
 returns : tie.Need-returns
 returns c =
-    let e = rw (c .before .before .before .value .given .1) at (c .before .before .before .before .before .read-text .ensures .0) in
-    let lies = rw (c .before .before .before .value .given .1) at (c .before .before .before .before .before .read-text .ensures .1) in
+    let at-value = c .before .before .before in
+    let at-read-text = at-value .before .before in
+    let e = rw (at-value .value .given .1) at (at-read-text .read-text .ensures .0) in
+    let lies = rw (at-value .value .given .1) at (at-read-text .read-text .ensures .1) in
     simp (c .before .if1 .taken, ← e, ← span-test _ _ lies)
 
 returns-2 : tie.Need-returns-2
 returns-2 c =
-    let e = rw (c .before .before .before .before .value .given .1) at (c .before .before .before .before .before .before .read-text .ensures .0) in
-    let lies = rw (c .before .before .before .before .value .given .1) at (c .before .before .before .before .before .before .read-text .ensures .1) in
+    let at-value = c .before .before .before .before in
+    let at-read-text = at-value .before .before in
+    let e = rw (at-value .value .given .1) at (at-read-text .read-text .ensures .0) in
+    let lies = rw (at-value .value .given .1) at (at-read-text .read-text .ensures .1) in
     simp (c .before .if2 .taken, ← e, ← span-test _ _ lies)
 
 read-pattern-facts-requires : tie.Need-read-pattern-facts-requires
@@ -34,13 +39,21 @@ enum-known-f c = search needs
 
 returns-3 : tie.Need-returns-3
 returns-3 c =
-    let e = rw (c .before .before .before .before .value .given .1) at (c .before .before .before .before .before .before .read-text .ensures .0) in
-    c .read-pattern-facts .ensures ∙ sym (pattern-facts (c .before .before .before .before .before .before .before .before .args .named) _ (drop (c .before .before .before .before .before .before .before .before .args .at) (now (c .before .before .before .before .before .before .before .before .args .page))) _ (c .before .before .before .before .before .before .before .before .args .op) (c .before .before .before .before .before .before .before .before .pre) (c .before .before .if1 .left) (c .before .if2 .left) e)
+    let at-value = c .before .before .before .before in
+    let at-read-text = at-value .before .before in
+    let at-start = at-read-text .before .before in
+    let e = rw (at-value .value .given .1) at (at-read-text .read-text .ensures .0) in
+    c .read-pattern-facts .ensures
+    ∙ sym (pattern-facts (at-start .args .named) _ (drop (at-start .args .at) (now (at-start .args .page))) _
+    (at-start .args .op) (at-start .pre) (c .before .before .if1 .left) (c .before .if2 .left) e)
 
 returns-4 : tie.Need-returns-4
 returns-4 c =
-    let e = rw (c .before .f .given .1) at (c .before .before .before .read-text .ensures .0) in
-    sym (value-refused (c .before .before .before .before .before .args .named) (drop (c .before .before .before .before .before .args .at) (now (c .before .before .before .before .before .args .page))) (c .before .before .before .before .before .args .op) (c .before .before .before .before .before .pre) e)
+    let at-read-text = c .before .before .before in
+    let at-start = at-read-text .before .before in
+    let e = rw (c .before .f .given .1) at (at-read-text .read-text .ensures .0) in
+    sym (value-refused (at-start .args .named) (drop (at-start .args .at) (now (at-start .args .page)))
+    (at-start .args .op) (at-start .pre) e)
 
 pub read-value-facts-spec : {M : Type 1} → statement M
 read-value-facts-spec =

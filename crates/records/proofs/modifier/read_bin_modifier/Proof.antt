@@ -22,7 +22,13 @@ enum-known-card : tie.Need-enum-known-card
 enum-known-card c = search needs
 
 read-fills-requires : tie.Need-read-fills-requires
-read-fills-requires c κs = (rw (c .before .before .before .before .before .matching .given .1) at (c .before .before .before .before .before .before .before .read-label-modifier .ensures .1), rw (c .before .card .given .1) at (c .before .before .before .read-cardinality .ensures .1))
+read-fills-requires c κs =
+    let at-read-cardinality = c .before .before .before in
+    let at-matching = at-read-cardinality .before .before in
+    let at-read-label-modifier = at-matching .before .before in (
+      rw (at-matching .matching .given .1) at (at-read-label-modifier .read-label-modifier .ensures .1),
+      rw (c .before .card .given .1) at (at-read-cardinality .read-cardinality .ensures .1),
+    )
 
 enum-known-f : tie.Need-enum-known-f
 enum-known-f c = search needs
@@ -34,18 +40,37 @@ enum-told : tie.Need-enum-told
 enum-told c = search needs
 
 returns : tie.Need-returns
-returns c = let e = rw (c .before .before .before .before .before .before .before .before .before .before .flag .given .1) at (c .before .before .before .before .before .before .before .before .before .before .before .before .read-flag .ensures) in
-    let f = rw (c .before .before .before .before .before .before .matching .given .1) at (c .before .before .before .before .before .before .before .before .read-label-modifier .ensures .0) in
-    let g = rw (c .before .before .card .given .1) at (c .before .before .before .before .read-cardinality .ensures .0) in (simp (← e, ← f, ← g, c .read-fills .ensures .0), c .read-fills .ensures .1)
+returns c =
+    let at-read-cardinality = c .before .before .before .before in
+    let at-matching = at-read-cardinality .before .before in
+    let at-read-label-modifier = at-matching .before .before in
+    let at-flag = at-read-label-modifier .before .before in
+    let at-read-flag = at-flag .before .before in
+    let e = rw (at-flag .flag .given .1) at (at-read-flag .read-flag .ensures) in
+    let f = rw (at-matching .matching .given .1) at (at-read-label-modifier .read-label-modifier .ensures .0) in
+    let g = rw (c .before .before .card .given .1) at (at-read-cardinality .read-cardinality .ensures .0) in
+    (simp (← e, ← f, ← g, c .read-fills .ensures .0), c .read-fills .ensures .1)
 
 returns-2 : tie.Need-returns-2
-returns-2 c = let e = rw (c .before .before .before .before .before .before .before .before .before .flag .given .1) at (c .before .before .before .before .before .before .before .before .before .before .before .read-flag .ensures) in
-    let f = rw (c .before .before .before .before .before .matching .given .1) at (c .before .before .before .before .before .before .before .read-label-modifier .ensures .0) in
-    let g = rw (c .before .f .given .1) at (c .before .before .before .read-cardinality .ensures .0) in (simp (← e, ← f, ← g), tt)
+returns-2 c =
+    let at-read-cardinality = c .before .before .before in
+    let at-matching = at-read-cardinality .before .before in
+    let at-read-label-modifier = at-matching .before .before in
+    let at-flag = at-read-label-modifier .before .before in
+    let at-read-flag = at-flag .before .before in
+    let e = rw (at-flag .flag .given .1) at (at-read-flag .read-flag .ensures) in
+    let f = rw (at-matching .matching .given .1) at (at-read-label-modifier .read-label-modifier .ensures .0) in
+    let g = rw (c .before .f .given .1) at (at-read-cardinality .read-cardinality .ensures .0) in
+    (simp (← e, ← f, ← g), tt)
 
 returns-3 : tie.Need-returns-3
-returns-3 c = let e = rw (c .before .before .before .before .before .flag .given .1) at (c .before .before .before .before .before .before .before .read-flag .ensures) in
-    let f = rw (c .before .f2 .given .1) at (c .before .before .before .read-label-modifier .ensures .0) in (simp (← e, ← f), tt)
+returns-3 c =
+    let at-read-label-modifier = c .before .before .before in
+    let at-flag = at-read-label-modifier .before .before in
+    let at-read-flag = at-flag .before .before in
+    let e = rw (at-flag .flag .given .1) at (at-read-flag .read-flag .ensures) in
+    let f = rw (c .before .f2 .given .1) at (at-read-label-modifier .read-label-modifier .ensures .0) in
+    (simp (← e, ← f), tt)
 
 returns-4 : tie.Need-returns-4
 returns-4 c = let e = rw (c .enum-told .given .1) at (c .before .before .read-flag .ensures) in (simp (← e), tt)

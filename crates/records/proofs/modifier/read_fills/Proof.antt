@@ -22,10 +22,22 @@ enum-told-2 : tie.Need-enum-told-2
 enum-told-2 c = search needs
 
 returns : tie.Need-returns
-returns c = let e = rw (c .before .before .before .before .before .lhs .given .1) at (c .before .before .before .before .before .before .before .read-fill .ensures) in let f = rw (c .before .rhs .given .1) at (c .before .before .before .read-fill2 .ensures) in (simp (← e, ← f), record { matching = c .before .before .before .before .before .before .before .before .before .pre .0; card = c .before .before .before .before .before .before .before .before .before .pre .1 })
+returns c =
+    let at-second-read-fill = c .before .before .before in
+    let at-lhs = at-second-read-fill .before .before in
+    let at-read-fill = at-lhs .before .before in
+    let at-start = at-read-fill .before .before in
+    let e = rw (at-lhs .lhs .given .1) at (at-read-fill .read-fill .ensures) in
+    let f = rw (c .before .rhs .given .1) at (at-second-read-fill .read-fill2 .ensures) in
+    (simp (← e, ← f), record { matching = at-start .pre .0; card = at-start .pre .1 })
 
 returns-2 : tie.Need-returns-2
-returns-2 c = let e = rw (c .before .before .before .before .lhs .given .1) at (c .before .before .before .before .before .before .read-fill .ensures) in let f = rw (c .enum-told .given .1) at (c .before .before .read-fill2 .ensures) in (simp (← e, ← f), tt)
+returns-2 c =
+    let at-lhs = c .before .before .before .before in
+    let at-read-fill = at-lhs .before .before in
+    let e = rw (at-lhs .lhs .given .1) at (at-read-fill .read-fill .ensures) in
+    let f = rw (c .enum-told .given .1) at (c .before .before .read-fill2 .ensures) in
+    (simp (← e, ← f), tt)
 
 returns-3 : tie.Need-returns-3
 returns-3 c = let e = rw (c .enum-told2 .given .1) at (c .before .before .read-fill .ensures) in (simp (← e), tt)

@@ -16,7 +16,13 @@ enum-known-kinds : tie.Need-enum-known-kinds
 enum-known-kinds c = search needs
 
 read-function-rest-requires : tie.Need-read-function-rest-requires
-read-function-rest-requires c κs = (rw (c .before .before .before .before .before .name .given .1) at (c .before .before .before .before .before .before .before .read-text .ensures .1), rw (c .before .kinds .given .1) at (c .before .before .before .read-kinds .ensures .1))
+read-function-rest-requires c κs =
+    let at-read-kinds = c .before .before .before in
+    let at-name = at-read-kinds .before .before in
+    let at-read-text = at-name .before .before in (
+      rw (at-name .name .given .1) at (at-read-text .read-text .ensures .1),
+      rw (c .before .kinds .given .1) at (at-read-kinds .read-kinds .ensures .1),
+    )
 
 enum-known-f : tie.Need-enum-known-f
 enum-known-f c = search needs
@@ -26,18 +32,26 @@ enum-known-f-2 c = search needs
 
 returns : tie.Need-returns
 returns c =
-    let e = rw (c .before .before .before .before .before .before .name .given .1) at (c .before .before .before .before .before .before .before .before .read-text .ensures .0) in
-    let f = rw (c .before .before .kinds .given .1) at (c .before .before .before .before .read-kinds .ensures .0) in
+    let at-read-kinds = c .before .before .before .before in
+    let at-name = at-read-kinds .before .before in
+    let at-read-text = at-name .before .before in
+    let e = rw (at-name .name .given .1) at (at-read-text .read-text .ensures .0) in
+    let f = rw (c .before .before .kinds .given .1) at (at-read-kinds .read-kinds .ensures .0) in
     (simp (← e, ← f, c .read-function-rest .ensures .0), c .read-function-rest .ensures .1)
 
 returns-2 : tie.Need-returns-2
 returns-2 c =
-    let e = rw (c .before .before .before .before .before .name .given .1) at (c .before .before .before .before .before .before .before .read-text .ensures .0) in
-    let g = rw (c .before .f .given .1) at (c .before .before .before .read-kinds .ensures .0) in
+    let at-read-kinds = c .before .before .before in
+    let at-name = at-read-kinds .before .before in
+    let at-read-text = at-name .before .before in
+    let e = rw (at-name .name .given .1) at (at-read-text .read-text .ensures .0) in
+    let g = rw (c .before .f .given .1) at (at-read-kinds .read-kinds .ensures .0) in
     (simp (← e, ← g), tt)
 
 returns-3 : tie.Need-returns-3
-returns-3 c = let e = rw (c .before .f2 .given .1) at (c .before .before .before .read-text .ensures .0) in (simp (← e), tt)
+returns-3 c =
+    let at-read-text = c .before .before .before in
+    let e = rw (c .before .f2 .given .1) at (at-read-text .read-text .ensures .0) in (simp (← e), tt)
 
 pub read-function-spec : {M : Type 1} → statement M
 read-function-spec =

@@ -22,13 +22,27 @@ enum-known-f : tie.Need-enum-known-f
 enum-known-f c = search needs
 
 returns : tie.Need-returns
-returns c = let e = rw (c .before .before .before .before .before .variadic .given .1) at (c .before .before .before .before .before .before .before .read-variadic .ensures) in let f = rw (c .before .result .given .1) at (c .before .before .before .read-kind .ensures) in (simp (← e, ← f), record { name = c .before .before .before .before .before .before .before .before .before .pre .0; kinds = c .before .before .before .before .before .before .before .before .before .pre .1 })
+returns c =
+    let at-read-kind = c .before .before .before in
+    let at-variadic = at-read-kind .before .before in
+    let at-read-variadic = at-variadic .before .before in
+    let at-start = at-read-variadic .before .before in
+    let e = rw (at-variadic .variadic .given .1) at (at-read-variadic .read-variadic .ensures) in
+    let f = rw (c .before .result .given .1) at (at-read-kind .read-kind .ensures) in
+    (simp (← e, ← f), record { name = at-start .pre .0; kinds = at-start .pre .1 })
 
 returns-2 : tie.Need-returns-2
-returns-2 c = let e = rw (c .before .before .before .before .variadic .given .1) at (c .before .before .before .before .before .before .read-variadic .ensures) in let f = rw (c .enum-told .given .1) at (c .before .before .read-kind .ensures) in (simp (← e, ← f), tt)
+returns-2 c =
+    let at-variadic = c .before .before .before .before in
+    let at-read-variadic = at-variadic .before .before in
+    let e = rw (at-variadic .variadic .given .1) at (at-read-variadic .read-variadic .ensures) in
+    let f = rw (c .enum-told .given .1) at (c .before .before .read-kind .ensures) in
+    (simp (← e, ← f), tt)
 
 returns-3 : tie.Need-returns-3
-returns-3 c = let g = rw (c .before .f .given .1) at (c .before .before .before .read-variadic .ensures) in (simp (← g), tt)
+returns-3 c =
+    let at-read-variadic = c .before .before .before in
+    let g = rw (c .before .f .given .1) at (at-read-variadic .read-variadic .ensures) in (simp (← g), tt)
 
 pub read-function-rest-spec : {M : Type 1} → statement M
 read-function-rest-spec =

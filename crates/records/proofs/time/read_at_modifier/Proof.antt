@@ -36,25 +36,66 @@ enum-told : tie.Need-enum-told
 enum-told c = search needs
 
 returns : tie.Need-returns
-returns c = let e = rw (c .before .before .form .given .1) at (c .before .before .before .before .read-number .ensures .0) in simp (← e, c .match2 .keys1)
+returns c =
+    let at-read-number = c .before .before .before .before in
+    let e = rw (c .before .before .form .given .1) at (at-read-number .read-number .ensures .0) in
+    simp (← e, c .match2 .keys1)
 
 returns-2 : tie.Need-returns-2
-returns-2 c = let e = rw (c .before .before .form .given .1) at (c .before .before .before .before .read-number .ensures .0) in simp (← e, c .match2 .keys2)
+returns-2 c =
+    let at-read-number = c .before .before .before .before in
+    let e = rw (c .before .before .form .given .1) at (at-read-number .read-number .ensures .0) in
+    simp (← e, c .match2 .keys2)
 
 returns-3 : tie.Need-returns-3
-returns-3 c = let e = rw (c .before .before .before .before .before .before .form .given .1) at (c .before .before .before .before .before .before .before .before .read-number .ensures .0) in let f = rw (c .before .n .given .1) at (c .before .before .before .read-time .ensures) in simp (← e, c .before .before .before .before .match2 .keys3, ← f)
+returns-3 c =
+    let at-read-time = c .before .before .before in
+    let at-match = at-read-time .before in
+    let at-form = at-match .before .before in
+    let at-read-number = at-form .before .before in
+    let e = rw (at-form .form .given .1) at (at-read-number .read-number .ensures .0) in
+    let f = rw (c .before .n .given .1) at (at-read-time .read-time .ensures) in
+    simp (← e, at-match .match2 .keys3, ← f)
 
 returns-4 : tie.Need-returns-4
-returns-4 c = let e = rw (c .before .before .before .before .before .before .form .given .1) at (c .before .before .before .before .before .before .before .before .read-number .ensures .0) in let g = rw (c .before .f .given .1) at (c .before .before .before .read-time .ensures) in simp (← e, c .before .before .before .before .match2 .keys3, ← g)
+returns-4 c =
+    let at-read-time = c .before .before .before in
+    let at-match = at-read-time .before in
+    let at-form = at-match .before .before in
+    let at-read-number = at-form .before .before in
+    let e = rw (at-form .form .given .1) at (at-read-number .read-number .ensures .0) in
+    let g = rw (c .before .f .given .1) at (at-read-time .read-time .ensures) in
+    simp (← e, at-match .match2 .keys3, ← g)
 
 returns-5 : tie.Need-returns-5
-returns-5 c = let e = rw (c .before .before .before .before .before .before .form .given .1) at (c .before .before .before .before .before .before .before .before .read-number .ensures .0) in let f = rw (c .before .n2 .given .1) at (c .before .before .before .read-negative-time .ensures) in simp (← e, c .before .before .before .before .match2 .keys4, ← f)
+returns-5 c =
+    let at-read-negative-time = c .before .before .before in
+    let at-match = at-read-negative-time .before in
+    let at-form = at-match .before .before in
+    let at-read-number = at-form .before .before in
+    let e = rw (at-form .form .given .1) at (at-read-number .read-number .ensures .0) in
+    let f = rw (c .before .n2 .given .1) at (at-read-negative-time .read-negative-time .ensures) in
+    simp (← e, at-match .match2 .keys4, ← f)
 
 returns-6 : tie.Need-returns-6
-returns-6 c = let e = rw (c .before .before .before .before .before .before .form .given .1) at (c .before .before .before .before .before .before .before .before .read-number .ensures .0) in let g = rw (c .before .f2 .given .1) at (c .before .before .before .read-negative-time .ensures) in simp (← e, c .before .before .before .before .match2 .keys4, ← g)
+returns-6 c =
+    let at-read-negative-time = c .before .before .before in
+    let at-match = at-read-negative-time .before in
+    let at-form = at-match .before .before in
+    let at-read-number = at-form .before .before in
+    let e = rw (at-form .form .given .1) at (at-read-number .read-number .ensures .0) in
+    let g = rw (c .before .f2 .given .1) at (at-read-negative-time .read-negative-time .ensures) in
+    simp (← e, at-match .match2 .keys4, ← g)
 
 returns-7 : tie.Need-returns-7
-returns-7 c = let e = rw (c .before .before .form .given .1) at (c .before .before .before .before .read-number .ensures .0) in rw (← e) (no-form atForms (c .before .before .form .given .0 .0) (drop (c .before .before .form .given .0 .1 .0) (now (c .before .before .before .before .before .before .args .page))) (omega arith))
+returns-7 c =
+    let at-form = c .before .before in
+    let at-read-number = at-form .before .before in
+    let at-start = at-read-number .before .before in
+    let e = rw (at-form .form .given .1) at (at-read-number .read-number .ensures .0) in
+    rw (← e)
+    (no-form atForms (at-form .form .given .0 .0)
+    (drop (at-form .form .given .0 .1 .0) (now (at-start .args .page))) (omega arith))
 
 returns-8 : tie.Need-returns-8
 returns-8 c = let e = rw (c .enum-told .given .1) at (c .before .before .read-number .ensures .0) in simp (← e)

@@ -1,4 +1,5 @@
--- `rules::aggregate::judge_operand` meets its contract: at each return the tests before it say which row of the table is the first that applies. Assumes nothing.
+-- `rules::aggregate::judge_operand` meets its contract: at each return the tests
+-- before it say which row of the table is the first that applies. Assumes nothing.
 use borrow.Author.Needs.{needs}
 use Rattle.rules.proofs.aggregate.judge_operand.Statement.{statement}
 use Rattle.rules.proofs.aggregate.judge_operand.Tie as tie
@@ -13,7 +14,14 @@ is-vector-requires : tie.Need-is-vector-requires
 is-vector-requires c κs = search needs
 
 returns-2 : tie.Need-returns-2
-returns-2 c = simp (← c .before .before .before .is-aggregator .ensures, ← c .before .is-vector .ensures, c .before .before .if1 .left, c .if2 .taken)
+returns-2 c =
+    let at-is-aggregator = c .before .before .before in
+    simp (
+      ← at-is-aggregator .is-aggregator .ensures,
+      ← c .before .is-vector .ensures,
+      c .before .before .if1 .left,
+      c .if2 .taken,
+    )
 
 asks-scalar-requires : tie.Need-asks-scalar-requires
 asks-scalar-requires c κs = search needs
@@ -22,7 +30,20 @@ parameter-is-scalar-requires : tie.Need-parameter-is-scalar-requires
 parameter-is-scalar-requires c κs = search needs
 
 returns-3 : tie.Need-returns-3
-returns-3 c = simp (← c .before .before .before .before .before .before .is-aggregator .ensures, ← c .before .before .before .before .is-vector .ensures, ← c .before .before .asks-scalar .ensures, ← c .before .parameter-is-scalar .ensures, c .before .before .before .before .before .if1 .left, c .before .before .before .if2 .left, c .if3 .taken)
+returns-3 c =
+    let at-second-if = c .before .before .before in
+    let at-is-vector = at-second-if .before in
+    let at-first-if = at-is-vector .before in
+    let at-is-aggregator = at-first-if .before in
+    simp (
+      ← at-is-aggregator .is-aggregator .ensures,
+      ← at-is-vector .is-vector .ensures,
+      ← c .before .before .asks-scalar .ensures,
+      ← c .before .parameter-is-scalar .ensures,
+      at-first-if .if1 .left,
+      at-second-if .if2 .left,
+      c .if3 .taken,
+    )
 
 is-count-values-requires : tie.Need-is-count-values-requires
 is-count-values-requires c κs = search needs
@@ -31,10 +52,48 @@ parameter-is-string-requires : tie.Need-parameter-is-string-requires
 parameter-is-string-requires c κs = search needs
 
 returns-4 : tie.Need-returns-4
-returns-4 c = simp (← c .before .before .before .before .before .before .before .before .before .is-aggregator .ensures, ← c .before .before .before .before .before .before .before .is-vector .ensures, ← c .before .before .before .before .before .asks-scalar .ensures, ← c .before .before .before .before .parameter-is-scalar .ensures, ← c .before .before .is-count-values .ensures, ← c .before .parameter-is-string .ensures, c .before .before .before .before .before .before .before .before .if1 .left, c .before .before .before .before .before .before .if2 .left, c .before .before .before .if3 .left, c .if4 .taken)
+returns-4 c =
+    let at-third-if = c .before .before .before in
+    let at-parameter-is-scalar = at-third-if .before in
+    let at-asks-scalar = at-parameter-is-scalar .before in
+    let at-second-if = at-asks-scalar .before in
+    let at-is-vector = at-second-if .before in
+    let at-first-if = at-is-vector .before in
+    let at-is-aggregator = at-first-if .before in
+    simp (
+      ← at-is-aggregator .is-aggregator .ensures,
+      ← at-is-vector .is-vector .ensures,
+      ← at-asks-scalar .asks-scalar .ensures,
+      ← at-parameter-is-scalar .parameter-is-scalar .ensures,
+      ← c .before .before .is-count-values .ensures,
+      ← c .before .parameter-is-string .ensures,
+      at-first-if .if1 .left,
+      at-second-if .if2 .left,
+      at-third-if .if3 .left,
+      c .if4 .taken,
+    )
 
 returns-5 : tie.Need-returns-5
-returns-5 c = simp (← c .before .before .before .before .before .before .before .before .before .is-aggregator .ensures, ← c .before .before .before .before .before .before .before .is-vector .ensures, ← c .before .before .before .before .before .asks-scalar .ensures, ← c .before .before .before .before .parameter-is-scalar .ensures, ← c .before .before .is-count-values .ensures, ← c .before .parameter-is-string .ensures, c .before .before .before .before .before .before .before .before .if1 .left, c .before .before .before .before .before .before .if2 .left, c .before .before .before .if3 .left, c .if4 .left)
+returns-5 c =
+    let at-third-if = c .before .before .before in
+    let at-parameter-is-scalar = at-third-if .before in
+    let at-asks-scalar = at-parameter-is-scalar .before in
+    let at-second-if = at-asks-scalar .before in
+    let at-is-vector = at-second-if .before in
+    let at-first-if = at-is-vector .before in
+    let at-is-aggregator = at-first-if .before in
+    simp (
+      ← at-is-aggregator .is-aggregator .ensures,
+      ← at-is-vector .is-vector .ensures,
+      ← at-asks-scalar .asks-scalar .ensures,
+      ← at-parameter-is-scalar .parameter-is-scalar .ensures,
+      ← c .before .before .is-count-values .ensures,
+      ← c .before .parameter-is-string .ensures,
+      at-first-if .if1 .left,
+      at-second-if .if2 .left,
+      at-third-if .if3 .left,
+      c .if4 .left,
+    )
 
 pub judge-operand-spec : {M : Type 1} → statement M
 judge-operand-spec =

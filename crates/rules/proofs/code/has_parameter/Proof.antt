@@ -13,7 +13,8 @@ is-limit-requires : tie.Need-is-limit-requires
 is-limit-requires c κs = search needs
 
 returns : tie.Need-returns
-returns c = rw (← c .before .before .is-count-values .ensures, ← c .before .asks-scalar .ensures, ← c .is-limit .ensures)
+returns c =
+    rw (← c .before .before .is-count-values .ensures, ← c .before .asks-scalar .ensures, ← c .is-limit .ensures)
 
 pub has-parameter-spec : {M : Type 1} → statement M
 has-parameter-spec =

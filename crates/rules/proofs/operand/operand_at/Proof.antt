@@ -1,4 +1,5 @@
--- `rules::operand::operand_at` meets its contract: the two arrays are one list of operands (`StackLaws`). Assumes nothing.
+-- `rules::operand::operand_at` meets its contract: the two arrays
+-- are one list of operands (`StackLaws`). Assumes nothing.
 use mathlib.Core.Path.{sym, _∙_}
 use denote.Ref.{now}
 use native.Mathlib.Omega.{arith}
@@ -20,7 +21,12 @@ operand-from-requires : tie.Need-operand-from-requires
 operand-from-requires c κs = search needs
 
 returns : tie.Need-returns
-returns c = let s = c .before .before .before .before .before .pre .0 in c .operand-from .ensures ∙ sym (heldOperands-getD (now (c .before .before .before .before .before .args .tags)) (now (c .before .before .before .before .before .args .values)) (c .before .before .before .before .before .args .i) _ _ _ (omega arith) (omega arith))
+returns c =
+    let at-start = c .before .before .before .before .before in
+    let s = at-start .pre .0 in
+    c .operand-from .ensures
+    ∙ sym (heldOperands-getD (now (at-start .args .tags)) (now (at-start .args .values)) (at-start .args .i) _ _
+    _ (omega arith) (omega arith))
 
 pub operand-at-spec : {M : Type 1} → statement M
 operand-at-spec =

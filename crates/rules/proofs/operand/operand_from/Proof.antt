@@ -1,4 +1,5 @@
--- `rules::operand::operand_from` meets its contract: tag by tag; the last arm is past every tag of the table. Assumes nothing.
+-- `rules::operand::operand_from` meets its contract: tag by tag;
+-- the last arm is past every tag of the table. Assumes nothing.
 use Prim.Native.Nat.{zero-le}
 use Rattle.rules.proofs.StackLaws.{further}
 use mathlib.Core.Path.{sym}
@@ -59,7 +60,18 @@ returns-17 : tie.Need-returns-17
 returns-17 c = rw (c .match .keys17)
 
 returns-18 : tie.Need-returns-18
-returns-18 c = let seen = c .match .rest in sym (operandFrom-last (c .before .args .tag) (c .before .args .value) (further (further (further (further (further (further (further (further (further (further (further (further (further (further (further (further (further zero-le (seen .0 .0 .0 .0 .0 .0 .0 .0 .0 .0 .0 .0 .0 .0 .0 .0 .1)) (seen .0 .0 .0 .0 .0 .0 .0 .0 .0 .0 .0 .0 .0 .0 .0 .1)) (seen .0 .0 .0 .0 .0 .0 .0 .0 .0 .0 .0 .0 .0 .0 .1)) (seen .0 .0 .0 .0 .0 .0 .0 .0 .0 .0 .0 .0 .0 .1)) (seen .0 .0 .0 .0 .0 .0 .0 .0 .0 .0 .0 .0 .1)) (seen .0 .0 .0 .0 .0 .0 .0 .0 .0 .0 .0 .1)) (seen .0 .0 .0 .0 .0 .0 .0 .0 .0 .0 .1)) (seen .0 .0 .0 .0 .0 .0 .0 .0 .0 .1)) (seen .0 .0 .0 .0 .0 .0 .0 .0 .1)) (seen .0 .0 .0 .0 .0 .0 .0 .1)) (seen .0 .0 .0 .0 .0 .0 .1)) (seen .0 .0 .0 .0 .0 .1)) (seen .0 .0 .0 .0 .1)) (seen .0 .0 .0 .1)) (seen .0 .0 .1)) (seen .0 .1)) (seen .1)))
+returns-18 c =
+    let seen = c .match .rest in
+    sym (operandFrom-last (c .before .args .tag) (c .before .args .value)
+    (further (further (further (further (further (further (further (further (further (further
+    (further (further (further (further (further (further
+    (further zero-le (seen .0 .0 .0 .0 .0 .0 .0 .0 .0 .0 .0 .0 .0 .0 .0 .0 .1))
+    (seen .0 .0 .0 .0 .0 .0 .0 .0 .0 .0 .0 .0 .0 .0 .0 .1)) (seen .0 .0 .0 .0 .0 .0 .0 .0 .0 .0 .0 .0 .0 .0 .1))
+    (seen .0 .0 .0 .0 .0 .0 .0 .0 .0 .0 .0 .0 .0 .1)) (seen .0 .0 .0 .0 .0 .0 .0 .0 .0 .0 .0 .0 .1))
+    (seen .0 .0 .0 .0 .0 .0 .0 .0 .0 .0 .0 .1)) (seen .0 .0 .0 .0 .0 .0 .0 .0 .0 .0 .1))
+    (seen .0 .0 .0 .0 .0 .0 .0 .0 .0 .1)) (seen .0 .0 .0 .0 .0 .0 .0 .0 .1)) (seen .0 .0 .0 .0 .0 .0 .0 .1))
+    (seen .0 .0 .0 .0 .0 .0 .1)) (seen .0 .0 .0 .0 .0 .1)) (seen .0 .0 .0 .0 .1)) (seen .0 .0 .0 .1))
+    (seen .0 .0 .1)) (seen .0 .1)) (seen .1)))
 
 pub operand-from-spec : {M : Type 1} → statement M
 operand-from-spec =

@@ -16,7 +16,9 @@ returns : tie.Need-returns
 returns c = rw (c .before .before .operand .given .1) (simp (c .if1 .taken))
 
 returns-2 : tie.Need-returns-2
-returns-2 c = rw (c .before .before .before .operand .given .1) (simp (c .before .if1 .left, c .if2 .taken))
+returns-2 c =
+    let at-operand = c .before .before .before in
+    rw (at-operand .operand .given .1) (simp (c .before .if1 .left, c .if2 .taken))
 
 enum-told-3 : tie.Need-enum-told-3
 enum-told-3 c = search needs
@@ -34,7 +36,9 @@ returns-4 : tie.Need-returns-4
 returns-4 c = rw (c .enum-told2 .given .1)
 
 returns-5 : tie.Need-returns-5
-returns-5 c = rw (c .before .before .before .operand .given .1) (simp (c .before .if1 .left, c .if2 .left))
+returns-5 c =
+    let at-operand = c .before .before .before in
+    rw (at-operand .operand .given .1) (simp (c .before .if1 .left, c .if2 .left))
 
 returns-6 : tie.Need-returns-6
 returns-6 c = rw (c .enum-told3 .given .1)

@@ -40,10 +40,14 @@ returns-5 : tie.Need-returns-5
 returns-5 c = rw (c .enum-told4 .given .1)
 
 returns-6 : tie.Need-returns-6
-returns-6 c = rw (c .before .before .before .operand2 .given .1) (simp (← c .before .is-operand .ensures, c .if1 .taken))
+returns-6 c =
+    let at-second-operand = c .before .before .before in
+    rw (at-second-operand .operand2 .given .1) (simp (← c .before .is-operand .ensures, c .if1 .taken))
 
 returns-7 : tie.Need-returns-7
-returns-7 c = rw (c .before .before .before .operand2 .given .1) (simp (← c .before .is-operand .ensures, c .if1 .left))
+returns-7 c =
+    let at-second-operand = c .before .before .before in
+    rw (at-second-operand .operand2 .given .1) (simp (← c .before .is-operand .ensures, c .if1 .left))
 
 pub judge-unary-spec : {M : Type 1} → statement M
 judge-unary-spec =

@@ -1,4 +1,5 @@
--- `sandzguli::face::sandzguli_canonical` meets its contract: every outcome is in the table, so its word fits. Assumes nothing.
+-- `sandzguli::face::sandzguli_canonical` meets its contract: every
+-- outcome is in the table, so its word fits. Assumes nothing.
 use mathlib.Core.Path.{ap, _∙_, subst, sym}
 use denote.Ref.{now}
 use borrow.Author.Needs.{needs}
@@ -16,13 +17,19 @@ outcome-word-requires : tie.Need-outcome-word-requires
 outcome-word-requires c κs =
     let at-start = c .before .before .before .before .before .before in
     let page = now (at-start .args .page) in
-    subst FitsWord (sym (c .before .before .canonical .ensures .answers)) (demand1-fits page canonicalText (canonicalText-demand1 page) (now (at-start .args .out)))
+    subst FitsWord (sym (c .before .before .canonical .ensures .answers))
+    (demand1-fits page canonicalText (canonicalText-demand1 page) (now (at-start .args .out)))
 
 same-length : tie.Need-same-length
 same-length c = search needs
 
 returns : tie.Need-returns
-returns c = record { answers = c .outcome-word .ensures ∙ ap outcomeWord (c .before .before .before .canonical .ensures .answers); leaves = c .before .before .before .canonical .ensures .leaves }
+returns c =
+    let at-canonical = c .before .before .before in
+    record {
+      answers = c .outcome-word .ensures ∙ ap outcomeWord (at-canonical .canonical .ensures .answers);
+      leaves = at-canonical .canonical .ensures .leaves;
+    }
 
 pub sandzguli-canonical-spec : {M : Type 1} → statement M
 sandzguli-canonical-spec = tie.close (tie.spec canonical-requires outcome-word-requires same-length returns)

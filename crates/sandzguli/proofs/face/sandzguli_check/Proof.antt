@@ -1,4 +1,5 @@
--- `sandzguli::face::sandzguli_check` meets its contract: every outcome of the check is in the table, so its word fits. Assumes nothing.
+-- `sandzguli::face::sandzguli_check` meets its contract: every outcome
+-- of the check is in the table, so its word fits. Assumes nothing.
 use mathlib.Core.Path.{ap, _∙_, subst, sym}
 use denote.Ref.{now}
 use borrow.Author.Needs.{needs}
@@ -11,7 +12,8 @@ check-requires : tie.Need-check-requires
 check-requires c κs = search needs
 
 outcome-word-requires : tie.Need-outcome-word-requires
-outcome-word-requires c κs = subst FitsWord (sym (c .check .ensures .isCheck)) (check-fits (now (c .before .before .args .page)))
+outcome-word-requires c κs =
+    subst FitsWord (sym (c .check .ensures .isCheck)) (check-fits (now (c .before .before .args .page)))
 
 returns : tie.Need-returns
 returns c = c .outcome-word .ensures ∙ ap outcomeWord (c .before .check .ensures .isCheck)

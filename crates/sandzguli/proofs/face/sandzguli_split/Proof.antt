@@ -1,4 +1,5 @@
--- `sandzguli::face::sandzguli_split` meets its contract: every outcome is in the table, so its word fits. Assumes nothing.
+-- `sandzguli::face::sandzguli_split` meets its contract: every
+-- outcome is in the table, so its word fits. Assumes nothing.
 use mathlib.Core.Path.{ap, _∙_, subst, sym}
 use denote.Ref.{now}
 use borrow.Author.Needs.{needs}
@@ -16,13 +17,19 @@ outcome-word-requires : tie.Need-outcome-word-requires
 outcome-word-requires c κs =
     let at-start = c .before .before .before .before .before .before in
     let page = now (at-start .args .page) in
-    subst FitsWord (sym (c .before .before .split .ensures .answers)) (demand1-fits page splitText (splitText-demand1 page) (now (at-start .args .out)))
+    subst FitsWord (sym (c .before .before .split .ensures .answers))
+    (demand1-fits page splitText (splitText-demand1 page) (now (at-start .args .out)))
 
 same-length : tie.Need-same-length
 same-length c = search needs
 
 returns : tie.Need-returns
-returns c = record { answers = c .outcome-word .ensures ∙ ap outcomeWord (c .before .before .before .split .ensures .answers); leaves = c .before .before .before .split .ensures .leaves }
+returns c =
+    let at-split = c .before .before .before in
+    record {
+      answers = c .outcome-word .ensures ∙ ap outcomeWord (at-split .split .ensures .answers);
+      leaves = at-split .split .ensures .leaves;
+    }
 
 pub sandzguli-split-spec : {M : Type 1} → statement M
 sandzguli-split-spec = tie.close (tie.spec split-requires outcome-word-requires same-length returns)

@@ -13,7 +13,9 @@ text-at-requires : tie.Need-text-at-requires
 text-at-requires c κs = c .label-span .ensures .lies
 
 returns : tie.Need-returns
-returns c = c .text-at .ensures ∙ ap (partOf (now (c .before .before .before .args .page))) (c .before .label-span .ensures .is)
+returns c =
+    let at-start = c .before .before .before in
+    c .text-at .ensures ∙ ap (partOf (now (at-start .args .page))) (c .before .label-span .ensures .is)
 
 pub joint-label-spec : {M : Type 1} → statement M
 joint-label-spec = tie.close (tie.spec label-span-requires text-at-requires returns)

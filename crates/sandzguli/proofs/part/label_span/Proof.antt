@@ -1,4 +1,5 @@
--- `sandzguli::part::label_span` meets its contract: the outcome of check says whether and where there is a label. Assumes nothing.
+-- `sandzguli::part::label_span` meets its contract: the outcome of
+-- check says whether and where there is a label. Assumes nothing.
 use mathlib.Core.Path.{sym, ap, _∙_}
 use denote.Ref.{now}
 use borrow.Author.Needs.{needs}
@@ -26,13 +27,20 @@ joint-label-requires c κs = search needs
 
 returns : tie.Need-returns
 returns c =
+    let at-start = c .before .before .before .before in
     let e = rw (c .enum-told .given .1) at (c .before .before .check .ensures .isCheck) in
-    nowhere (part-accepted (now (c .before .before .before .before .args .page)) e)
+    nowhere (part-accepted (now (at-start .args .page)) e)
 
 returns-2 : tie.Need-returns-2
 returns-2 c =
-    let e = rw (c .before .before .before .refusal .given .1) at (c .before .before .before .before .before .check .ensures .isCheck) in
-    part-as (ap (labelPart (now (c .before .before .before .before .before .before .before .args .page))) (sym e ∙ ap (λ n. refusal n (c .before .before .before .refusal .given .0 .1 .0)) (sym (c .before .refusal-number .ensures)))) (c .joint-label .ensures)
+    let at-refusal = c .before .before .before in
+    let at-check = at-refusal .before .before in
+    let at-start = at-check .before .before in
+    let e = rw (at-refusal .refusal .given .1) at (at-check .check .ensures .isCheck) in
+    part-as (ap (labelPart (now (at-start .args .page)))
+    (sym e
+    ∙ ap (λ n. refusal n (at-refusal .refusal .given .0 .1 .0)) (sym (c .before .refusal-number .ensures))))
+    (c .joint-label .ensures)
 
 pub label-span-spec : {M : Type 1} → statement M
 label-span-spec =

@@ -10,7 +10,8 @@ use Rattle.sandzguli.proofs.word.outcome_word.Statement.{statement}
 use Rattle.sandzguli.proofs.word.outcome_word.Tie as tie
 
 -- a refusal's number and its record are small
-inside : (c : tie.After-outcome2) → FitsWord (refusal (refusalNumber (c .outcome2 .given .0 .0)) (c .outcome2 .given .0 .1 .0))
+inside : (c : tie.After-outcome2)
+    → FitsWord (refusal (refusalNumber (c .outcome2 .given .0 .0)) (c .outcome2 .given .0 .1 .0))
 inside c = rw (c .outcome2 .given .1) at (c .before .before .pre)
 
 enum-known-outcome : tie.Need-enum-known-outcome
@@ -23,7 +24,8 @@ kind-number-requires : tie.Need-kind-number-requires
 kind-number-requires c κs = search needs
 
 add-result : tie.Need-add-result
-add-result c = omega (arith, kindNumber-small (kindOf (c .before .before .outcome .given .0 .0)), c .kind-number .ensures)
+add-result c =
+    omega (arith, kindNumber-small (kindOf (c .before .before .outcome .given .0 .0)), c .kind-number .ensures)
 
 enum-known-outcome-2 : tie.Need-enum-known-outcome-2
 enum-known-outcome-2 c = search needs

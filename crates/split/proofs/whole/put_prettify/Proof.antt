@@ -1,4 +1,5 @@
--- `split::whole::put_prettify` meets its contract: a whole query stands at level 0, its first line indented. Assumes nothing.
+-- `split::whole::put_prettify` meets its contract: a whole query
+-- stands at level 0, its first line indented. Assumes nothing.
 use Rattle.view.proofs.ViewLaws.{unmarked}
 use Rattle.text.specs.Layout.{prettyIndented}
 use native.Mathlib.Omega.{arith}
@@ -8,7 +9,14 @@ use Rattle.split.proofs.whole.put_prettify.Tie as tie
 
 write-split-requires : tie.Need-write-split-requires
 unfolding prettyIndented
-write-split-requires c κs = (c .before .before .before .before .before .before .pre .0, (c .before .before .before .before .before .before .pre .1 .0, (unmarked _ _, (omega (arith, c .before .before .before .before .before .before .pre .0 .few), omega (arith, c .before .before .before .before .before .before .pre .1 .1)))))
+write-split-requires c κs =
+    let at-start = c .before .before .before .before .before .before in (
+      at-start .pre .0,
+      (
+        at-start .pre .1 .0,
+        (unmarked _ _, (omega (arith, at-start .pre .0 .few), omega (arith, at-start .pre .1 .1))),
+      ),
+    )
 
 same-length : tie.Need-same-length
 same-length c = search needs

@@ -13,7 +13,15 @@ filled-len-requires : tie.Need-filled-len-requires
 filled-len-requires c κs = search needs
 
 returns : tie.Need-returns
-returns c = omega (arith, c .filled-len .ensures, ap length (both-one _ (literalOf (c .before .before .args .left)) (literalOf (c .before .before .args .right)) (c .before .if1 .taken)), length-filledBytes fillWord (literalOf (c .before .before .args .right)))
+returns c =
+    let at-start = c .before .before in
+    omega (
+      arith,
+      c .filled-len .ensures,
+      ap length
+          (both-one _ (literalOf (at-start .args .left)) (literalOf (at-start .args .right)) (c .before .if1 .taken)),
+      length-filledBytes fillWord (literalOf (at-start .args .right)),
+    )
 
 filled-len-requires-2 : tie.Need-filled-len-requires-2
 filled-len-requires-2 c κs = search needs
@@ -25,7 +33,17 @@ add-result : tie.Need-add-result
 add-result c = search needs
 
 returns-2 : tie.Need-returns-2
-returns-2 c = omega (arith, c .before .filled-len2 .ensures, c .filled-len3 .ensures, cut-length (both-each _ (literalOf (c .before .before .before .args .left)) (literalOf (c .before .before .before .args .right)) (c .before .before .if1 .left)), length-filledBytes leftWord (literalOf (c .before .before .before .args .left)), length-filledBytes rightWord (literalOf (c .before .before .before .args .right)))
+returns-2 c =
+    let at-start = c .before .before .before in
+    omega (
+      arith,
+      c .before .filled-len2 .ensures,
+      c .filled-len3 .ensures,
+      cut-length (both-each _ (literalOf (at-start .args .left)) (literalOf (at-start .args .right))
+          (c .before .before .if1 .left)),
+      length-filledBytes leftWord (literalOf (at-start .args .left)),
+      length-filledBytes rightWord (literalOf (at-start .args .right)),
+    )
 
 pub both-len-spec : {M : Type 1} → statement M
 both-len-spec =

@@ -22,12 +22,14 @@ both-len-requires c κs = search needs
 
 returns : tie.Need-returns
 returns c =
-    let at-same = c .before .before .before in
-    let at-if2 = at-same .before in
-    let start = at-if2 .before .before in
+    let at-same-fills = c .before .before .before in
+    let at-second-if = at-same-fills .before in
+    let at-first-if = at-second-if .before in
+    let at-start = at-first-if .before in
     rw (
-      fills-both (fillOf (start .args .lhs)) (fillOf (start .args .rhs)) _ (start .pre .0) _ (at-if2 .before .if1 .taken) (at-if2 .if2 .taken)
-          (start .pre .1) (start .pre .2) (at-same .same-fills .ensures),
+      fills-both (fillOf (at-start .args .lhs)) (fillOf (at-start .args .rhs)) _ (at-start .pre .0) _
+          (at-first-if .if1 .taken) (at-second-if .if2 .taken)
+          (at-start .pre .1) (at-start .pre .2) (at-same-fills .same-fills .ensures),
       ← c .before .before .digits-of .ensures,
       ← c .before .digits-of2 .ensures,
     ) (c .both-len .ensures)
@@ -40,10 +42,11 @@ filled-len-requires c κs = search needs
 
 returns-2 : tie.Need-returns-2
 returns-2 c =
-    let at-if2 = c .before .before in
-    let start = at-if2 .before .before in
+    let at-first-if = c .before .before .before in
+    let at-start = at-first-if .before in
     rw (
-      fills-left (fillOf (start .args .lhs)) (fillOf (start .args .rhs)) _ (start .pre .0) (at-if2 .before .if1 .taken) (at-if2 .if2 .left),
+      fills-left (fillOf (at-start .args .lhs)) (fillOf (at-start .args .rhs)) _ (at-start .pre .0)
+          (at-first-if .if1 .taken) (c .before .before .if2 .left),
       length-filledBytes,
       ← c .before .digits-of3 .ensures,
     ) (omega (arith, c .filled-len .ensures))
@@ -56,18 +59,24 @@ filled-len-requires-2 c κs = search needs
 
 returns-3 : tie.Need-returns-3
 returns-3 c =
-    let at-if3 = c .before .before in
-    let start = at-if3 .before .before in
+    let at-first-if = c .before .before .before in
+    let at-start = at-first-if .before in
     rw (
-      fills-right (fillOf (start .args .lhs)) (fillOf (start .args .rhs)) _ (start .pre .0) (at-if3 .before .if1 .left) (at-if3 .if3 .taken),
+      fills-right (fillOf (at-start .args .lhs)) (fillOf (at-start .args .rhs)) _ (at-start .pre .0)
+          (at-first-if .if1 .left) (c .before .before .if3 .taken),
       length-filledBytes,
       ← c .before .digits-of4 .ensures,
     ) (omega (arith, c .filled-len2 .ensures))
 
 returns-4 : tie.Need-returns-4
 returns-4 c =
-    let start = c .before .before in
-    omega (arith, ap length (fills-none (fillOf (start .args .lhs)) (fillOf (start .args .rhs)) _ (start .pre .0) (c .before .if1 .left) (c .if3 .left)))
+    let at-start = c .before .before in
+    omega (
+      arith,
+      ap length
+          (fills-none (fillOf (at-start .args .lhs)) (fillOf (at-start .args .rhs)) _ (at-start .pre .0)
+          (c .before .if1 .left) (c .if3 .left)),
+    )
 
 pub fills-len-spec : {M : Type 1} → statement M
 fills-len-spec =

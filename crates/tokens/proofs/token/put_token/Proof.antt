@@ -1,5 +1,6 @@
 -- Assumes nothing.
--- `tokens::token::put_token` meets its contract. Invariant: the letters from i on are left to be written. The measure is the letters left.
+-- `tokens::token::put_token` meets its contract. Invariant: the letters
+-- from i on are left to be written. The measure is the letters left.
 use borrow.Author.Needs.{needs}
 use Prim.Native.Nat.{_-_, _<_}
 use lib.ListN.{length}
@@ -42,7 +43,8 @@ cast-i : tie.Need-cast-i Inv-loop μ-loop
 cast-i c = let p = placed _ (c .place-of .ensures .0) in omega (arith, p .ordered, p .inside)
 
 loop-holds : tie.Need-loop-holds Inv-loop μ-loop
-loop-holds c = begin-as (c .before .before .pre) (token-starts (c .before .before .args .code) _ (c .place-of .ensures .1))
+loop-holds c =
+    begin-as (c .before .before .pre) (token-starts (c .before .before .args .code) _ (c .place-of .ensures .1))
 
 array-read-put-byte : tie.Need-array-read-put-byte Inv-loop μ-loop
 array-read-put-byte c = omega (arith, letter-inside c)

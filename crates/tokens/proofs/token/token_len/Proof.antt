@@ -29,7 +29,9 @@ sub-result : tie.Need-sub-result
 sub-result c = placed _ (c .place-of .ensures .0) .ordered
 
 returns : tie.Need-returns
-returns c = let p = placed _ (c .place-of .ensures .0) in (omega (arith, length-tokenAt _ (c .place-of .ensures .0), ap length (c .place-of .ensures .1)), p .short)
+returns c =
+    let p = placed _ (c .place-of .ensures .0) in
+    (omega (arith, length-tokenAt _ (c .place-of .ensures .0), ap length (c .place-of .ensures .1)), p .short)
 
 pub token-len-spec : {M : Type 1} → statement M
 token-len-spec =

@@ -21,10 +21,21 @@ enum-told : tie.Need-enum-told
 enum-told c = search needs
 
 returns : tie.Need-returns
-returns c = one-field (c .before .before .before .before .before .before .before .pre .0) (c .before .before .before .before .before .before .before .pre .1) readLiteral (λ l. leaf (number l)) (λ t. refl) (rw (c .before .l .given .1, c .before .before .before .before .fields-start .ensures) at (c .before .before .before .read-literal .ensures))
+returns c =
+    let at-read-literal = c .before .before .before in
+    let at-fields-start = at-read-literal .before in
+    let at-start = at-fields-start .before .before .before in
+    one-field (at-start .pre .0) (at-start .pre .1) readLiteral (λ l. leaf (number l)) (λ t. refl)
+    (rw (c .before .l .given .1, at-fields-start .fields-start .ensures) at
+    (at-read-literal .read-literal .ensures))
 
 returns-2 : tie.Need-returns-2
-returns-2 c = absurd (no-field (c .before .before .before .before .before .before .pre .0) (c .before .before .before .before .before .before .pre .1) readLiteral (λ l. return (leaf (number l))) (λ t. refl) (rw (c .enum-told .given .1, c .before .before .before .fields-start .ensures) at (c .before .before .read-literal .ensures)))
+returns-2 c =
+    let at-fields-start = c .before .before .before in
+    let at-start = at-fields-start .before .before .before in
+    absurd (no-field (at-start .pre .0) (at-start .pre .1) readLiteral (λ l. return (leaf (number l))) (λ t. refl)
+    (rw (c .enum-told .given .1, at-fields-start .fields-start .ensures) at
+    (c .before .before .read-literal .ensures)))
 
 pub literal-at-spec : {M : Type 1} → statement M
 literal-at-spec =

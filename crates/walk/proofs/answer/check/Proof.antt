@@ -20,10 +20,14 @@ enum-known-refusal : tie.Need-enum-known-refusal
 enum-known-refusal c = search needs
 
 returns : tie.Need-returns
-returns c = accepts-contract (rw (c .before .kind .given .1) at (c .before .before .before .before .before .walk .ensures .says))
+returns c =
+    let at-walk = c .before .before .before .before .before in
+    accepts-contract (rw (c .before .kind .given .1) at (at-walk .walk .ensures .says))
 
 returns-2 : tie.Need-returns-2
-returns-2 c = refused-contract (rw (c .before .refusal .given .1) at (c .before .before .before .before .before .walk .ensures .says))
+returns-2 c =
+    let at-walk = c .before .before .before .before .before in
+    refused-contract (rw (c .before .refusal .given .1) at (at-walk .walk .ensures .says))
 
 pub check-spec : {M : Type 1} → statement M
 check-spec =
