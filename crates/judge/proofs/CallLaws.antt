@@ -13,12 +13,14 @@ use Rattle.page.specs.Text.{Text}
 use Rattle.records.specs.Kind.{Kind}
 use Rattle.records.specs.Signature.{Function}
 use Rattle.records.specs.Stack.{operandsOf}
+use Rattle.records.specs.SignatureAnswers.{functionOn, FunctionLies}
+use Rattle.records.specs.declared.signature.Function as code
 use Rattle.ast.specs.Refusal.{Row, when, firstFault, Result, refused, ok, unless}
 use Rattle.ast.specs.CheckAst.{arityRows, argsMatch, argsRows}
 use Rattle.ast.specs.Operand.{Operand, stringOperand, otherOperand, operandKind}
 use Rattle.ast.specs.Judge.{put, isExemptOperand, isExemptCall, judgeCall}
 use Rattle.rules.specs.Stack.{heldOperands, Sized}
-use Rattle.rules.proofs.StackLaws.{operands-first}
+use Rattle.rules.proofs.StackLaws.{operands-size, operands-first}
 use Rattle.judge.specs.Call.{boundedFault}
 
 module _ (least extra count : ℕ) where
@@ -97,10 +99,50 @@ call-empty f [] k c fine z = sym (later f [] k c fine ∙ go (f .argTypes))
 call-empty f (x ∷ xs) k c fine z = absurd (omega arith)
 
 -- the first of some arguments lies deepest
-pub exempt-first : {tags : List ℕ} {values : List Float} → Sized tags values → (name : Text) (top count : ℕ) → (count ≡ 0 → ⊥) → top + count ≤ 256
+exempt-first : {tags : List ℕ} {values : List Float} → Sized tags values → (name : Text) (top count : ℕ) → (count ≡ 0 → ⊥) → top + count ≤ 256
     → isExemptOperand name (getD (heldOperands tags values) (top + (count - 1)) stringOperand)
     ≡ isExemptCall name (operandsOf count (drop top (heldOperands tags values)))
 exempt-first {tags} {values} sized name top count any h =
     let one : count ≡ (count - 1) + 1 = omega arith in
     sym (ap (λ (n : ℕ). isExemptCall name (operandsOf n (drop top (heldOperands tags values)))) one
     ∙ ap (isExemptCall name) (operands-first tags values sized top (count - 1) (omega arith)))
+
+-- ## A call as the code has it: its signature on the page, its arguments in two arrays
+
+module _ {page tags : List ℕ} {values : List Float} {function : code.Function} (sized : Sized tags values)
+    (lies : FunctionLies page function) (top count : ℕ) (inside : top + count ≤ 256) where
+  abbrev called : Function
+  called = functionOn page function
+
+  abbrev given : List Operand
+  given = operandsOf count (drop top (heldOperands tags values))
+
+  size : count ≡ length given
+  size = sym (operands-size tags values sized top count inside)
+
+  pub judged-arity : {n : ℕ} → some n ≡ firstFault (arityRows (called .variadic) (function .kinds .count) count)
+      → refused n ≡ judgeCall called given
+  judged-arity e = call-arity called given (sym (lies .kinds)) size e
+
+  module _ (fine : none ≡ firstFault (arityRows (called .variadic) (function .kinds .count) count)) where
+    pub judged-empty : count ≡ 0 → ok (otherOperand (called .returnType)) ≡ judgeCall called given
+    judged-empty z = call-empty called given (sym (lies .kinds)) size fine z
+
+    -- the first argument was tested for the literal exception
+    module _ (any : count ≡ 0 → ⊥) {first : Operand} {exempt : Bool}
+        (is-first : first ≡ getD (heldOperands tags values) (top + (count - 1)) stringOperand)
+        (is-exempt : exempt ≡ isExemptOperand (called .name) first) where
+      excepted : exempt ≡ isExemptCall (called .name) given
+      excepted = is-exempt ∙ ap (isExemptOperand (called .name)) is-first ∙ exempt-first sized (called .name) top count any inside
+
+      pub judged-exempt : exempt ≡ true → ok (otherOperand (called .returnType)) ≡ judgeCall called given
+      judged-exempt e = call-exempt called given (sym (lies .kinds)) size fine (sym e ∙ excepted)
+
+      pub judged-undeclared : exempt ≡ false → function .kinds .count ≡ 0 → refused 29 ≡ judgeCall called given
+      judged-undeclared e bare = call-undeclared called given (sym (lies .kinds)) size fine (sym e ∙ excepted) bare any
+
+      pub judged-match : {b : Bool} → exempt ≡ false → (function .kinds .count ≡ 0 → ⊥)
+          → b ≡ argsMatch (called .argTypes) (map operandKind given)
+          → judgeCall called given ≡ pick b (ok (otherOperand (called .returnType))) (refused 30)
+      judged-match e declared is =
+          call-match called given (sym (lies .kinds)) size fine (sym e ∙ excepted) declared is

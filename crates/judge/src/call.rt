@@ -142,15 +142,8 @@ pub fn judge_call(
             if declared == 0 {
                 return Verdict::Refused(Refusal::NoDeclaredKinds);
             }
-            if arguments_match(
-                page,
-                function.kinds.start,
-                declared,
-                tags,
-                values,
-                top,
-                count,
-            ) {
+            let first = function.kinds.start;
+            if arguments_match(page, first, declared, tags, values, top, count) {
                 return Verdict::Put(Operand::Other(result));
             }
             Verdict::Refused(Refusal::ArgumentKind)

@@ -66,7 +66,7 @@ fn measure(
 }
 
 // What so many bytes leave of a cap: nothing where they use it up.
-fn room_behind(cap: usize, bytes: usize) -> usize
+fn room_after(cap: usize, bytes: usize) -> usize
     ensures { λ r. ⌜ r ≡ cap - bytes ⌝ }
 {
     if cap <= bytes {
@@ -107,7 +107,7 @@ fn measure_operands(
     }
     let first = firsts[root] as usize;
     let left = cap - last;
-    let room = room_behind(left, gap);
+    let room = room_after(left, gap);
     let fewer = count - 1;
     let rest = measure_operands(page, starts, firsts, first, fewer, false, gap, room, widths);
     if left <= gap {

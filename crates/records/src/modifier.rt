@@ -39,14 +39,20 @@ pub fn read_label_modifier(page: &[u8], at: usize) -> LabelModifierField
             },
             1 => match read_labels(page, next) {
                 page::ListField::Got { list, next } => LabelModifierField::Got {
-                    modifier: LabelModifier::Include(list),
+                    modifier: LabelModifier::Include(page::List {
+                        start: list.start,
+                        count: list.count,
+                    }),
                     next,
                 },
                 page::ListField::Bad(f) => LabelModifierField::Bad(f),
             },
             2 => match read_labels(page, next) {
                 page::ListField::Got { list, next } => LabelModifierField::Got {
-                    modifier: LabelModifier::Exclude(list),
+                    modifier: LabelModifier::Exclude(page::List {
+                        start: list.start,
+                        count: list.count,
+                    }),
                     next,
                 },
                 page::ListField::Bad(f) => LabelModifierField::Bad(f),
@@ -82,14 +88,20 @@ pub fn read_cardinality(page: &[u8], at: usize) -> CardinalityField
             },
             1 => match read_labels(page, next) {
                 page::ListField::Got { list, next } => CardinalityField::Got {
-                    card: Cardinality::ManyToOne(list),
+                    card: Cardinality::ManyToOne(page::List {
+                        start: list.start,
+                        count: list.count,
+                    }),
                     next,
                 },
                 page::ListField::Bad(f) => CardinalityField::Bad(f),
             },
             2 => match read_labels(page, next) {
                 page::ListField::Got { list, next } => CardinalityField::Got {
-                    card: Cardinality::OneToMany(list),
+                    card: Cardinality::OneToMany(page::List {
+                        start: list.start,
+                        count: list.count,
+                    }),
                     next,
                 },
                 page::ListField::Bad(f) => CardinalityField::Bad(f),

@@ -66,7 +66,7 @@ module _ {page starts : List ℕ} {i j : ℕ} {n : Option ℕ} {u : Times} (s : 
 
 -- ## Shape and count by the kind
 
--- by kinds from 0 on; those of the attached do not matter
+-- by kinds from 0 on; those of attached records do not matter
 abbrev shapes : List Shape
 shapes =
     shape.Whole ∷ shape.Whole ∷ shape.Whole ∷ shape.Whole ∷ shape.Suffixed ∷ shape.Whole ∷ shape.Whole ∷ shape.Minus

@@ -29,7 +29,7 @@ abbrev minusBy : Option Literal → Foot
 minusBy none = foot.Unary
 minusBy (some l) = foot.Number
 
--- by the kind of the record, from 0 on, and the value of its tree; those of the attached do not matter
+-- by the kind of the record, from 0 on, and the value of its tree; those of attached records do not matter
 abbrev footBy : ℕ → Option Literal → Foot
 footBy kind v =
     getD

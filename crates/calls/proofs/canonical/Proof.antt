@@ -1,5 +1,5 @@
--- `calls::canonical` meets its contract: what the walk leaves is enough
--- for the text, and each of the three ends has its law. Assumes nothing.
+-- `calls::canonical` meets its contract: what the walk leaves is enough for the text, and each of the three ends has
+-- its law. Assumes nothing.
 use mathlib.Core.Path.{sym, _∙_}
 use native.Mathlib.Nat.{zero-add}
 use denote.Ref.{now}

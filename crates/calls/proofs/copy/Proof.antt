@@ -1,5 +1,5 @@
--- `calls::copy` meets its contract: what the walk leaves is
--- enough for the copy, and each of the three ends has its law.
+-- `calls::copy` meets its contract: what the walk leaves is enough for the copy, and each of the three ends has its
+-- law.
 -- Assumes nothing.
 use mathlib.Core.Path.{sym, _∙_}
 use denote.Ref.{now}

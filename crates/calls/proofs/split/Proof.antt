@@ -1,5 +1,5 @@
--- `calls::split` meets its contract: what the walk leaves is enough for
--- the text, and each of the three ends has its law. Assumes nothing.
+-- `calls::split` meets its contract: what the walk leaves is enough for the text, and each of the three ends has its
+-- law. Assumes nothing.
 use Prim.Native.Nat.{_-_}
 use lib.ListN.{length}
 use denote.Ref.{now}

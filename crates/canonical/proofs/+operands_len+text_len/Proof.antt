@@ -1,6 +1,6 @@
 -- The proof of the cycle {operands_len, text_len}: lengths up to a cap.
--- The measures: 2 e for the operands after e records, 2 i + 1 for the tree
--- that record i ends. The laws stand in `TextLaws`. Assumes nothing.
+-- The measures: 2 e for the operands after e records, 2 i + 1 for the tree that record i ends. The laws stand in
+-- `TextLaws`. Assumes nothing.
 use Rattle.view.proofs.ViewLaws.{starts-of, unmarked}
 use Rattle.text.proofs.LengthLaws.{last-operand, fewer-operands, len-none, len-one, len-full, len-more}
 use Rattle.canonical.proofs.TextLaws.{len-tree}

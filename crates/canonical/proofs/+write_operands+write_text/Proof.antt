@@ -1,6 +1,5 @@
--- The proof of the cycle {write_operands, write_text}: each text is a
--- run of pieces (`WriteLaws`), written one after the other. The measures
--- are those of the lengths. Assumes nothing.
+-- The proof of the cycle {write_operands, write_text}: each text is a run of pieces (`WriteLaws`), written one after
+-- the other. The measures are those of the lengths. Assumes nothing.
 use Rattle.canonical.proofs.TextLaws.{run-node}
 use Rattle.text.proofs.WriteLaws.{wrote-nothing, wrote-as, text-none, text-one, run-more}
 use Rattle.view.proofs.ViewLaws.{starts-of, unmarked}

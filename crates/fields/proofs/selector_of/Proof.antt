@@ -1,5 +1,5 @@
--- `fields::selector_of` meets its contract: the name, then the
--- count of the matchers; they stand after it. Assumes nothing.
+-- `fields::selector_of` meets its contract: the name, then the count of the matchers; they stand after it. Assumes
+-- nothing.
 use mathlib.Core.Path.{refl}
 use Rattle.text.proofs.EntryLaws.{page-short}
 use Rattle.text.proofs.SoundLaws.{allowed}

@@ -1,5 +1,5 @@
--- `indented::put_spaces` meets its contract: two spaces, then those
--- of the levels left. The measure is the level. Assumes nothing.
+-- `indented::put_spaces` meets its contract: two spaces, then those of the levels left. The measure is the level.
+-- Assumes nothing.
 use Rattle.indented.proofs.IndentLaws.{indent-none, indent-more}
 use Rattle.text.proofs.WriteLaws.{wrote-nothing, run-two}
 use Rattle.text.specs.Pretty.{indent}

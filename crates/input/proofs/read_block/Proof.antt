@@ -1,5 +1,5 @@
--- `input::read_block` meets its contract: what is read goes into the
--- part of the buffer that was lent, and a lent part keeps its length.
+-- `input::read_block` meets its contract: what is read goes into the part of the buffer that was lent, and a lent part
+-- keeps its length.
 -- Assumes nothing.
 use borrow.Author.Needs.{needs}
 use denote.Ref.{now}

@@ -1,6 +1,5 @@
--- The proof of the cycle {measure, measure_operands}: widths as lengths up
--- to a cap, with the laws of `LengthLaws`; the table stays right at each
--- width put into it. The measures are those of the lengths. Assumes nothing.
+-- The proof of the cycle {measure, measure_operands}: widths as lengths up to a cap, with the laws of `LengthLaws`; the
+-- table stays right at each width put into it. The measures are those of the lengths. Assumes nothing.
 use Rattle.view.proofs.ViewLaws.{starts-of, unmarked}
 use Rattle.text.proofs.LengthLaws.{last-operand, fewer-operands, len-none, len-one, len-full, len-more}
 use Rattle.canonical.proofs.TextLaws.{len-tree}
@@ -23,7 +22,7 @@ use Rattle.measure.proofs.+measure+measure_operands.Lts-measure_operand
 use Rattle.canonical.proofs.own.between_len.Reads as between-len-reads
 use Rattle.canonical.proofs.own.front_len.Reads as front-len-reads
 use Rattle.canonical.proofs.own.rear_len.Reads as rear-len-reads
-use Rattle.measure.proofs.room_behind.Reads as room-others-reads
+use Rattle.measure.proofs.room_after.Reads as room-after-reads
 use Rattle.leaves.proofs.capped_add.Reads as capped-add-reads
 use Rattle.view.proofs.is_minus.Reads as is-minus-reads
 use Rattle.view.proofs.view_at.Reads as view-at-reads
@@ -80,8 +79,8 @@ measure-operands-claims t = (
   measure.Post,
   capped-add-reads.Asked,
   capped-add-reads.Learnt,
-  room-others-reads.Asked,
-  room-others-reads.Learnt,
+  room-after-reads.Asked,
+  room-after-reads.Learnt,
   measure-operands-below t,
   measure-operands.Post,
 )
@@ -263,10 +262,10 @@ measure-operands-sub-left : (t : ℕ)
     → measure-operands-lts.Need-sub-left (measure-operands-claims t) (measure-operands-at t) measure-operands.Post
 measure-operands-sub-left t c = omega (arith, c .before .before .capped-add .ensures)
 
-measure-operands-room-others-requires : (t : ℕ)
-    → measure-operands-lts.Need-room-others-requires (measure-operands-claims t) (measure-operands-at t)
+measure-operands-room-after-requires : (t : ℕ)
+    → measure-operands-lts.Need-room-after-requires (measure-operands-claims t) (measure-operands-at t)
     measure-operands.Post
-measure-operands-room-others-requires t c κs = search needs
+measure-operands-room-after-requires t c κs = search needs
 
 measure-operands-sub-fewer : (t : ℕ)
     → measure-operands-lts.Need-sub-fewer (measure-operands-claims t) (measure-operands-at t) measure-operands.Post
@@ -290,7 +289,7 @@ measure-operands-measure-operands-requires t c κs =
           (
             unmarked _ _,
             (
-              omega (arith, c .before .room-others .ensures, at-start .pre .1 .1 .1 .1 .0),
+              omega (arith, c .before .room-after .ensures, at-start .pre .1 .1 .1 .1 .0),
               at-measure .measure .ensures .1,
             ),
           ),
@@ -336,7 +335,7 @@ measure-operands-add-result-2 t c =
       arith,
       c .before .before .before .before .before .before .before .before .capped-add .ensures,
       c .if3 .left,
-      c .before .before .before .before .before .room-others .ensures,
+      c .before .before .before .before .before .room-after .ensures,
       c .before .before .before .measure-operands .ensures .0 .bound,
     )
 
@@ -352,8 +351,8 @@ measure-operands-returns-4 : (t : ℕ)
     → measure-operands-lts.Need-returns-4 (measure-operands-claims t) (measure-operands-at t) measure-operands.Post
 measure-operands-returns-4 t c =
     let at-measure-operands = c .before .before .before in
-    let at-room-others = at-measure-operands .before .before in
-    let at-second-if = at-room-others .before .before in
+    let at-room-after = at-measure-operands .before .before in
+    let at-second-if = at-room-after .before .before in
     let at-capped-add = at-second-if .before in
     let at-measure = at-capped-add .before .before .before in
     let at-first-if = at-measure .before .before in
@@ -362,7 +361,7 @@ measure-operands-returns-4 t c =
           (at-second-if .if2 .left) _ _ _
           (recapped _ _ _ _ (at-measure .measure .ensures .0) (at-start .pre .1 .1 .1 .1 .0)
           (at-capped-add .capped-add .ensures)) _ (c .if3 .left)
-          (rw (at-room-others .room-others .ensures) at (at-measure-operands .measure-operands .ensures .0)),
+          (rw (at-room-after .room-after .ensures) at (at-measure-operands .measure-operands .ensures .0)),
       at-measure-operands .measure-operands .ensures .1,
     )
 
@@ -377,7 +376,7 @@ pub +measure+measure-operands-spec : {M : Type 1} → statement M
     (measure-operands-returns t) (measure-operands-sub-root t) (measure-operands-measure-requires t)
     (measure-operands-capped-add-requires t) (measure-operands-same-length t) (measure-operands-returns-2 t)
     (measure-operands-shared-slice-read-first t) (measure-operands-cast-first t) (measure-operands-sub-left t)
-    (measure-operands-room-others-requires t) (measure-operands-sub-fewer t)
+    (measure-operands-room-after-requires t) (measure-operands-sub-fewer t)
     (measure-operands-measure-operands-requires t) (measure-operands-same-length-2 t)
     (measure-operands-returns-3 t) (measure-operands-add-result t) (measure-operands-add-result-2 t)
     (measure-operands-same-length-3 t) (measure-operands-returns-4 t))

@@ -1,5 +1,5 @@
--- `measure::widths_of` meets its contract: nothing is known of
--- an empty table, and measuring keeps it right. Assumes nothing.
+-- `measure::widths_of` meets its contract: nothing is known of an empty table, and measuring keeps it right. Assumes
+-- nothing.
 use Rattle.view.proofs.ViewLaws.{unmarked}
 use Rattle.measure.proofs.WidthLaws.{widths-none}
 use borrow.Author.Needs.{needs}

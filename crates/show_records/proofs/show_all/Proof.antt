@@ -1,5 +1,5 @@
--- `show_records::show_all` is safe and ends: the buffers keep their
--- lengths, and the measure is the turns left. Assumes nothing.
+-- `show_records::show_all` is safe and ends: the buffers keep their lengths, and the measure is the turns left. Assumes
+-- nothing.
 use lib.ListN.{length}
 use mathlib.Core.Path.{_≡_}
 use borrow.Author.Needs.{needs}

@@ -1,5 +1,5 @@
--- `show_records::show_page` is safe and ends: the buffer keeps its length,
--- and the measure is the bytes that records may still have. Assumes nothing.
+-- `show_records::show_page` is safe and ends: the buffer keeps its length, and the measure is the bytes that records
+-- may still have. Assumes nothing.
 use borrow.Author.Needs.{needs}
 use Prim.Native.Nat.{_≤_}
 use mathlib.Core.Path.{_≡_}

@@ -1,5 +1,5 @@
--- `vectors::replay_all` is safe and ends: the buffers keep their
--- lengths, and the measure is the turns left. Assumes nothing.
+-- `vectors::replay_all` is safe and ends: the buffers keep their lengths, and the measure is the turns left. Assumes
+-- nothing.
 use Prim.Native.Nat.{_≤_}
 use mathlib.Core.Path.{_≡_}
 use lib.ListN.{length}

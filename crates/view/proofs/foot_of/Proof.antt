@@ -1,5 +1,5 @@
--- `view::foot_of` meets its contract. Invariant: the records passed are
--- attached of one node with record j. The measure is j. Assumes nothing.
+-- `view::foot_of` meets its contract. Invariant: the records passed are attached of one node with record j. The measure
+-- is j. Assumes nothing.
 use native.Mathlib.Omega.{arith}
 use Rattle.view.specs.View.{Chained}
 use Rattle.view.proofs.ChainedLaws.{chained-start, chained-here, chained-part}

@@ -1,5 +1,5 @@
--- `view::unary_view` meets its contract: the value of the tree
--- says whether the minus is a number's sign. Assumes nothing.
+-- `view::unary_view` meets its contract: the value of the tree says whether the minus is a number's sign. Assumes
+-- nothing.
 use Rattle.view.proofs.ChainedLaws.{chained-here}
 use Rattle.view.proofs.NodeLaws.{view-unary, view-valued, numberless-below}
 use borrow.Author.Needs.{needs}

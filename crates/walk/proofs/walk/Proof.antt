@@ -1,6 +1,5 @@
--- `walk::walk` meets its contract. The invariant, and what each way
--- through the loop's body makes of it, stand in `WalkedSoFar`; each
--- answer here hands the values over. The measure is the records that a page may still have.
+-- `walk::walk` meets its contract. The invariant, and what each way through the loop's body makes of it, stand in
+-- `WalkedSoFar`; each answer here hands the values over. The measure is the records that a page may still have.
 use Prim.Native.Nat.{_-_}
 use mathlib.Core.Path.{_≡_, refl, ap, _∙_}
 use denote.Ref.{now}

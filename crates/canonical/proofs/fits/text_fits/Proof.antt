@@ -1,6 +1,5 @@
--- `canonical::fits::text_fits` meets its contract: by the bound where that
--- fits, else by the measured length. Where the bound does not fit, the
--- room is below 65,536, so a byte more is no overflow. Assumes nothing.
+-- `canonical::fits::text_fits` meets its contract: by the bound where that fits, else by the measured length. Where the
+-- bound does not fit, the room is below 65,536, so a byte more is no overflow. Assumes nothing.
 use native.Mathlib.Omega.{arith}
 use borrow.Author.Needs.{needs}
 use Rattle.text.proofs.EntryLaws.{page-short}

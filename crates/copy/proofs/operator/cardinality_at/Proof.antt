@@ -1,5 +1,5 @@
--- `copy::operator::cardinality_at` meets its contract: the cardinality
--- stands where the matching ends, which was read before. Assumes nothing.
+-- `copy::operator::cardinality_at` meets its contract: the cardinality stands where the matching ends, which was read
+-- before. Assumes nothing.
 use native.Mathlib.Omega.{arith}
 use borrow.Author.Needs.{needs}
 use Rattle.copy.proofs.OperatorLaws.{present-wide, present-cardinality, present-readable}

@@ -1,5 +1,5 @@
--- `copy::operator::put_absent` meets its contract: kind and code
--- off the page, then the modifier written out. Assumes nothing.
+-- `copy::operator::put_absent` meets its contract: kind and code off the page, then the modifier written out. Assumes
+-- nothing.
 use Prim.Native.Nat.{_+_, _-_}
 use mathlib.Core.List.{[], _∷_}
 use native.Mathlib.Omega.{arith}

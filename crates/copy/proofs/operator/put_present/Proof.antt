@@ -1,5 +1,5 @@
--- `copy::operator::put_present` meets its contract: up to the
--- cardinality, its form, and what stands after. Assumes nothing.
+-- `copy::operator::put_present` meets its contract: up to the cardinality, its form, and what stands after. Assumes
+-- nothing.
 use Prim.Native.Nat.{_+_, _-_}
 use mathlib.Core.Path.{sym, ap}
 use mathlib.Core.List.{[], _∷_}

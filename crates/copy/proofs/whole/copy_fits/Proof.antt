@@ -1,5 +1,5 @@
--- `copy::whole::copy_fits` meets its contract. Invariant: the copy fits
--- the room where what is left of it fits what is left of the room.
+-- `copy::whole::copy_fits` meets its contract. Invariant: the copy fits the room where what is left of it fits what is
+-- left of the room.
 -- The measure is the records left. Assumes nothing.
 use Prim.Native.Nat.{_-_}
 use mathlib.Core.Path.{_≡_, sym, ap, _∙_}

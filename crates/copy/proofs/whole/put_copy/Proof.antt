@@ -1,5 +1,5 @@
--- `copy::whole::put_copy` meets its contract. Invariant: the copy from
--- record i on is left to be written. The measure is the records left.
+-- `copy::whole::put_copy` meets its contract. Invariant: the copy from record i on is left to be written. The measure
+-- is the records left.
 -- Assumes nothing.
 use Prim.Native.Nat.{_-_}
 use mathlib.Core.Path.{sym}

@@ -1,6 +1,5 @@
--- `fields::attached::attached_of` meets its contract. Invariant: the attached
--- of the records above record j, which is not below the foot. The measure
--- is j. Assumes nothing.
+-- `fields::attached::attached_of` meets its contract. Invariant: what the records above record j
+-- attach; j is not below the foot. The measure is j. Assumes nothing.
 use Prim.Native.Nat.{_≤_}
 use native.Mathlib.Omega.{arith}
 use mathlib.Core.Path.{refl}
@@ -18,13 +17,13 @@ Inv-loop page starts base j₀ attached₀ j attached = (base ≤ j) × (j ≤ j
 abbrev μ-loop : tie.MeasureT-loop
 μ-loop page starts base j₀ attached₀ j attached = j
 
-no-attached-requires : tie.Need-no-attached-requires Inv-loop μ-loop
-no-attached-requires c κs = tt
+nothing-attached-requires : tie.Need-nothing-attached-requires Inv-loop μ-loop
+nothing-attached-requires c κs = tt
 
 loop-holds : tie.Need-loop-holds Inv-loop μ-loop
 loop-holds c =
     let at-start = c .before .before .before in
-    (sets-low (at-start .pre .chain .sets), omega arith, rw (c .no-attached .ensures) setsNothing)
+    (sets-low (at-start .pre .chain .sets), omega arith, rw (c .nothing-attached .ensures) setsNothing)
 
 with-record-requires : tie.Need-with-record-requires Inv-loop μ-loop
 with-record-requires c κs =
@@ -56,7 +55,7 @@ attached-of-spec =
     (tie.spec
     Inv-loop
     μ-loop
-    no-attached-requires
+    nothing-attached-requires
     loop-holds
     with-record-requires
     sub-j

@@ -1,5 +1,5 @@
--- `heads::head::modifier_len` meets its contract: bool, fills,
--- matching and cardinality, added up to the cap. Assumes nothing.
+-- `heads::head::modifier_len` meets its contract: bool, fills, matching and cardinality, added up to the cap. Assumes
+-- nothing.
 use borrow.Author.Needs.{needs}
 use denote.Ref.{now}
 use Rattle.records.specs.Answers.{binModifierOn}

@@ -1,5 +1,5 @@
--- `judge::call::arguments_match` meets its contract. The loop's
--- invariant: the arguments left, matched against the kinds left, decide.
+-- `judge::call::arguments_match` meets its contract. The loop's invariant: the arguments left, matched against the
+-- kinds left, decide.
 use mathlib.Core.Path.{_≡_, refl, sym, ap, _∙_}
 use mathlib.Core.List.{map}
 use lib.ListN.{drop}

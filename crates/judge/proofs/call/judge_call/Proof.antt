@@ -1,16 +1,8 @@
--- `judge::call::judge_call` meets its contract: each return is a
--- case of `judgeCall` by the tests before it. Assumes nothing.
-use mathlib.Core.Path.{sym, ap, _∙_}
-use lib.ListN.{drop}
-use denote.Ref.{now}
+-- `judge::call::judge_call` meets its contract: each return is a case of `judgeCall` by the tests before it. Assumes
+-- nothing.
+use mathlib.Core.Path.{sym, _∙_}
 use native.Mathlib.Omega.{arith}
-use Rattle.ast.specs.Judge.{isExemptOperand}
-use Rattle.records.specs.SignatureAnswers.{functionOn}
-use Rattle.records.specs.Stack.{operandsOf}
-use Rattle.page.specs.Answers.{spanOn}
-use Rattle.rules.specs.Stack.{heldOperands}
-use Rattle.rules.proofs.StackLaws.{operands-size}
-use Rattle.judge.proofs.CallLaws.{call-arity, call-empty, call-exempt, call-undeclared, call-match, exempt-first}
+use Rattle.judge.proofs.CallLaws.{judged-arity, judged-empty, judged-exempt, judged-undeclared, judged-match}
 use borrow.Author.Needs.{needs}
 use Rattle.judge.proofs.call.judge_call.Statement.{statement}
 use Rattle.judge.proofs.call.judge_call.Tie as tie
@@ -28,14 +20,8 @@ returns : tie.Need-returns
 returns c =
     let at-arity = c .before .before .before in
     let at-start = at-arity .before .before .before .before .before in
-    let f = functionOn (now (at-start .args .page)) (at-start .args .function) in
-    let args = operandsOf (at-start .args .count)
-    (drop (at-start .args .top) (heldOperands (now (at-start .args .tags)) (now (at-start .args .values)))) in
-    let size = sym
-    (operands-size (now (at-start .args .tags)) (now (at-start .args .values)) (at-start .pre .0)
-    (at-start .args .top) (at-start .args .count) (at-start .pre .1 .1)) in
     let fine = rw (c .before .enum-told .given .1) at (at-arity .arity .ensures) in
-    call-empty f args (sym (at-start .pre .1 .0 .kinds)) size fine (c .if1 .taken)
+    judged-empty (at-start .pre .0) (at-start .pre .1 .0) _ _ (at-start .pre .1 .1) fine (c .if1 .taken)
 
 sub-operand-at : tie.Need-sub-operand-at
 sub-operand-at c = search needs
@@ -59,20 +45,9 @@ returns-2 c =
     let at-told = at-first-if .before in
     let at-arity = at-told .before .before in
     let at-start = at-arity .before .before .before .before .before in
-    let f = functionOn (now (at-start .args .page)) (at-start .args .function) in
-    let args = operandsOf (at-start .args .count)
-    (drop (at-start .args .top) (heldOperands (now (at-start .args .tags)) (now (at-start .args .values)))) in
-    let size = sym
-    (operands-size (now (at-start .args .tags)) (now (at-start .args .values)) (at-start .pre .0)
-    (at-start .args .top) (at-start .args .count) (at-start .pre .1 .1)) in
     let fine = rw (at-told .enum-told .given .1) at (at-arity .arity .ensures) in
-    let first = exempt-first (at-start .pre .0)
-    (spanOn (now (at-start .args .page)) (at-start .args .function .name)) (at-start .args .top)
-    (at-start .args .count) (at-first-if .if1 .left) (at-start .pre .1 .1) in
-    let exempt = c .before .is-exempt .ensures
-    ∙ ap (isExemptOperand (spanOn (now (at-start .args .page)) (at-start .args .function .name)))
-    (c .before .before .operand-at .ensures) ∙ first in
-    call-exempt f args (sym (at-start .pre .1 .0 .kinds)) size fine (sym (c .if2 .taken) ∙ exempt)
+    judged-exempt (at-start .pre .0) (at-start .pre .1 .0) _ _ (at-start .pre .1 .1) fine (at-first-if .if1 .left)
+    (c .before .before .operand-at .ensures) (c .before .is-exempt .ensures) (c .if2 .taken)
 
 returns-3 : tie.Need-returns-3
 returns-3 c =
@@ -81,21 +56,9 @@ returns-3 c =
     let at-told = at-first-if .before in
     let at-arity = at-told .before .before in
     let at-start = at-arity .before .before .before .before .before in
-    let f = functionOn (now (at-start .args .page)) (at-start .args .function) in
-    let args = operandsOf (at-start .args .count)
-    (drop (at-start .args .top) (heldOperands (now (at-start .args .tags)) (now (at-start .args .values)))) in
-    let size = sym
-    (operands-size (now (at-start .args .tags)) (now (at-start .args .values)) (at-start .pre .0)
-    (at-start .args .top) (at-start .args .count) (at-start .pre .1 .1)) in
     let fine = rw (at-told .enum-told .given .1) at (at-arity .arity .ensures) in
-    let first = exempt-first (at-start .pre .0)
-    (spanOn (now (at-start .args .page)) (at-start .args .function .name)) (at-start .args .top)
-    (at-start .args .count) (at-first-if .if1 .left) (at-start .pre .1 .1) in
-    let exempt = c .before .before .is-exempt .ensures
-    ∙ ap (isExemptOperand (spanOn (now (at-start .args .page)) (at-start .args .function .name)))
-    (at-operand-at .operand-at .ensures) ∙ first in
-    call-undeclared f args (sym (at-start .pre .1 .0 .kinds)) size fine (sym (c .before .if2 .left) ∙ exempt)
-    (c .if3 .taken) (at-first-if .if1 .left)
+    judged-undeclared (at-start .pre .0) (at-start .pre .1 .0) _ _ (at-start .pre .1 .1) fine (at-first-if .if1 .left)
+    (at-operand-at .operand-at .ensures) (c .before .before .is-exempt .ensures) (c .before .if2 .left) (c .if3 .taken)
 
 arguments-match-requires : tie.Need-arguments-match-requires
 arguments-match-requires c κs =
@@ -111,33 +74,16 @@ returns-4 c =
     let at-told = at-first-if .before in
     let at-arity = at-told .before .before in
     let at-start = at-arity .before .before .before .before .before in
-    let f = functionOn (now (at-start .args .page)) (at-start .args .function) in
-    let args = operandsOf (at-start .args .count)
-    (drop (at-start .args .top) (heldOperands (now (at-start .args .tags)) (now (at-start .args .values)))) in
-    let size = sym
-    (operands-size (now (at-start .args .tags)) (now (at-start .args .values)) (at-start .pre .0)
-    (at-start .args .top) (at-start .args .count) (at-start .pre .1 .1)) in
     let fine = rw (at-told .enum-told .given .1) at (at-arity .arity .ensures) in
-    let first = exempt-first (at-start .pre .0)
-    (spanOn (now (at-start .args .page)) (at-start .args .function .name)) (at-start .args .top)
-    (at-start .args .count) (at-first-if .if1 .left) (at-start .pre .1 .1) in
-    let exempt = at-is-exempt .is-exempt .ensures
-    ∙ ap (isExemptOperand (spanOn (now (at-start .args .page)) (at-start .args .function .name)))
-    (at-operand-at .operand-at .ensures) ∙ first in
-    sym (call-match f args (sym (at-start .pre .1 .0 .kinds)) size fine (sym (at-second-if .if2 .left) ∙ exempt)
+    sym (judged-match (at-start .pre .0) (at-start .pre .1 .0) _ _ (at-start .pre .1 .1) fine (at-first-if .if1 .left)
+    (at-operand-at .operand-at .ensures) (at-is-exempt .is-exempt .ensures) (at-second-if .if2 .left)
     (c .before .before .if3 .left) (sym (c .if4 .taken) ∙ c .before .arguments-match .ensures))
 
 returns-5 : tie.Need-returns-5
 returns-5 c =
     let at-arity = c .before .before .before in
     let at-start = at-arity .before .before .before .before .before in
-    let f = functionOn (now (at-start .args .page)) (at-start .args .function) in
-    let args = operandsOf (at-start .args .count)
-    (drop (at-start .args .top) (heldOperands (now (at-start .args .tags)) (now (at-start .args .values)))) in
-    let size = sym
-    (operands-size (now (at-start .args .tags)) (now (at-start .args .values)) (at-start .pre .0)
-    (at-start .args .top) (at-start .args .count) (at-start .pre .1 .1)) in
-    call-arity f args (sym (at-start .pre .1 .0 .kinds)) size
+    judged-arity (at-start .pre .0) (at-start .pre .1 .0) _ _ (at-start .pre .1 .1)
     (rw (c .before .refusal .given .1) at (at-arity .arity .ensures))
 
 returns-6 : tie.Need-returns-6
@@ -149,20 +95,9 @@ returns-6 c =
     let at-told = at-first-if .before in
     let at-arity = at-told .before .before in
     let at-start = at-arity .before .before .before .before .before in
-    let f = functionOn (now (at-start .args .page)) (at-start .args .function) in
-    let args = operandsOf (at-start .args .count)
-    (drop (at-start .args .top) (heldOperands (now (at-start .args .tags)) (now (at-start .args .values)))) in
-    let size = sym
-    (operands-size (now (at-start .args .tags)) (now (at-start .args .values)) (at-start .pre .0)
-    (at-start .args .top) (at-start .args .count) (at-start .pre .1 .1)) in
     let fine = rw (at-told .enum-told .given .1) at (at-arity .arity .ensures) in
-    let first = exempt-first (at-start .pre .0)
-    (spanOn (now (at-start .args .page)) (at-start .args .function .name)) (at-start .args .top)
-    (at-start .args .count) (at-first-if .if1 .left) (at-start .pre .1 .1) in
-    let exempt = at-is-exempt .is-exempt .ensures
-    ∙ ap (isExemptOperand (spanOn (now (at-start .args .page)) (at-start .args .function .name)))
-    (at-operand-at .operand-at .ensures) ∙ first in
-    sym (call-match f args (sym (at-start .pre .1 .0 .kinds)) size fine (sym (at-second-if .if2 .left) ∙ exempt)
+    sym (judged-match (at-start .pre .0) (at-start .pre .1 .0) _ _ (at-start .pre .1 .1) fine (at-first-if .if1 .left)
+    (at-operand-at .operand-at .ensures) (at-is-exempt .is-exempt .ensures) (at-second-if .if2 .left)
     (c .before .before .if3 .left) (sym (c .if4 .left) ∙ c .before .arguments-match .ensures))
 
 pub judge-call-spec : {M : Type 1} → statement M

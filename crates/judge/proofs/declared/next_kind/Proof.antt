@@ -1,5 +1,5 @@
--- `judge::declared::next_kind` meets its contract: the kinds after
--- the first, or the first again where there is none. Assumes nothing.
+-- `judge::declared::next_kind` meets its contract: the kinds after the first, or the first again where there is none.
+-- Assumes nothing.
 use mathlib.Core.Path.{sym, _∙_}
 use native.Mathlib.Omega.{arith}
 use Prim.Native.Nat.{_<_}

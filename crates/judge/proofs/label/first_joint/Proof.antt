@@ -1,5 +1,5 @@
--- `judge::label::first_joint` meets its contract. The loop's
--- invariant: what is left of the list decides. Assumes nothing.
+-- `judge::label::first_joint` meets its contract. The loop's invariant: what is left of the list decides. Assumes
+-- nothing.
 use mathlib.Core.Path.{_≡_, refl, sym, ap, _∙_}
 use native.Mathlib.Omega.{arith}
 use lib.ListN.{length, drop, drop-of-length-le}

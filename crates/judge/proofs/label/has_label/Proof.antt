@@ -1,5 +1,5 @@
--- `judge::label::has_label` meets its contract. The loop's
--- invariant: what is left of the list decides. Assumes nothing.
+-- `judge::label::has_label` meets its contract. The loop's invariant: what is left of the list decides. Assumes
+-- nothing.
 use mathlib.Core.Path.{_≡_, refl, sym, ap, _∙_}
 use lib.ListN.{drop}
 use denote.Ref.{now}

@@ -1,5 +1,5 @@
--- `judge::modifier::is_joint` meets its contract: without `on`
--- there is no list that a label could be in. Assumes nothing.
+-- `judge::modifier::is_joint` meets its contract: without `on` there is no list that a label could be in. Assumes
+-- nothing.
 use denote.Ref.{now}
 use Rattle.records.specs.Answers.{cardinalityOn}
 use Rattle.ast.specs.CheckAst.{groupLabels}

@@ -1,6 +1,5 @@
 -- `judge::record::judge_record` meets its contract, record by record:
--- the judge's own contract, at the entries where the stack has its
--- operands. Assumes nothing.
+-- the judge's own contract, at the entries where the stack has its operands. Assumes nothing.
 use mathlib.Core.Path.{ap, ap₂, _∙_}
 use lib.ListN.{drop}
 use denote.Ref.{now}

@@ -1,5 +1,5 @@
--- `label::label::put_more_labels` meets its contract. Invariant: what
--- is written, then what is left. The measure is the labels left.
+-- `label::label::put_more_labels` meets its contract. Invariant: what is written, then what is left. The measure is the
+-- labels left.
 -- Assumes nothing.
 use borrow.Author.Needs.{needs}
 use denote.Ref.{now}

@@ -1,5 +1,5 @@
--- `label::matcher::collect` meets its contract. Invariant: the keys stored,
--- then those of the matchers left. The measure is the matchers left.
+-- `label::matcher::collect` meets its contract. Invariant: the keys stored, then those of the matchers left. The
+-- measure is the matchers left.
 -- Assumes nothing.
 use borrow.Author.Needs.{needs}
 use denote.Ref.{now}

@@ -1,6 +1,6 @@
 -- be written, each with its comma. The measure is the texts left. Assumes nothing.
--- `label::matcher::put_in_order` meets its contract: the first text, then
--- a loop of comma and text. Invariant: the texts from i on are left to
+-- `label::matcher::put_in_order` meets its contract: the first text, then a loop of comma and text. Invariant: the
+-- texts from i on are left to
 use borrow.Author.Needs.{needs}
 use Prim.Native.Nat.{_-_, _≤_}
 use native.Mathlib.Omega.{arith}

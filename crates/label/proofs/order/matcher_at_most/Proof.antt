@@ -1,6 +1,6 @@
 -- symbols left. Assumes nothing.
--- `label::order::matcher_at_most` meets its contract. Invariant: the
--- answer is the order of the symbols from j on. The measure is the
+-- `label::order::matcher_at_most` meets its contract. Invariant: the answer is the order of the symbols from j on. The
+-- measure is the
 use Prim.Native.Nat.{_-_}
 use native.Mathlib.Omega.{arith}
 use mathlib.Core.Path.{_≡_}

@@ -1,6 +1,6 @@
 -- Assumes nothing.
--- `label::sort::arrange` meets its contract. Invariant: the keys from
--- i on are in order, those before are as they were. The measure is i.
+-- `label::sort::arrange` meets its contract. Invariant: the keys from i on are in order, those before are as they were.
+-- The measure is i.
 use borrow.Author.Needs.{needs}
 use native.Mathlib.Omega.{arith}
 use Rattle.label.proofs.SortLaws.{Arranged, arrange-start, arrange-on, arrange-end, behind-keys, own-key}

@@ -1,6 +1,6 @@
 -- Assumes nothing.
--- `label::sort::place` meets its contract. Invariant: the item is
--- still to be put among those after j. The measure is the places left.
+-- `label::sort::place` meets its contract. Invariant: the item is still to be put among those after j. The measure is
+-- the places left.
 use borrow.Author.Needs.{needs}
 use Prim.Native.Nat.{_-_}
 use native.Mathlib.Omega.{arith}

@@ -1,5 +1,5 @@
--- `leaves::decimal::put_decimal` meets its contract: the digits of n /
--- 10, then the last one. It calls itself with n / 10: the measure is n.
+-- `leaves::decimal::put_decimal` meets its contract: the digits of n / 10, then the last one. It calls itself with n /
+-- 10: the measure is n.
 -- Assumes nothing.
 use borrow.Author.Needs.{needs}
 use borrow.Fn.Kinds.{In}

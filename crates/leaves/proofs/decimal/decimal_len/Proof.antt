@@ -1,5 +1,5 @@
--- `leaves::decimal::decimal_len` meets its contract. The loop's invariant: the
--- digits counted and those of `left` are those of n, and one more. Assumes nothing.
+-- `leaves::decimal::decimal_len` meets its contract. The loop's invariant: the digits counted and those of `left` are
+-- those of n, and one more. Assumes nothing.
 use Prim.Native.Nat.{_+_, _≤_}
 use native.Mathlib.Omega.{arith}
 use mathlib.Core.Path.{_≡_, ap}

@@ -1,5 +1,5 @@
--- `leaves::duration::breakdown` meets its contract. The loop's invariant: the
--- counts written, then those of what is left, are the answer. Assumes nothing.
+-- `leaves::duration::breakdown` meets its contract. The loop's invariant: the counts written, then those of what is
+-- left, are the answer. Assumes nothing.
 use Prim.Native.Nat.{_-_, _*_, _≤_}
 use native.Mathlib.Omega.{arith}
 use mathlib.Core.List.{_++_}

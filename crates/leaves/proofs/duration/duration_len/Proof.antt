@@ -1,5 +1,5 @@
--- `leaves::duration::duration_len` meets its contract. The loop's invariant: the sum
--- and what is left come to the whole length; 22 at most for each unit. Assumes nothing.
+-- `leaves::duration::duration_len` meets its contract. The loop's invariant: the sum and what is left come to the whole
+-- length; 22 at most for each unit. Assumes nothing.
 use borrow.Author.Needs.{needs}
 use Prim.Native.Nat.{_+_, _-_, _*_, _≤_}
 use native.Mathlib.Omega.{arith}

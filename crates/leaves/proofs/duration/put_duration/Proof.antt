@@ -1,5 +1,5 @@
--- `leaves::duration::put_duration` meets its contract. The loop's
--- invariant: the counts from i on are left to be written. Assumes nothing.
+-- `leaves::duration::put_duration` meets its contract. The loop's invariant: the counts from i on are left to be
+-- written. Assumes nothing.
 use borrow.Author.Needs.{needs}
 use Prim.Native.Nat.{_+_, _-_, _≤_}
 use native.Mathlib.Omega.{arith}

@@ -1,5 +1,5 @@
--- `leaves::string::escaped_len` meets its contract. The loop's invariant: the count and
--- what is left come to the whole length; two at most for each byte. Assumes nothing.
+-- `leaves::string::escaped_len` meets its contract. The loop's invariant: the count and what is left come to the whole
+-- length; two at most for each byte. Assumes nothing.
 use borrow.Author.Needs.{needs}
 use denote.Ref.{now}
 use Prim.Native.Nat.{_+_, _-_, _*_, _≤_}

@@ -1,5 +1,5 @@
--- `page::number::read_up_to` meets its contract: a law for each way
--- out. The measure is the limit, which falls to 1/128. Assumes nothing.
+-- `page::number::read_up_to` meets its contract: a law for each way out. The measure is the limit, which falls to
+-- 1/128. Assumes nothing.
 use lib.ListN.{drop}
 use Prim.Native.Nat.{_+_, _/_}
 use native.Mathlib.Omega.{arith}

@@ -1,5 +1,5 @@
--- `page::number::read_number` meets its contract: a number of one byte
--- by the law of one byte, any other by `read_up_to`. Assumes nothing.
+-- `page::number::read_number` meets its contract: a number of one byte by the law of one byte, any other by
+-- `read_up_to`. Assumes nothing.
 use native.Mathlib.Omega.{arith}
 use Rattle.page.specs.Limits.{numberLimit}
 use Rattle.page.proofs.FieldLaws.{past-end, one-byte}

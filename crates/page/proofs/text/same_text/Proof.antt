@@ -1,5 +1,5 @@
--- `page::text::same_text` meets its contract. The loop's
--- invariant: what is left of both texts decides. Assumes nothing.
+-- `page::text::same_text` meets its contract. The loop's invariant: what is left of both texts decides. Assumes
+-- nothing.
 use denote.Ref.{now}
 use Rattle.page.proofs.TextLaws.{lengths-differ, equal-stop, equal-go, equal-end}
 use Rattle.page.specs.Bytes.{equal}

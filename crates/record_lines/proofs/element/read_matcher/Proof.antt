@@ -1,5 +1,5 @@
--- `record_lines::element::read_matcher` meets its contract: an
--- operator from 0 to 3, and what follows it. Assumes nothing.
+-- `record_lines::element::read_matcher` meets its contract: an operator from 0 to 3, and what follows it. Assumes
+-- nothing.
 use borrow.Author.Needs.{needs}
 use mathlib.Core.Path.{_∙_}
 use Rattle.record_lines.proofs.ElementLaws.{operator-read, operator-high, operator-refused}

@@ -1,5 +1,5 @@
--- `record_lines::line::put_number` meets its contract: the digits
--- fit and are written, or they are left out. Assumes nothing.
+-- `record_lines::line::put_number` meets its contract: the digits fit and are written, or they are left out. Assumes
+-- nothing.
 use borrow.Author.Needs.{needs}
 use native.Mathlib.Omega.{arith}
 use Rattle.record_lines.proofs.LineLaws.{puts-fits, puts-left-out}

@@ -1,6 +1,5 @@
--- `record_lines::list::put_list` meets its contract. Invariant: the
--- elements that are left give what all of them give. The measure is their
--- count. Assumes nothing.
+-- `record_lines::list::put_list` meets its contract. Invariant: the elements that are left give what all of them give.
+-- The measure is their count. Assumes nothing.
 use borrow.Author.Needs.{needs}
 use mathlib.Core.Path.{_≡_, refl}
 use lib.ListN.{length, drop}

@@ -1,5 +1,5 @@
--- `records::matcher::read_pattern_facts` meets its contract: the
--- operator says whether the flag is inverted. Assumes nothing.
+-- `records::matcher::read_pattern_facts` meets its contract: the operator says whether the flag is inverted. Assumes
+-- nothing.
 use borrow.Author.Tests.{eq-eqb, ne-eqb}
 use borrow.Author.Needs.{needs}
 use Rattle.records.proofs.matcher.read_pattern_facts.Statement.{statement}

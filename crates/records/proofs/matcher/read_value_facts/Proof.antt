@@ -1,5 +1,5 @@
--- `records::matcher::read_value_facts` meets its contract: by the
--- operator, the value or the flag after it decides. Assumes nothing.
+-- `records::matcher::read_value_facts` meets its contract: by the operator, the value or the flag after it decides.
+-- Assumes nothing.
 use denote.Ref.{now}
 use lib.ListN.{drop}
 use mathlib.Core.Path.{sym, _∙_}

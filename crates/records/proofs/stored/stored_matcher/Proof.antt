@@ -1,5 +1,5 @@
--- `records::stored::stored_matcher` meets its contract: each byte and
--- each text is there, because the matcher can be read. Assumes nothing.
+-- `records::stored::stored_matcher` meets its contract: each byte and each text is there, because the matcher can be
+-- read. Assumes nothing.
 use denote.Ref.{now}
 use native.Mathlib.Omega.{arith}
 use Rattle.records.proofs.StoredLaws.{flag-chosen, flag-stored, operator-chosen, name-stored, value-stored}

@@ -1,5 +1,5 @@
--- `rules::aggregate::judge_aggregate` meets its contract: the count of arguments,
--- then the kinds at the top of the stack (`AggregateLaws`). Assumes nothing.
+-- `rules::aggregate::judge_aggregate` meets its contract: the count of arguments, then the kinds at the top of the
+-- stack (`AggregateLaws`). Assumes nothing.
 use mathlib.Core.Path.{sym, ap, _∙_}
 use Rattle.ast.specs.Operand.{operandKind}
 use Rattle.rules.proofs.AggregateLaws.{aggregate-none, parameter-other, parameter-two, plain-other, plain-one}

@@ -1,5 +1,5 @@
--- `rules::aggregate::judge_operand` meets its contract: at each return the tests
--- before it say which row of the table is the first that applies. Assumes nothing.
+-- `rules::aggregate::judge_operand` meets its contract: at each return the tests before it say which row of the table
+-- is the first that applies. Assumes nothing.
 use borrow.Author.Needs.{needs}
 use Rattle.rules.proofs.aggregate.judge_operand.Statement.{statement}
 use Rattle.rules.proofs.aggregate.judge_operand.Tie as tie

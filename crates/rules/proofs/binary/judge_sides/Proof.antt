@@ -1,5 +1,5 @@
--- `rules::binary::judge_sides` meets its contract: at each return the tests before
--- it say which row of the table is the first that applies. Assumes nothing.
+-- `rules::binary::judge_sides` meets its contract: at each return the tests before it say which row of the table is the
+-- first that applies. Assumes nothing.
 use borrow.Author.Needs.{needs}
 use Rattle.rules.proofs.binary.judge_sides.Statement.{statement}
 use Rattle.rules.proofs.binary.judge_sides.Tie as tie

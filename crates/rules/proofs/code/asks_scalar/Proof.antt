@@ -1,5 +1,5 @@
--- `rules::code::asks_scalar` meets its contract: the class is a
--- list of codes, tested once over all of them. Assumes nothing.
+-- `rules::code::asks_scalar` meets its contract: the class is a list of codes, tested once over all of them. Assumes
+-- nothing.
 use mathlib.Core.Path.{refl}
 use lib.Dec.{eqb}
 use mathlib.Core.List.{[], _∷_}

@@ -1,5 +1,5 @@
--- `rules::code::is_count_values` meets its contract: the class
--- is one code, tested once over all of them. Assumes nothing.
+-- `rules::code::is_count_values` meets its contract: the class is one code, tested once over all of them. Assumes
+-- nothing.
 use mathlib.Core.Path.{refl}
 use lib.Dec.{eqb}
 use mathlib.Core.List.{[], _∷_}

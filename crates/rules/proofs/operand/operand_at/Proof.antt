@@ -1,5 +1,5 @@
--- `rules::operand::operand_at` meets its contract: the two arrays
--- are one list of operands (`StackLaws`). Assumes nothing.
+-- `rules::operand::operand_at` meets its contract: the two arrays are one list of operands (`StackLaws`). Assumes
+-- nothing.
 use mathlib.Core.Path.{sym, _∙_}
 use denote.Ref.{now}
 use native.Mathlib.Omega.{arith}

@@ -1,5 +1,5 @@
--- `rules::operand::operand_from` meets its contract: tag by tag;
--- the last arm is past every tag of the table. Assumes nothing.
+-- `rules::operand::operand_from` meets its contract: tag by tag; the last arm is past every tag of the table. Assumes
+-- nothing.
 use Prim.Native.Nat.{zero-le}
 use Rattle.rules.proofs.StackLaws.{further}
 use mathlib.Core.Path.{sym}

@@ -1,5 +1,5 @@
--- `sandzguli::face::sandzguli_check` meets its contract: every outcome
--- of the check is in the table, so its word fits. Assumes nothing.
+-- `sandzguli::face::sandzguli_check` meets its contract: every outcome of the check is in the table, so its word fits.
+-- Assumes nothing.
 use mathlib.Core.Path.{ap, _∙_, subst, sym}
 use denote.Ref.{now}
 use borrow.Author.Needs.{needs}

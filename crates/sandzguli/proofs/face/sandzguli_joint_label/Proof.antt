@@ -1,5 +1,5 @@
--- `sandzguli::face::sandzguli_joint_label` meets its contract: the part
--- lies on a page of at most 8,192 bytes, so its word fits. Assumes nothing.
+-- `sandzguli::face::sandzguli_joint_label` meets its contract: the part lies on a page of at most 8,192 bytes, so its
+-- word fits. Assumes nothing.
 use mathlib.Core.Path.{sym, ap}
 use denote.Ref.{now}
 use borrow.Author.Needs.{needs}

@@ -1,5 +1,5 @@
--- `sandzguli::face::sandzguli_split` meets its contract: every
--- outcome is in the table, so its word fits. Assumes nothing.
+-- `sandzguli::face::sandzguli_split` meets its contract: every outcome is in the table, so its word fits. Assumes
+-- nothing.
 use mathlib.Core.Path.{ap, _∙_, subst, sym}
 use denote.Ref.{now}
 use borrow.Author.Needs.{needs}

@@ -1,5 +1,5 @@
--- `sandzguli::part::label_span` meets its contract: the outcome of
--- check says whether and where there is a label. Assumes nothing.
+-- `sandzguli::part::label_span` meets its contract: the outcome of check says whether and where there is a label.
+-- Assumes nothing.
 use mathlib.Core.Path.{sym, ap, _∙_}
 use denote.Ref.{now}
 use borrow.Author.Needs.{needs}

@@ -1,6 +1,6 @@
--- The proof of the cycle {split_len, split_operands_len}: lengths up to a
--- cap. The measures: 2 i + 1 for the tree that record i ends, 2 e for the
--- operands after e records. The laws stand in `SplitLaws` and in crate text. Assumes nothing.
+-- The proof of the cycle {split_len, split_operands_len}: lengths up to a cap. The measures: 2 i + 1 for the tree that
+-- record i ends, 2 e for the operands after e records. The laws stand in `SplitLaws` and in crate text. Assumes
+-- nothing.
 use Rattle.split.proofs.SplitLaws.{fits-line, over-line, len-line, len-split}
 use Rattle.view.proofs.NodeLaws.{minus-numberless}
 use Rattle.view.proofs.ViewLaws.{starts-of, unmarked}

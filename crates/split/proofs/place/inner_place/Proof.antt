@@ -1,5 +1,5 @@
--- `split::place::inner_place` meets its contract, indents and level by
--- the contracts of `inner_indents` and `inner_level`. Assumes nothing.
+-- `split::place::inner_place` meets its contract, indents and level by the contracts of `inner_indents` and
+-- `inner_level`. Assumes nothing.
 use mathlib.Core.Path.{refl}
 use borrow.Author.Needs.{needs}
 use Rattle.split.proofs.place.inner_place.Statement.{statement}

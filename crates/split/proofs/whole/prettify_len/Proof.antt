@@ -1,5 +1,5 @@
--- `split::whole::prettify_len` meets its contract: a whole query
--- stands at level 0, its first line indented. Assumes nothing.
+-- `split::whole::prettify_len` meets its contract: a whole query stands at level 0, its first line indented. Assumes
+-- nothing.
 use Rattle.view.proofs.ViewLaws.{unmarked}
 use Rattle.text.specs.Layout.{prettyIndented}
 use native.Mathlib.Omega.{arith}

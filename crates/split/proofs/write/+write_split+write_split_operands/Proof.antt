@@ -1,6 +1,5 @@
--- The proof of the cycle {write_split, write_split_operands}: each text
--- is a run of pieces, written one after the other. The measures are those
--- of the lengths. Assumes nothing.
+-- The proof of the cycle {write_split, write_split_operands}: each text is a run of pieces, written one after the
+-- other. The measures are those of the lengths. Assumes nothing.
 use Rattle.split.proofs.SplitLaws.{fits-line, over-line, run-line, run-split}
 use Rattle.view.proofs.NodeLaws.{minus-numberless}
 use Rattle.view.proofs.ViewLaws.{starts-of, unmarked}

@@ -1,6 +1,6 @@
 -- Assumes nothing.
--- `tokens::token::put_token` meets its contract. Invariant: the letters
--- from i on are left to be written. The measure is the letters left.
+-- `tokens::token::put_token` meets its contract. Invariant: the letters from i on are left to be written. The measure
+-- is the letters left.
 use borrow.Author.Needs.{needs}
 use Prim.Native.Nat.{_-_, _<_}
 use lib.ListN.{length}
