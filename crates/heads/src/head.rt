@@ -75,8 +75,8 @@ fn put_modifier(
     let card = modifier.card;
     let lhs = modifier.lhs;
     let rhs = modifier.rhs;
-    let marked = put_bool(modifier.returns_bool, out, at);
-    let matched = put_matching(page, matching, out, marked);
+    let after_bool = put_bool(modifier.returns_bool, out, at);
+    let matched = put_matching(page, matching, out, after_bool);
     let grouped = put_cardinality(page, card, out, matched);
     put_fills(values, lhs, rhs, out, grouped)
 }

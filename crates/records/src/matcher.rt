@@ -126,7 +126,7 @@ pub enum Matchers {
 // So many matchers from a position on.
 pub fn matchers_from(page: &[u8], start: usize, count: usize) -> Matchers
     ensures reads { λ r. ⌜ matchersAt (now (page .entry)) r ≡ repeat count readMatcher (drop start (now (page .entry))) ⌝ }
-    ensures withFacts { λ r. ⌜ matchersStored (now (page .entry)) r ⌝ }
+    ensures facts { λ r. ⌜ matchersStored (now (page .entry)) r ⌝ }
 {
     let mut left = count;
     let mut at = start;
@@ -161,7 +161,7 @@ pub fn matchers_from(page: &[u8], start: usize, count: usize) -> Matchers
 // A count, and so many matchers.
 pub fn read_matchers(page: &[u8], at: usize) -> Matchers
     ensures reads { λ r. ⌜ matchersAt (now (page .entry)) r ≡ readList readMatcher (drop at (now (page .entry))) ⌝ }
-    ensures withFacts { λ r. ⌜ matchersStored (now (page .entry)) r ⌝ }
+    ensures facts { λ r. ⌜ matchersStored (now (page .entry)) r ⌝ }
 {
     match page::read_count(page, at) {
         page::Count::Got { count, next: start } => matchers_from(page, start, count),

@@ -51,7 +51,7 @@ pub fn split_len(
     let left = cap - front;
     let gap = between_at_len(page, starts, node, level, left);
     let minus = view::is_minus(node);
-    let operand = inner_place(page, starts, node, with_numberless(place, minus));
+    let operand = inner_place(node, with_numberless(place, minus));
     let inner = split_operands_len(page, starts, firsts, widths, end, count, operand, gap, left);
     let rear = rear_at_len(page, starts, node, level, left - inner);
     front + inner + rear

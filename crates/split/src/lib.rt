@@ -9,15 +9,15 @@ use view::Node;
 use view::Shape;
 pub use whole::prettify_len;
 pub use whole::put_prettify;
+ghost use mathlib.Core.List.{List};
 ghost use mathlib.Core.Path.{_≡_};
-ghost use Prim.Native.Nat.{suc, _≤_};
+ghost use Prim.Native.Nat.{ℕ, suc, _≤_};
 ghost use Rattle.text.specs.Layout.{innerIndents, innerLevel};
 ghost use Rattle.view.specs.View.{NodeAt, layoutAt};
 
 // Whether the first line of the first operand is indented.
-fn inner_indents(page: &[u8], starts: &[u16], node: Node, indents: bool) -> bool
-    requires { ⌜ NodeAt (now page) (now starts) node ⌝ }
-    ensures { λ r. ⌜ r ≡ innerIndents indents (layoutAt (now (page .entry)) node) ⌝ }
+fn inner_indents(node: Node, indents: bool) -> bool
+    ensures { λ r. ⌜ ((page starts : List ℕ) → NodeAt page starts node → r ≡ innerIndents indents (layoutAt page node)) ⌝ }
 {
     match view::shape_of(node) {
         Shape::Whole => true,
@@ -29,10 +29,10 @@ fn inner_indents(page: &[u8], starts: &[u16], node: Node, indents: bool) -> bool
 }
 
 // The level of the operands.
-fn inner_level(page: &[u8], starts: &[u16], node: Node, level: usize) -> usize
-    requires node { ⌜ NodeAt (now page) (now starts) node ⌝ }
-    requires level { ⌜ level ≤ 256 ⌝ }
-    ensures { λ r. ⌜ (r ≡ innerLevel level (layoutAt (now (page .entry)) node)) × (r ≤ suc level) ⌝ }
+fn inner_level(node: Node, level: usize) -> usize
+    requires { ⌜ level ≤ 256 ⌝ }
+    ensures is { λ r. ⌜ ((page starts : List ℕ) → NodeAt page starts node → r ≡ innerLevel level (layoutAt page node)) ⌝ }
+    ensures most { λ r. ⌜ r ≤ suc level ⌝ }
 {
     match view::shape_of(node) {
         Shape::Whole => level,

@@ -1,8 +1,9 @@
 // Places in split text.
 use crate::inner_indents;
 use crate::inner_level;
+ghost use mathlib.Core.List.{List};
 ghost use mathlib.Core.Path.{_≡_};
-ghost use Prim.Native.Nat.{suc, _≤_};
+ghost use Prim.Native.Nat.{ℕ, suc, _≤_};
 ghost use Rattle.view.specs.View.{NodeAt};
 ghost use Rattle.split.specs.Place.{withNumberless, withIndents, innerPlace};
 
@@ -34,13 +35,13 @@ pub fn with_indents(place: Place, indents: bool) -> Place
 }
 
 // The place of the first operand, by the node's `indents` and level; `numberless` is said of the operand already.
-pub fn inner_place(page: &[u8], starts: &[u16], node: view::Node, place: Place) -> Place
-    requires node { ⌜ NodeAt (now page) (now starts) node ⌝ }
-    requires level { ⌜ place .level ≤ 256 ⌝ }
-    ensures { λ r. ⌜ (r ≡ innerPlace (now (page .entry)) node place) × (r .level ≤ suc (place .level)) ⌝ }
+pub fn inner_place(node: view::Node, place: Place) -> Place
+    requires { ⌜ place .level ≤ 256 ⌝ }
+    ensures is { λ r. ⌜ ((page starts : List ℕ) → NodeAt page starts node → r ≡ innerPlace page node place) ⌝ }
+    ensures most { λ r. ⌜ r .level ≤ suc (place .level) ⌝ }
 {
-    let indents = inner_indents(page, starts, node, place.indents);
-    let level = inner_level(page, starts, node, place.level);
+    let indents = inner_indents(node, place.indents);
+    let level = inner_level(node, place.level);
     Place {
         numberless: place.numberless,
         indents: indents,

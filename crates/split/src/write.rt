@@ -78,7 +78,7 @@ fn write_split_operands(
         return at;
     }
     let root = end - 1;
-    let inner = inner_place(page, starts, own, place);
+    let inner = inner_place(own, place);
     if count == 1 {
         return write_split(page, starts, firsts, widths, root, inner, out, at);
     }

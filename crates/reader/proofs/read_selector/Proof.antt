@@ -29,8 +29,8 @@ returns c =
     let e = rw (at-name .name .given .1) at (at-read-text .read-text .ensures .0) in
     let f = rw (c .before .matchers .given .1) at (at-read-matchers .read-matchers .ensures .0) in
     let name = rw (at-name .name .given .1) at (at-read-text .read-text .ensures .1) in
-    let marked = rw (c .before .matchers .given .1) at (at-read-matchers .read-matchers .ensures .1) in
-    (simp (← e, ← f), record { name = name; marked = marked .0; stored = marked .1 })
+    let facts = rw (c .before .matchers .given .1) at (at-read-matchers .read-matchers .ensures .1) in
+    (simp (← e, ← f), record { name = name; facts = facts .0; stored = facts .1 })
 
 returns-2 : tie.Need-returns-2
 returns-2 c =

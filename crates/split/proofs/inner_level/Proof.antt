@@ -35,42 +35,40 @@ add-result-2 c = search needs
 returns : tie.Need-returns
 returns c =
     let at-start = c .before .before .before .before .before in (
-      sym (ap (innerLevel (at-start .args .level))
-          (layout-shaped (at-start .pre .0) (sym (c .enum-told .given .1) ∙ c .before .before .shape-of .ensures))),
+      λ page starts n. sym (ap (innerLevel (at-start .args .level))
+          (layout-shaped n (sym (c .enum-told .given .1) ∙ c .before .before .shape-of .ensures))),
       omega arith,
     )
 
 returns-2 : tie.Need-returns-2
 returns-2 c =
     let at-start = c .before .before .before .before .before in (
-      sym (ap (innerLevel (at-start .args .level))
-          (layout-shaped (at-start .pre .0) (sym (c .enum-told2 .given .1) ∙ c .before .before .shape-of .ensures))),
+      λ page starts n. sym (ap (innerLevel (at-start .args .level))
+          (layout-shaped n (sym (c .enum-told2 .given .1) ∙ c .before .before .shape-of .ensures))),
       omega arith,
     )
 
 returns-3 : tie.Need-returns-3
 returns-3 c =
     let at-start = c .before .before .before .before .before in (
-      sym (ap (innerLevel (at-start .args .level))
-          (layout-shaped (at-start .pre .0) (sym (c .enum-told3 .given .1) ∙ c .before .before .shape-of .ensures))),
+      λ page starts n. sym (ap (innerLevel (at-start .args .level))
+          (layout-shaped n (sym (c .enum-told3 .given .1) ∙ c .before .before .shape-of .ensures))),
       omega arith,
     )
 
 returns-4 : tie.Need-returns-4
 returns-4 c =
     let at-start = c .before .before .before .before .before in (
-      add-one _
-          ∙ sym (ap (innerLevel (at-start .args .level))
-          (layout-shaped (at-start .pre .0) (sym (c .enum-told4 .given .1) ∙ c .before .before .shape-of .ensures))),
+      λ page starts n. add-one _ ∙ sym (ap (innerLevel (at-start .args .level))
+          (layout-shaped n (sym (c .enum-told4 .given .1) ∙ c .before .before .shape-of .ensures))),
       omega arith,
     )
 
 returns-5 : tie.Need-returns-5
 returns-5 c =
     let at-start = c .before .before .before .before .before in (
-      add-one _
-          ∙ sym (ap (innerLevel (at-start .args .level))
-          (layout-shaped (at-start .pre .0) (sym (c .enum-told5 .given .1) ∙ c .before .before .shape-of .ensures))),
+      λ page starts n. add-one _ ∙ sym (ap (innerLevel (at-start .args .level))
+          (layout-shaped n (sym (c .enum-told5 .given .1) ∙ c .before .before .shape-of .ensures))),
       omega arith,
     )
 

@@ -8,7 +8,7 @@ returns c =
     let at-start = c .before .before .before .before in
     λ page read. simp (
       span-full page (at-start .args .selector .name) (read .name) (c .before .if1 .taken),
-      ← read .marked .names,
+      ← read .facts .names,
       c .if2 .taken,
     )
 
@@ -17,7 +17,7 @@ returns-2 c =
     let at-start = c .before .before .before .before in
     λ page read. simp (
       span-full page (at-start .args .selector .name) (read .name) (c .before .if1 .taken),
-      ← read .marked .names,
+      ← read .facts .names,
       c .if2 .left,
     )
 
@@ -26,7 +26,7 @@ returns-3 c =
     let at-start = c .before .before .before .before in
     λ page read. simp (
       span-empty page (at-start .args .selector .name) (c .before .if1 .left),
-      ← read .marked .accept,
+      ← read .facts .accept,
       c .if3 .taken,
     )
 
@@ -35,7 +35,7 @@ returns-4 c =
     let at-start = c .before .before .before .before in
     λ page read. simp (
       span-empty page (at-start .args .selector .name) (c .before .if1 .left),
-      ← read .marked .accept,
+      ← read .facts .accept,
       c .if3 .left,
     )
 

@@ -159,9 +159,8 @@ split-len-with-numberless-requires t c κs = search needs
 split-len-inner-place-requires : (t : ℕ)
     → split-len-lts.Need-inner-place-requires (split-len-claims t) (split-len-at t) split-len.Post
 split-len-inner-place-requires t c κs =
-    let at-view-at = c .before .before .before .before in
-    let at-start = at-view-at .before .before .before .before .before .before .before .before in
-    (at-view-at .view-at .ensures .stands, rw (c .with-numberless .ensures) (omega (arith, at-start .pre .1 .1 .1 .1)))
+    let at-start = c .before .before .before .before .before .before .before .before .before .before .before .before in
+    rw (c .with-numberless .ensures) (omega (arith, at-start .pre .1 .1 .1 .1))
 
 split-len-split-operands-len-requires : (t : ℕ)
     → split-len-lts.Need-split-operands-len-requires (split-len-claims t) (split-len-at t) split-len.Post
@@ -177,7 +176,11 @@ split-len-split-operands-len-requires t c κs =
           (
             laidOut .enough,
             (
-              rw (c .inner-place .ensures .0, c .before .with-numberless .ensures, c .before .before .is-minus .ensures)
+              rw (
+                c .inner-place .ensures .0 _ _ (at-view-at .view-at .ensures .stands),
+                c .before .with-numberless .ensures,
+                c .before .before .is-minus .ensures,
+              )
                   (minus-numberless (at-view-at .view-at .ensures)),
               omega (
                 arith,
@@ -235,7 +238,10 @@ split-len-returns-3 t c =
     len-split (at-start .pre .1 .0) (at-view-at .view-at .ensures .laidOut) _ _
     (over-line _ _ (at-width .width .ensures) (at-second-if .if2 .left)) _ _ _ _ _
     (at-front-at-len .front-at-len .ensures) (at-between-at-len .between-at-len .ensures)
-    (rw (c .before .before .inner-place .ensures .0, at-with-numberless .with-numberless .ensures) at
+    (rw (
+      c .before .before .inner-place .ensures .0 _ _ (at-view-at .view-at .ensures .stands),
+      at-with-numberless .with-numberless .ensures,
+    ) at
     (c .before .split-operands-len .ensures)) (c .rear-at-len .ensures)
 
 split-operands-len-returns : (t : ℕ)

@@ -12,7 +12,11 @@ inner-level-requires : tie.Need-inner-level-requires
 inner-level-requires c κs = search needs
 
 returns : tie.Need-returns
-returns c = (rw (c .before .inner-indents .ensures, c .inner-level .ensures .0) refl, c .inner-level .ensures .1)
+returns c = (
+  λ page starts n. rw
+      (c .before .inner-indents .ensures page starts n, c .inner-level .ensures .0 page starts n) refl,
+  c .inner-level .ensures .1,
+)
 
 pub inner-place-spec : {M : Type 1} → statement M
 inner-place-spec = tie.close (tie.spec inner-indents-requires inner-level-requires returns)

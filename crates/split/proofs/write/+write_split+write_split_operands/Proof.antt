@@ -282,7 +282,7 @@ write-split-operands-inner-place-requires : (t : ℕ)
     write-split-operands.Post
 write-split-operands-inner-place-requires t c κs =
     let at-start = c .before .before .before .before .before .before in
-    (at-start .pre .1 .1 .1 .0, omega (arith, at-start .pre .1 .1 .1 .1 .1 .1 .0))
+    omega (arith, at-start .pre .1 .1 .1 .1 .1 .1 .0)
 
 write-split-operands-write-split-requires : (t : ℕ)
     → write-split-operands-lts.Need-write-split-requires (write-split-operands-claims t) (write-split-operands-at t)
@@ -304,10 +304,11 @@ write-split-operands-write-split-requires t c κs =
         (
           at-start .pre .1 .1 .0,
           (
-            rw (at-inner-place .inner-place .ensures .0) (at-start .pre .1 .1 .1 .1 .1 .0),
+            rw (at-inner-place .inner-place .ensures .0 _ _ (at-start .pre .1 .1 .1 .0))
+                (at-start .pre .1 .1 .1 .1 .1 .0),
             (
               omega (arith, w .some, at-start .pre .1 .1 .1 .1 .1 .1 .0, at-inner-place .inner-place .ensures .1),
-              rw (at-inner-place .inner-place .ensures .0)
+              rw (at-inner-place .inner-place .ensures .0 _ _ (at-start .pre .1 .1 .1 .0))
                   (omega (arith, ap length one, at-start .pre .1 .1 .1 .1 .1 .1 .1)),
             ),
           ),
@@ -333,7 +334,9 @@ write-split-operands-returns-2 t c =
     (innerLevel (at-start .args .place .level) own))
     (prettyIndented true (innerLevel (at-start .args .place .level) own)) (at-start .pre .1 .0) _
     (at-start .pre .1 .1 .1 .1 .0) (betweenAt (at-start .args .place .level) own) (at-second-if .if2 .taken) in
-    wrote-as one (rw (at-inner-place .inner-place .ensures .0) at (c .before .before .write-split .ensures))
+    wrote-as one
+    (rw (at-inner-place .inner-place .ensures .0 _ _ (at-start .pre .1 .1 .1 .0)) at
+    (c .before .before .write-split .ensures))
 
 write-split-operands-shared-slice-read-end : (t : ℕ)
     → write-split-operands-lts.Need-shared-slice-read-end (write-split-operands-claims t)
@@ -455,12 +458,18 @@ write-split-operands-write-split-requires-2 t c κs =
         (
           at-start .pre .1 .1 .0,
           (
-            rw (at-with-indents .with-indents .ensures, at-inner-place .inner-place .ensures .0)
+            rw (
+              at-with-indents .with-indents .ensures,
+              at-inner-place .inner-place .ensures .0 _ _ (at-start .pre .1 .1 .1 .0),
+            )
                 (at-start .pre .1 .1 .1 .1 .1 .0),
             (
               rw (at-with-indents .with-indents .ensures)
                   (omega (arith, w .some, at-start .pre .1 .1 .1 .1 .1 .1 .0, at-inner-place .inner-place .ensures .1)),
-              rw (at-with-indents .with-indents .ensures, at-inner-place .inner-place .ensures .0)
+              rw (
+                at-with-indents .with-indents .ensures,
+                at-inner-place .inner-place .ensures .0 _ _ (at-start .pre .1 .1 .1 .0),
+              )
                   (fits (next (next run
                   (rw (at-with-numberless .with-numberless .ensures) at
                   (at-write-split-operands .write-split-operands .ensures)))
@@ -504,7 +513,10 @@ write-split-operands-returns-3 t c =
     end (next (next (next run
     (rw (at-with-numberless .with-numberless .ensures) at
     (at-write-split-operands .write-split-operands .ensures))) (at-put-between-at .put-between-at .ensures))
-    (rw (at-with-indents .with-indents .ensures, at-inner-place .inner-place .ensures .0) at
+    (rw (
+      at-with-indents .with-indents .ensures,
+      at-inner-place .inner-place .ensures .0 _ _ (at-start .pre .1 .1 .1 .0),
+    ) at
     (c .before .before .write-split2 .ensures)))
 
 pub +write-split+write-split-operands-spec : {M : Type 1} → statement M
