@@ -26,7 +26,7 @@ def path_to(thing, contexts, need, whole_place):
         if thing in fields:
             place = "c" + " .before" * far
             return place if whole_place else f"{place} .{thing}"
-    print(f"no {thing} behind {need}:", " < ".join("/".join(fields) for fields in chain))
+    print(f"no {thing} before {need}:", " < ".join("/".join(fields) for fields in chain))
     return None
 
 

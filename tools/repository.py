@@ -30,7 +30,7 @@ def report(changes, only_check):
 
 
 class Contexts:
-    """The needs of one function, and the places behind them: records, whose field `before` is the next place."""
+    """The needs of one function, and the places before them: records, whose field `before` is the next place."""
 
     def __init__(self, text):
         self.needs = dict(re.findall(r"Need-(\S+) (?:[^\n]*)=\s+\(c : ([^\s)]+)", text))
@@ -63,7 +63,7 @@ def contexts_of(crate, functions):
                 for need, name in member.needs.items():
                     whole.needs[prefix + need] = prefix + name
                 for name, fields in member.records.items():
-                    behind = {field: prefix + kind if field == "before" else kind for field, kind in fields.items()}
-                    whole.records[prefix + name] = behind
+                    fields = {field: prefix + kind if field == "before" else kind for field, kind in fields.items()}
+                    whole.records[prefix + name] = fields
             found[function] = whole
     return found
