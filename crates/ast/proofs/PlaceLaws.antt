@@ -12,7 +12,7 @@ use Rattle.page.specs.Read.{Read, got, Reader, andThen, repeat}
 use Rattle.page.specs.Number.{readChoice, writeNumber}
 use Rattle.page.specs.Text.{Text, readList, writeText, writeAll}
 use Rattle.page.specs.Allowed.{Each}
-use Rattle.page.proofs.ReadBackLaws.{Reads, readCount-back}
+use Rattle.page.proofs.ReadBackLaws.{ReadsAs, readCount-back}
 use Rattle.records.specs.Field.{Labels, writeFlag, writeLabels}
 use Rattle.records.specs.Modifier.{Cardinality, oneToOne, manyToMany, manyToOne, oneToMany, BinModifier, writeLabelModifier, writeCardinality}
 use Rattle.records.specs.Record.{binary}
@@ -29,7 +29,7 @@ placed (t ∷ ts) rest = record { label = t; left = length (writeAll writeText t
 -- ## Reading on, after what was written
 
 module _ {A B : Type 0} (f : A → Reader B) where
-  onward : {r : Reader A} {u : List ℕ} {a : A} → Reads r u a → (rest : List ℕ) → andThen (r (u ++ rest)) f ≡ f a rest
+  onward : {r : Reader A} {u : List ℕ} {a : A} → ReadsAs r u a → (rest : List ℕ) → andThen (r (u ++ rest)) f ≡ f a rest
   onward h rest = ap (λ (m : Read A). andThen m f) (h .reads rest)
 
 -- a label before others that are read

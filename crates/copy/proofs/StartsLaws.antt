@@ -30,7 +30,7 @@ use Rattle.ast.proofs.TablesLaws.{fromRecord-next}
 use Rattle.copy.specs.Copy.{copyRecords, copyPage}
 use Rattle.copy.specs.RecordCopy.{copyOfRead, recordCopy, absorbedRead, absorbedOf}
 use Rattle.copy.specs.Span.{Spans}
-use Rattle.copy.specs.Starts.{Starts, copyFrom}
+use Rattle.copy.specs.Starts.{PageStarts, copyFrom}
 use Rattle.copy.proofs.CopyLaws.{accepted-walks}
 use Rattle.copy.proofs.RecordCopyLaws.{ReadsTo, nothing-read, readRecords-reads, copyRecord-one}
 
@@ -86,7 +86,7 @@ fits-rest whole a b left e h =
     by-lt left whole (λ l. lt-leb whole left l ∙ sym (lt-leb b (left - a) (omega arith)))
     (λ l. le-leb whole left l ∙ sym (le-leb b (left - a) (omega arith)))
 
-module _ {page starts : List ℕ} {n : ℕ} (held : Starts page starts n) where
+module _ {page starts : List ℕ} {n : ℕ} (held : PageStarts page starts n) where
   page-reads : ReadsTo page (readPage page .records)
   page-reads = readPage-reads page (held .readable) .1
 
@@ -125,7 +125,7 @@ module _ {page starts : List ℕ} {n : ℕ} (held : Starts page starts n) where
   copyFrom-end i h = ap (λ (x : List Record). writeAll writeRecord (copyRecords x))
       (drop-of-length-le (readPage page .records) {i = i} (omega (arith, held .count)))
 
-  -- ## Starts
+  -- ## PageStarts
 
   pub starts-few : n ≤ recordLimit
   starts-few = omega (arith, held .count, page-limit page)
@@ -195,7 +195,7 @@ module _ {page starts : List ℕ} {n : ℕ} (held : Starts page starts n) where
 
 -- the walk's table of an accepted page
 pub accepted-starts : {page starts firsts : List ℕ} {n : ℕ} {e : Expr} → T (all isByte page)
-    → Tables page starts firsts n → checkPage page ≡ accepted e n → Starts page starts n
+    → Tables page starts firsts n → checkPage page ≡ accepted e n → PageStarts page starts n
 unfolding checkPage
 accepted-starts {page} {n = n} {e = e} bytes tables h =
     record {

@@ -12,7 +12,7 @@ use Rattle.ast.specs.Part.{fromRecord}
 use Rattle.copy.specs.Copy.{copyRecords}
 
 -- a page of n records, read to its end, and the start of each in a table
-pub record Starts (page starts : List ℕ) (n : ℕ) : Type 0 where
+pub record PageStarts (page starts : List ℕ) (n : ℕ) : Type 0 where
   pub bytes : T (all (λ b. ltb b 256) page)
   pub readable : readPage page .ending ≡ end
   pub count : length (readPage page .records) ≡ n

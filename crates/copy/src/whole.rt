@@ -9,11 +9,11 @@ ghost use lib.Dec.{leb};
 ghost use Rattle.base.specs.Splice.{Wrote};
 ghost use Rattle.copy.specs.Copy.{copyPage};
 ghost use Rattle.copy.specs.Span.{Spans};
-ghost use Rattle.copy.specs.Starts.{Starts};
+ghost use Rattle.copy.specs.Starts.{PageStarts};
 
 // Where record i ends: where the next one starts, or at the page's end.
 fn end_of(page: &[u8], starts: &[u16], n: usize, i: usize) -> usize
-    requires { ⌜ Starts (now page) (now starts) n × (i < n) ⌝ }
+    requires { ⌜ PageStarts (now page) (now starts) n × (i < n) ⌝ }
     ensures { λ r. ⌜ Spans (now (page .entry)) (getD (now (starts .entry)) i 0) r ⌝ }
 {
     let next = i + 1;
@@ -25,7 +25,7 @@ fn end_of(page: &[u8], starts: &[u16], n: usize, i: usize) -> usize
 
 // Whether the copy takes at most so many bytes.
 pub fn copy_fits(page: &[u8], starts: &[u16], n: usize, room: usize) -> bool
-    requires { ⌜ Starts (now page) (now starts) n ⌝ }
+    requires { ⌜ PageStarts (now page) (now starts) n ⌝ }
     ensures { λ r. ⌜ r ≡ leb (length (copyPage (now (page .entry)))) room ⌝ }
 {
     let mut left = room;
@@ -46,7 +46,7 @@ pub fn copy_fits(page: &[u8], starts: &[u16], n: usize, room: usize) -> bool
 
 // The copy at the start of the buffer.
 pub fn put_copy(page: &[u8], starts: &[u16], n: usize, out: &mut [u8]) -> usize
-    requires { ⌜ Starts (now page) (now starts) n × (length (copyPage (now page)) ≤ length (now out)) ⌝ }
+    requires { ⌜ PageStarts (now page) (now starts) n × (length (copyPage (now page)) ≤ length (now out)) ⌝ }
     ensures { λ r. ⌜ Wrote (now (out .entry)) (now (out .exit)) 0 (copyPage (now (page .entry))) r ⌝ }
 {
     let mut at: usize = 0;

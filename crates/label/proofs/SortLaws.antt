@@ -51,19 +51,19 @@ key-at page (k ∷ l) (suc i) (b, bs) h = key-at page l i bs (le-of-suc-le-suc h
 
 -- ## The loop of `place`: the item is still to be put among those after j
 
-pub record Placing (page : List ℕ) (item at : ℕ) (before present : List ℕ) (j : ℕ) : Type 0 where
+pub record PlacingKey (page : List ℕ) (item at : ℕ) (before present : List ℕ) (j : ℕ) : Type 0 where
   pub inside : j < length present
   pub size : length present ≡ length before
   pub keys : AreKeys page (drop (j + 1) present)
   pub goal : take j present ++ placed (keyText page) item (drop (j + 1) present) ≡ take at before ++ placed (keyText page) item (drop (at + 1) before)
 
-pub place-start : (page : List ℕ) (item at : ℕ) (o : List ℕ) → at < length o → AreKeys page (drop (at + 1) o) → Placing page item at o o at
+pub place-start : (page : List ℕ) (item at : ℕ) (o : List ℕ) → at < length o → AreKeys page (drop (at + 1) o) → PlacingKey page item at o o at
 place-start page item at o h b = record { inside = h; size = refl; keys = b; goal = refl }
 
 next : (o : List ℕ) (j : ℕ) → j + 1 < length o → drop (j + 1) o ≡ getD o (j + 1) 0 ∷ drop (j + 1 + 1) o
 next o j h = rw (add-one (j + 1), ← drop-cons o (j + 1) 0 h)
 
-pub next-key : {page : List ℕ} {item at : ℕ} {before o : List ℕ} {j : ℕ} → Placing page item at before o j → j + 1 < length o → IsKey page (getD o (j + 1) 0)
+pub next-key : {page : List ℕ} {item at : ℕ} {before o : List ℕ} {j : ℕ} → PlacingKey page item at before o j → j + 1 < length o → IsKey page (getD o (j + 1) 0)
 unfolding AreKeys
 next-key {page} {o = o} {j = j} w h = subst (AreKeys page) (next o j h) (w .keys) .0
 
@@ -71,8 +71,8 @@ take-next : (o : List ℕ) (j x : ℕ) → j < length o → take (j + 1) (set o 
 take-next o j x h = rw (add-one j) (take-suc-set o j x h)
 
 -- r is what `key_at_most` answered: the next key moves down
-pub place-on : {page : List ℕ} {item at : ℕ} {before o : List ℕ} {j : ℕ} (r : Bool) → Placing page item at before o j → j + 1 < length o
-    → r ≡ atMost (keyText page item) (keyText page (getD o (j + 1) 0)) → r ≡ false → Placing page item at before (set o j (getD o (j + 1) 0)) (j + 1)
+pub place-on : {page : List ℕ} {item at : ℕ} {before o : List ℕ} {j : ℕ} (r : Bool) → PlacingKey page item at before o j → j + 1 < length o
+    → r ≡ atMost (keyText page item) (keyText page (getD o (j + 1) 0)) → r ≡ false → PlacingKey page item at before (set o j (getD o (j + 1) 0)) (j + 1)
 unfolding AreKeys
 place-on {page} {item} {o = o} {j = j} r w h is no· =
     let f = keyText page in
@@ -93,7 +93,7 @@ place-on {page} {item} {o = o} {j = j} r w h is no· =
     }
 
 -- stored at j, before what stands after it
-pub place-here : {page : List ℕ} {item at : ℕ} {before o : List ℕ} {j : ℕ} (r : Bool) → Placing page item at before o j → j + 1 < length o
+pub place-here : {page : List ℕ} {item at : ℕ} {before o : List ℕ} {j : ℕ} (r : Bool) → PlacingKey page item at before o j → j + 1 < length o
     → r ≡ atMost (keyText page item) (keyText page (getD o (j + 1) 0)) → r ≡ true
     → set o j item ≡ take at before ++ placed (keyText page) item (drop (at + 1) before)
 place-here {page} {item} {o = o} {j = j} r w h is yes· =
@@ -102,7 +102,7 @@ place-here {page} {item} {o = o} {j = j} r w h is yes· =
     ∙ rw (← add-one j, next o j h, ← here f item (getD o (j + 1) 0) (drop (j + 1 + 1) o) (sym is ∙ yes·), ← next o j h) (w .goal)
 
 -- stored at j, the last place
-pub place-last : {page : List ℕ} {item at : ℕ} {before o : List ℕ} {j : ℕ} → Placing page item at before o j → length o ≤ j + 1
+pub place-last : {page : List ℕ} {item at : ℕ} {before o : List ℕ} {j : ℕ} → PlacingKey page item at before o j → length o ≤ j + 1
     → set o j item ≡ take at before ++ placed (keyText page) item (drop (at + 1) before)
 place-last {page} {item} {o = o} {j = j} w h =
     let f = keyText page in

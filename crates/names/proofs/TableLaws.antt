@@ -19,7 +19,7 @@ use Rattle.names.specs.Table.{longestName, ascend, isTable, nameAt}
 -- ## isTable
 
 -- a name lies within the letters
-pub record Placed (letters : List ℕ) (start end : ℕ) : Type 0 where
+pub record NamePlaced (letters : List ℕ) (start end : ℕ) : Type 0 where
   pub ordered : start ≤ end
   pub short : end - start ≤ longestName
   pub inside : end ≤ length letters
@@ -29,7 +29,7 @@ table-starts letters [] t = absurd t
 table-starts letters (n ∷ ns) t = omega arith
 
 ascend-placed : (letters : List ℕ) (low : ℕ) (ns : List ℕ) (i : ℕ) → T (ascend low (length letters) ns) → i < length ns
-    → Placed letters (getD (low ∷ ns) i 0) (getD ns i 0)
+    → NamePlaced letters (getD (low ∷ ns) i 0) (getD ns i 0)
 ascend-placed letters low [] i t h = absurd (not-suc-le-zero h)
 ascend-placed letters low (n ∷ ns) zero t h =
     let near = left-of (leb low n && leb (n - low) longestName && leb n (length letters)) (ascend n (length letters) ns) t in
@@ -44,11 +44,12 @@ ascend-placed letters low (n ∷ ns) (suc i) t h =
     (right-of (leb low n && leb (n - low) longestName && leb n (length letters)) (ascend n (length letters) ns)
     t) (le-of-suc-le-suc h)
 
-pub placed : (letters starts : List ℕ) (i : ℕ) → T (isTable letters starts) → i < length starts - 1 → Placed letters (getD starts i 0) (getD starts (i + 1) 0)
+pub placed : (letters starts : List ℕ) (i : ℕ) → T (isTable letters starts) → i < length starts - 1
+    → NamePlaced letters (getD starts i 0) (getD starts (i + 1) 0)
 placed letters [] i t h = absurd t
 placed letters (n ∷ ns) i t h = rw (add-one i) (ascend-placed letters n ns i t (omega arith))
 
-pub length-between : {letters : List ℕ} {start end : ℕ} → Placed letters start end → length (take (end - start) (drop start letters)) ≡ end - start
+pub length-between : {letters : List ℕ} {start end : ℕ} → NamePlaced letters start end → length (take (end - start) (drop start letters)) ≡ end - start
 length-between {letters} {start} p = length-take-le _ (drop start letters) (omega (arith, length-drop start letters, p .inside, p .ordered))
 
 -- ## nameAt

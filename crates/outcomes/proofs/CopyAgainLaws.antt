@@ -20,7 +20,7 @@ use Rattle.copy.proofs.CopyLaws.{copyPage-once, copyPage-check}
 use Rattle.outcomes.specs.Calls.{Called, tooShort, writing, copy}
 
 -- an accepted page of this kind, and its copy of so many bytes in front of the buffer's own
-record Wrote (page : List ℕ) (k : Kind) (n : ℕ) (after : List ℕ) : Type 0 where
+record CopyWrote (page : List ℕ) (k : Kind) (n : ℕ) (after : List ℕ) : Type 0 where
   isAccepted : check page ≡ answer k 0
   isLength : n ≡ length (copyPage page)
   isBuffer : take n after ≡ copyPage page
@@ -35,10 +35,10 @@ module _ (page buffer : List ℕ) (k : Kind) (n : ℕ) where
   never : (m i : ℕ) → refusal m i ≡ answer k n → ⊥
   never m i e = let z : _≡_ {A = ℕ} 0 1 = cc in omega arith
 
-  wrote : copy page buffer .outcome ≡ answer k n → Wrote page k n (copy page buffer .buffer)
+  wrote : copy page buffer .outcome ≡ answer k n → CopyWrote page k n (copy page buffer .buffer)
   wrote = from (checkPage page) refl
     where
-      fits : (j : Kind) (m : ℕ) → check page ≡ answer j 0 → (b : Bool) → called j m b .outcome ≡ answer k n → Wrote page k n (called j m b .buffer)
+      fits : (j : Kind) (m : ℕ) → check page ≡ answer j 0 → (b : Bool) → called j m b .outcome ≡ answer k n → CopyWrote page k n (called j m b .buffer)
       fits j m h false q = absurd (never tooShort m q)
       fits j m h true q =
           let kind : j ≡ k = cc in
@@ -51,7 +51,7 @@ module _ (page buffer : List ℕ) (k : Kind) (n : ℕ) where
           }
 
       from : (c : Checked Expr) → checkPage page ≡ c → writing (λ e. copyPage page) c buffer .outcome ≡ answer k n
-          → Wrote page k n (writing (λ e. copyPage page) c buffer .buffer)
+          → CopyWrote page k n (writing (λ e. copyPage page) c buffer .buffer)
       from (refusedAt m i) h q = absurd (never m i q)
       from (accepted e m) h q = fits (valueType e) m (ap outcomeOf h) (leb (length (copyPage page)) (length buffer)) q
 

@@ -1,5 +1,5 @@
 -- Reading after writing, for any reader and its writer: bytes that were written are read as the value that was written, whatever follows
--- them (`Reads`), and a reader gives allowed values only (`Gives`). Both are closed under sequences, choices of forms and lists.
+-- them (`ReadsAs`), and a reader gives allowed values only (`Gives`). Both are closed under sequences, choices of forms and lists.
 use Prim.Native.Nat.{ℕ, zero, suc, _≤_}
 use mathlib.Core.Path.{_≡_, refl, sym, ap, ap₂, _∙_, subst}
 use mathlib.Core.Bool.{Bool, true, false}
@@ -22,12 +22,12 @@ use Rattle.page.proofs.ReaderLaws.{append-assoc, append-nil}
 -- ## The two notions
 
 -- the bytes are read as the value, whatever follows
-pub record Reads {A : Type 0} (r : Reader A) (bytes : List ℕ) (a : A) : Type 0 where
+pub record ReadsAs {A : Type 0} (r : Reader A) (bytes : List ℕ) (a : A) : Type 0 where
   pub reads : (rest : List ℕ) → r (bytes ++ rest) ≡ got a rest
 
 -- what the writer writes is read back, for every value with the property
 abbrev pub ReadsBack : {A : Type 0} → Reader A → (A → List ℕ) → (A → Type 0) → Type 0
-ReadsBack r w P = (a : _) → P a → Reads r (w a) a
+ReadsBack r w P = (a : _) → P a → ReadsAs r (w a) a
 
 abbrev pub Got : {A : Type 0} → (A → Type 0) → Read A → Type 0
 Got P (refused f) = Unit {0}
@@ -40,16 +40,16 @@ pub record Gives {A : Type 0} (r : Reader A) (P : A → Type 0) : Type 0 where
 -- ## Sequences
 
 module _ {A : Type 0} where
-  pub reads-return : (a : A) → Reads (return a) [] a
+  pub reads-return : (a : A) → ReadsAs (return a) [] a
   reads-return a = record { reads = λ rest. refl }
 
-  pub reads-ensure : (b : Bool) (f : FieldFault) (a : A) → T b → Reads (ensure b f a) [] a
+  pub reads-ensure : (b : Bool) (f : FieldFault) (a : A) → T b → ReadsAs (ensure b f a) [] a
   reads-ensure true f a h = reads-return a
   reads-ensure false f a h = absurd h
 
   -- the same bytes, grouped otherwise
-  pub reads-as : {r : Reader A} {u v : List ℕ} {a : A} → Reads r u a → u ≡ v → Reads r v a
-  reads-as {r} {u} {v} {a} h e = subst (λ (x : List ℕ). Reads r x a) e h
+  pub reads-as : {r : Reader A} {u v : List ℕ} {a : A} → ReadsAs r u a → u ≡ v → ReadsAs r v a
+  reads-as {r} {u} {v} {a} h e = subst (λ (x : List ℕ). ReadsAs r x a) e h
 
   pub gives-as : {r : Reader A} {P Q : A → Type 0} → Gives r P → ((a : A) → P a → Q a) → Gives r Q
   gives-as {r} {P} {Q} h k = record { gives = λ s. by (r s) (h .gives s) }
@@ -73,7 +73,7 @@ module _ {A : Type 0} where
   gives-ensure false f a h = record { gives = λ s. tt }
 
 module _ {A B : Type 0} where
-  pub reads-bind : {r : Reader A} (f : A → Reader B) {u v : List ℕ} {a : A} {b : B} → Reads r u a → Reads (f a) v b → Reads (r >>= f) (u ++ v) b
+  pub reads-bind : {r : Reader A} (f : A → Reader B) {u v : List ℕ} {a : A} {b : B} → ReadsAs r u a → ReadsAs (f a) v b → ReadsAs (r >>= f) (u ++ v) b
   reads-bind {r} f {u} {v} {a} {b} h k =
       record {
         reads = λ rest.
@@ -81,7 +81,7 @@ module _ {A B : Type 0} where
       }
 
   -- a value of one field
-  pub reads-field : {r : Reader A} {u : List ℕ} {a : A} (make : A → B) → Reads r u a → Reads (r >>= λ a. return (make a)) u (make a)
+  pub reads-field : {r : Reader A} {u : List ℕ} {a : A} (make : A → B) → ReadsAs r u a → ReadsAs (r >>= λ a. return (make a)) u (make a)
   reads-field {r} {u} {a} make h = reads-as (reads-bind (λ a. return (make a)) h (reads-return (make a))) (append-nil u)
 
   pub gives-bind : {r : Reader A} {P : A → Type 0} {Q : B → Type 0} (f : A → Reader B) → Gives r P → ((a : A) → P a → Gives (f a) Q) → Gives (r >>= f) Q
@@ -98,8 +98,8 @@ module _ {A B : Type 0} where
 -- ## Numbers and choices of forms
 
 -- a value that was tested
-pub reads-tested : {A : Type 0} {r : Reader A} {u : List ℕ} {a : A} (test : A → Bool) (f : FieldFault) → Reads r u a → T (test a)
-    → Reads (r >>= λ a. ensure (test a) f a) u a
+pub reads-tested : {A : Type 0} {r : Reader A} {u : List ℕ} {a : A} (test : A → Bool) (f : FieldFault) → ReadsAs r u a → T (test a)
+    → ReadsAs (r >>= λ a. ensure (test a) f a) u a
 reads-tested {A} {r} {u} {a} test f h t = reads-as (reads-bind (λ a. ensure (test a) f a) h (reads-ensure (test a) f a t)) (append-nil u)
 
 pub readNumber-back : ReadsBack readNumber writeNumber IsNumber
@@ -110,7 +110,8 @@ readNumber-gives = gives-bind _ (gives-any readGroups) (λ n h. gives-ensure (le
 
 module _ {A : Type 0} where
   -- the bytes of a form stand after its number
-  pub reads-choice : (rs : List (Reader A)) (n : ℕ) {u : List ℕ} {a : A} → IsNumber n → Reads (readerAt rs n) u a → Reads (readChoice rs) (writeNumber n ++ u) a
+  pub reads-choice : (rs : List (Reader A)) (n : ℕ) {u : List ℕ} {a : A} → IsNumber n → ReadsAs (readerAt rs n) u a
+      → ReadsAs (readChoice rs) (writeNumber n ++ u) a
   reads-choice rs n h k = reads-bind (readerAt rs) (readNumber-back n h) k
 
 -- each form of a choice has the property
@@ -131,7 +132,7 @@ module _ {A : Type 0} where
 
 -- ## Texts
 
-readBytes-back : (t : Text) → Reads (readBytes (length t)) t t
+readBytes-back : (t : Text) → ReadsAs (readBytes (length t)) t t
 readBytes-back t =
     record {
       reads = λ rest.
@@ -170,7 +171,7 @@ pub readCount-gives : Gives readCount IsCount
 readCount-gives = gives-bind _ readNumber-gives (λ n h. gives-ensure (leb n countLimit) pastLimit n (λ t. leb→le n countLimit t))
 
 module _ {A : Type 0} (r : Reader A) (w : A → List ℕ) (P : A → Type 0) where
-  repeat-back : ReadsBack r w P → (xs : List A) → Each P xs → Reads (repeat (length xs) r) (writeAll w xs) xs
+  repeat-back : ReadsBack r w P → (xs : List A) → Each P xs → ReadsAs (repeat (length xs) r) (writeAll w xs) xs
   repeat-back back [] h = reads-return []
   repeat-back back (x ∷ xs) h =
       reads-bind _ (back x (h .0)) (reads-field (λ (more : List A). x ∷ more) (repeat-back back xs (h .1)))

@@ -1,5 +1,5 @@
 -- Every record that document 01 allows is read back as it was written, whatever follows (`readRecord-back`); field by field, by the
--- closure laws of `Reads`. Assumes nothing.
+-- closure laws of `ReadsAs`. Assumes nothing.
 use Prim.Native.Nat.{ℕ, _≤_, _<_}
 use mathlib.Core.Path.{sym}
 use mathlib.Core.Bool.{Bool, true, false}
@@ -14,7 +14,7 @@ use Rattle.page.specs.Text.{Text, isText, isLabel, isSelectorName, readAnyText,
 use Rattle.page.specs.Allowed.{IsNumber, IsCount}
 use Rattle.page.proofs.NumberLaws.{right-of}
 use Rattle.page.proofs.ReaderLaws.{append-nil}
-use Rattle.page.proofs.ReadBackLaws.{Reads, ReadsBack, reads-return, reads-ensure, reads-as, reads-bind, reads-field}
+use Rattle.page.proofs.ReadBackLaws.{ReadsAs, ReadsBack, reads-return, reads-ensure, reads-as, reads-bind, reads-field}
 use Rattle.page.proofs.ReadBackLaws.{reads-tested, reads-choice, readNumber-back, readText-back, readCount-back}
 use Rattle.page.proofs.ReadBackLaws.{readList-back}
 use Rattle.records.specs.Kind.{vector, scalar, matrix, string}
@@ -73,15 +73,15 @@ abbrev matcher : MatchOp → Text → Text → Matcher
 matcher o n v = record { op = o; name = n; value = v }
 
 plain-back : (o : MatchOp) (n v : Text) → IsAnyText n → IsAnyText v
-    → Reads (readAnyText >>= λ n. readAnyText >>= λ v. return (matcher o n v)) (writeText n ++ writeText v) (matcher o n v)
+    → ReadsAs (readAnyText >>= λ n. readAnyText >>= λ v. return (matcher o n v)) (writeText n ++ writeText v) (matcher o n v)
 plain-back o n v h k = reads-bind _ (readAnyText-back n h) (reads-field _ (readAnyText-back v k))
 
 pattern-back : (o : Bool → MatchOp) (n v : Text) (b : Bool) → IsAnyText n → IsAnyText v
-    → Reads (readAnyText >>= λ n. readAnyText >>= λ v. readFlag >>= λ b. return (matcher (o b) n v))
+    → ReadsAs (readAnyText >>= λ n. readAnyText >>= λ v. readFlag >>= λ b. return (matcher (o b) n v))
     (writeText n ++ (writeText v ++ writeFlag b)) (matcher (o b) n v)
 pattern-back o n v b h k = reads-bind _ (readAnyText-back n h) (reads-bind _ (readAnyText-back v k) (reads-field _ (readFlag-back b tt)))
 
-op-back : (o : MatchOp) (n v : Text) → IsAnyText n → IsAnyText v → Reads readMatcher (writeMatcher (matcher o n v)) (matcher o n v)
+op-back : (o : MatchOp) (n v : Text) → IsAnyText n → IsAnyText v → ReadsAs readMatcher (writeMatcher (matcher o n v)) (matcher o n v)
 op-back equal n v h k = reads-as (reads-choice matcherForms 0 (omega arith) (plain-back equal n v h k)) (sym (append-nil _))
 op-back notEqual n v h k = reads-as (reads-choice matcherForms 1 (omega arith) (plain-back notEqual n v h k)) (sym (append-nil _))
 op-back (re b) n v h k =
@@ -127,7 +127,7 @@ readOffset-back (neg n) h = reads-choice offsetForms 1 (omega arith) (reads-fiel
 
 -- a number from 1 to a limit
 from-one : (limit n : ℕ) → limit ≤ numberLimit → 0 < n → n ≤ limit
-    → Reads (readNumber >>= λ n. ensure (ltb 0 n) badField n >>= λ n. ensure (leb n limit) pastLimit n) (writeNumber n) n
+    → ReadsAs (readNumber >>= λ n. ensure (ltb 0 n) badField n >>= λ n. ensure (leb n limit) pastLimit n) (writeNumber n) n
 from-one limit n l h k =
     reads-as (
     reads-bind _ (readNumber-back n (omega arith))
@@ -163,27 +163,27 @@ readFunction-back f h =
 pub readCode-back : ReadsBack readCode writeNumber (λ c. T (isCode c))
 readCode-back c h = reads-tested isCode badField (readNumber-back c (omega (arith, leb→le c 30 (right-of (leb 1 c) (leb c 30) h)))) h
 
-readSelector-back : (s : Selector) → IsSelector s → Reads readSelector (writeText (s .name) ++ writeList writeMatcher (s .matchers)) (leaf (selector s))
+readSelector-back : (s : Selector) → IsSelector s → ReadsAs readSelector (writeText (s .name) ++ writeList writeMatcher (s .matchers)) (leaf (selector s))
 readSelector-back s h =
     reads-bind _ (readText-back textLimit isSelectorName (omega arith) (s .name) (h .0))
     (reads-field _ (readList-back readMatcher writeMatcher IsMatcher readMatcher-back (s .matchers) (h .1)))
 
 readSubquery-back : (r : ℕ) (s : Option ℕ) → IsNumber r → IsOptionOf IsNumber s
-    → Reads readSubquery (writeNumber r ++ writeOption writeNumber s) (wrapper (subquery r s))
+    → ReadsAs readSubquery (writeNumber r ++ writeOption writeNumber s) (wrapper (subquery r s))
 readSubquery-back r s h k =
     reads-bind _ (readNumber-back r h) (reads-field (λ s. wrapper (subquery r s)) (readOption-back readNumber writeNumber IsNumber readNumber-back s k))
 
 readBinary-back : (c : ℕ) (m : Option BinModifier) → T (isCode c) → IsOptionOf IsBinModifier m
-    → Reads readBinary (writeNumber c ++ writeOption writeBinModifier m) (binary c m)
+    → ReadsAs readBinary (writeNumber c ++ writeOption writeBinModifier m) (binary c m)
 readBinary-back c m h k =
     reads-bind _ (readCode-back c h) (reads-field (binary c) (readOption-back readBinModifier writeBinModifier IsBinModifier readBinModifier-back m k))
 
 readAggregate-back : (c : ℕ) (m : Option LabelModifier) (n : ℕ) → T (isCode c) → IsOptionOf IsLabelModifier m → IsCount n
-    → Reads readAggregate (writeNumber c ++ (writeLabelModifier m ++ writeNumber n)) (aggregate c m n)
+    → ReadsAs readAggregate (writeNumber c ++ (writeLabelModifier m ++ writeNumber n)) (aggregate c m n)
 readAggregate-back c m n h k l =
     reads-bind _ (readCode-back c h) (reads-bind _ (readLabelModifier-back m k) (reads-field (aggregate c m) (readCount-back n l)))
 
-readCall-back : (f : Function) (n : ℕ) → IsFunction f → IsCount n → Reads readCall (writeFunction f ++ writeNumber n) (call f n)
+readCall-back : (f : Function) (n : ℕ) → IsFunction f → IsCount n → ReadsAs readCall (writeFunction f ++ writeNumber n) (call f n)
 readCall-back f n h k = reads-bind _ (readFunction-back f h) (reads-field (call f) (readCount-back n k))
 
 -- every allowed record is read back

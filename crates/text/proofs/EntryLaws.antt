@@ -21,7 +21,7 @@ use Rattle.ast.specs.CheckPage.{leafExpr, wrap, apply}
 use Rattle.ast.specs.Tables.{newest as newestEntry, stackAt, treeAt, Entry, Tables}
 use Rattle.text.specs.LaidOut.{Reads}
 use Rattle.text.proofs.OperandLaws.{fewer, Newest, newest}
-use Rattle.text.proofs.TreeLaws.{checkedExpr, Pushed, leaf-ok, wrapper-ok}
+use Rattle.text.proofs.TreeLaws.{checkedExpr, PushedNode, leaf-ok, wrapper-ok}
 
 long-empty : (page : List ℕ) (k : ℕ) → leb (length page) pageLimit ≡ false → length (stackAt page k) ≡ 0
 unfolding stackAt readPage
@@ -30,7 +30,7 @@ long-empty page (suc k) f = rw f
 
 -- ## What was made of a record
 
-pub tree-of : (page : List ℕ) (j : ℕ) {e : Expr} {below : List Expr} → Pushed (ok e) below (stackAt page (suc j)) → treeAt page j ≡ checkedExpr e
+pub tree-of : (page : List ℕ) (j : ℕ) {e : Expr} {below : List Expr} → PushedNode (ok e) below (stackAt page (suc j)) → treeAt page j ≡ checkedExpr e
 unfolding treeAt
 tree-of page j {e} p = ap newestEntry (p .stack) ∙ ap checkedExpr (same (p .makes))
   where
@@ -40,7 +40,7 @@ tree-of page j {e} p = ap newestEntry (p .stack) ∙ ap checkedExpr (same (p .ma
 -- a record on one operand, which the record before it ends
 pub record Wrapped (page firsts : List ℕ) (j : ℕ) (w : Wrapper) : Type 0 where
   pub last : Newest page firsts j
-  pub pushed : Pushed (wrap w (treeAt page (j - 1))) (stackAt page (getD firsts (j - 1) 0)) (stackAt page (suc j))
+  pub pushed : PushedNode (wrap w (treeAt page (j - 1))) (stackAt page (getD firsts (j - 1) 0)) (stackAt page (suc j))
 
 module _ {page starts firsts : List ℕ} {j : ℕ} (t : Tables page starts firsts (suc j)) where
   here : Entry page (getD starts j 0) (getD firsts j 0) j

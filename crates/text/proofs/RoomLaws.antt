@@ -24,13 +24,13 @@ use Rattle.ast.specs.Walk.{Walked, stack, stopped, walk}
 use Rattle.ast.specs.Tables.{entries, newest, stackAt, treeAt}
 use Rattle.ast.proofs.WalkLaws.{walk-first}
 use Rattle.text.specs.Display.{display}
-use Rattle.text.proofs.TreeLaws.{checkedExpr, Pushed, leaf-ok, wrapper-ok, binary-ok, aggregate-ok, call-ok}
+use Rattle.text.proofs.TreeLaws.{checkedExpr, PushedNode, leaf-ok, wrapper-ok, binary-ok, aggregate-ok, call-ok}
 use Rattle.text.proofs.ShortLaws.{displayAggregator-short}
 use Rattle.text.proofs.GrowthLaws.{total, total-operands, wrap-short, leaf-short, binary-short, aggregate-short, call-short, aggregate-written}
 
 -- ## Records
 
-pushed-total : {made : Result Expr} {below after : List Expr} (p : Pushed made below after)
+pushed-total : {made : Result Expr} {below after : List Expr} (p : PushedNode made below after)
     → total after ≡ 2 + length (display (checkedExpr (p .node))) + total below
 unfolding total
 pushed-total p = ap total (p .stack)

@@ -35,7 +35,7 @@ use Rattle.text.specs.Display.{display, displaySelector}
 use Rattle.text.specs.Pretty.{trimStart}
 use Rattle.text.specs.Chain.{withAt, withOffset, settled}
 use Rattle.text.proofs.TrimLaws.{Begins, begins, begins-append, trim-none, Sound, display-begins}
-use Rattle.text.proofs.TreeLaws.{checkedExpr, Pushed, leaf-ok, wrapper-ok, binary-ok, aggregate-ok, call-ok}
+use Rattle.text.proofs.TreeLaws.{checkedExpr, PushedNode, leaf-ok, wrapper-ok, binary-ok, aggregate-ok, call-ok}
 use Rattle.text.proofs.EntryLaws.{negated, UnaryOf, unary-of}
 use Rattle.text.proofs.LaidOutLaws.{number-is}
 use Rattle.text.proofs.ChainLaws.{settled-nothing, range-settled, at-settled, offset-settled}
@@ -176,7 +176,7 @@ below-sound zero s h = h
 below-sound (suc n) [] h = h
 below-sound (suc n) (e ∷ s) h = below-sound n s (h .1)
 
-pushed-sound : {made : Result Expr} {below after : List Expr} (p : Pushed made below after)
+pushed-sound : {made : Result Expr} {below after : List Expr} (p : PushedNode made below after)
     → Sound (checkedExpr (p .node)) → Each Sound below → Each Sound after
 pushed-sound p s below = rw (p .stack) (s, below)
 

@@ -53,17 +53,17 @@ checkAst-ok (MatrixSelector s t r) made h = cc
 checkAst-ok (Call f es) made h = unless-ok (firstFault (callRows f (firstLiteral es) (kindsOf es))) _ made h
 
 -- a constructor's node, accepted and put on the stack
-pub record Pushed (made : Result Expr) (below after : List Expr) : Type 0 where
+pub record PushedNode (made : Result Expr) (below after : List Expr) : Type 0 where
   pub node : Expr
   pub makes : made ≡ ok node
   pub passes : checkAst node ≡ ok (checkedExpr node)
   pub stack : after ≡ checkedExpr node ∷ below
 
-pub push-ok : (made : Result Expr) (below after : List Expr) → push made below ≡ ok after → Pushed made below after
+pub push-ok : (made : Result Expr) (below after : List Expr) → push made below ≡ ok after → PushedNode made below after
 push-ok (refused n) below after h = absurd (let z : _≡_ {A = ℕ} 0 1 = cc in omega arith)
 push-ok (ok e) below after h = checked (checkAst e) refl h
   where
-    checked : (r : Result Expr) → checkAst e ≡ r → andThen r (λ x. ok (x ∷ below)) ≡ ok after → Pushed (ok e) below after
+    checked : (r : Result Expr) → checkAst e ≡ r → andThen r (λ x. ok (x ∷ below)) ≡ ok after → PushedNode (ok e) below after
     checked (refused n) p q = absurd (let z : _≡_ {A = ℕ} 0 1 = cc in omega arith)
     checked (ok x) p q =
         let same = checkAst-ok e x p in
@@ -74,32 +74,33 @@ push-ok (ok e) below after h = checked (checkAst e) refl h
 
 -- ## One record, where its operands are there
 
-pub leaf-ok : (l : Leaf) (s after : List Expr) → apply (leaf l) s ≡ ok after → Pushed (ok (leafExpr l)) s after
+pub leaf-ok : (l : Leaf) (s after : List Expr) → apply (leaf l) s ≡ ok after → PushedNode (ok (leafExpr l)) s after
 unfolding apply
 leaf-ok l s after h = push-ok (ok (leafExpr l)) s after h
 
-pub wrapper-ok : (w : Wrapper) (e : Expr) (below after : List Expr) → apply (wrapper w) (e ∷ below) ≡ ok after → Pushed (wrap w e) below after
+pub wrapper-ok : (w : Wrapper) (e : Expr) (below after : List Expr) → apply (wrapper w) (e ∷ below) ≡ ok after → PushedNode (wrap w e) below after
 unfolding apply
 wrapper-ok w e below after h = push-ok (wrap w e) below after h
 
 pub binary-ok : (c : ℕ) (m : Option BinModifier) (l r : Expr) (below after : List Expr) → apply (binary c m) (r ∷ l ∷ below) ≡ ok after
-    → Pushed (ok (Binary c m l r)) below after
+    → PushedNode (ok (Binary c m l r)) below after
 unfolding apply
 binary-ok c m l r below after h = push-ok (ok (Binary c m l r)) below after h
 
-pushCall-ok : (n : ℕ) (make : List Expr → Result Expr) (s after : List Expr) → pushCall n make s ≡ ok after → Pushed (make (operandsOf n s)) (drop n s) after
+pushCall-ok : (n : ℕ) (make : List Expr → Result Expr) (s after : List Expr) → pushCall n make s ≡ ok after
+    → PushedNode (make (operandsOf n s)) (drop n s) after
 pushCall-ok n make s after h = by (leb n (length s)) h
   where
-    by : (b : Bool) → pick b (push (make (operandsOf n s)) (drop n s)) (refused 2) ≡ ok after → Pushed (make (operandsOf n s)) (drop n s) after
+    by : (b : Bool) → pick b (push (make (operandsOf n s)) (drop n s)) (refused 2) ≡ ok after → PushedNode (make (operandsOf n s)) (drop n s) after
     by true k = push-ok (make (operandsOf n s)) (drop n s) after k
     by false k = absurd (let z : _≡_ {A = ℕ} 0 1 = cc in omega arith)
 
 pub aggregate-ok : (c : ℕ) (m : Option LabelModifier) (n : ℕ) (s after : List Expr) → apply (aggregate c m n) s ≡ ok after
-    → Pushed (newAggregate c m (operandsOf n s)) (drop n s) after
+    → PushedNode (newAggregate c m (operandsOf n s)) (drop n s) after
 unfolding apply
 aggregate-ok c m n s after h = pushCall-ok n (newAggregate c m) s after h
 
 pub call-ok : (f : Function) (n : ℕ) (s after : List Expr) → apply (call f n) s ≡ ok after
-    → Pushed (ok (Call f (argsOf (operandsOf n s)))) (drop n s) after
+    → PushedNode (ok (Call f (argsOf (operandsOf n s)))) (drop n s) after
 unfolding apply
 call-ok f n s after h = pushCall-ok n (λ es. ok (Call f (argsOf es))) s after h

@@ -42,7 +42,7 @@ equal-same (x ∷ xs) (y ∷ ys) t =
 places : List ℕ
 places = take 31 starts
 
-pub record Placed (i : ℕ) : Type 0 where
+pub record TokenPlaced (i : ℕ) : Type 0 where
   pub token : tokenAt i ≡ bytes (getD tokens i "")
   pub ordered : getD starts i 0 ≤ getD starts (i + 1) 0
   pub short : getD starts (i + 1) 0 - getD starts i 0 ≤ 12
@@ -52,7 +52,7 @@ same-place : (i : ℕ) → i < 31 → getD places i 0 ≡ getD starts i 0
 unfolding places
 same-place i h = getD-take 31 starts i 0 h
 
-pub placed : (i : ℕ) → i < 31 → Placed i
+pub placed : (i : ℕ) → i < 31 → TokenPlaced i
 unfolding spells ordered short inside places tokenAt
 placed i h =
     let e = same-place i h in

@@ -70,7 +70,8 @@ pub too-long-refused : {page starts firsts : List ℕ} → 8192 < length page �
 too-long-refused {page} {starts} {firsts} h s f = record { tables = tables-start page starts firsts s f; refuses = too-long page h }
 
 -- after a record that takes n operands and puts the operand x
-pub record Next (page starts₀ firsts₀ starts firsts tags : List ℕ) (values : List Float) (bases : List ℕ) (top at count n next : ℕ) (x : Operand) : Type 0 where
+pub record NextTurn (page starts₀ firsts₀ starts firsts tags : List ℕ) (values : List Float) (bases : List ℕ)
+    (top at count n next : ℕ) (x : Operand) : Type 0 where
   pub high : top + n ≤ 256
   pub low : 1 ≤ top + n
   pub walked-again : (end : ℕ) → Within page next end →
@@ -200,5 +201,5 @@ module _ {page starts₀ firsts₀ starts firsts tags : List ℕ} {values : List
               firsts-kept = kept-next firsts firsts₀ count (firstOf n count (drop top bases)) (held .firsts-kept);
             }
 
-          pub stepped : Next page starts₀ firsts₀ starts firsts tags values bases top at count n next x
+          pub stepped : NextTurn page starts₀ firsts₀ starts firsts tags values bases top at count n next x
           stepped = record { high = enough; low = room; walked-again = λ end w. rw add-one (walked-next end w) }

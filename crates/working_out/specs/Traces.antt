@@ -20,15 +20,15 @@ data End : Type 0 where
   left : List Kind → End
   ended : End
 
-record Row : Type 0 where
+record TraceRow : Type 0 where
   page : List ℕ
   marks : List Mark
   finish : End
 
-abbrev row : List ℕ → List Mark → End → Row
+abbrev row : List ℕ → List Mark → End → TraceRow
 row p m f = record { page = p; marks = m; finish = f }
 
-abbrev rows : List Row
+abbrev rows : List TraceRow
 rows =
     -- `limitk("a", up)`
     row (hex "010161 0202757000 0a1d0002") (fine ∷ fine ∷ asideForbidden ∷ []) (left (vector ∷ []))
@@ -126,7 +126,7 @@ finishes (left ks) endedThere = false
 finishes ended (leftValues vs) = false
 finishes ended endedThere = true
 
-abbrev holds : Row → Bool
+abbrev holds : TraceRow → Bool
 holds r =
     let worked : WorkedOut (Unit {0}) = workPage isSetAside (λ i. tt) (readPage (r .page)) in
     equalNumbers (map markNumber (r .marks)) (map stepNumber (worked .steps)) && finishes (r .finish) (worked .finish)

@@ -9,7 +9,7 @@ use Rattle.records.specs.Answers.{kindOf}
 use Rattle.walk.specs.Answers.{Accepts}
 use Rattle.copy.proofs.StartsLaws.{accepted-starts}
 use Rattle.page.proofs.NumberLaws.{known-bytes}
-use Rattle.copy.specs.Starts.{Starts}
+use Rattle.copy.specs.Starts.{PageStarts}
 use Rattle.copy.specs.Copy.{copyPage}
 use Rattle.calls.proofs.DoesLaws.{does-refused, does-short, does-write}
 use Rattle.calls.proofs.copy.Statement.{statement}
@@ -28,7 +28,7 @@ known c =
 starts-known : (c : tie.After-walked) →
     let at-walk = c .before .before .before .before in
     let at-start = at-walk .before .before .before .before .before in
-    Starts (now (at-start .args .page)) (at-walk .walk .last .1 .0) (c .walked .given .0 .1 .0)
+    PageStarts (now (at-start .args .page)) (at-walk .walk .last .1 .0) (c .walked .given .0 .1 .0)
 starts-known c =
     let at-shared-slice-known = c .before .before .before .before .before .before .before .before in
     let at-start = at-shared-slice-known .before in

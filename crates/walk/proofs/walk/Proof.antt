@@ -11,7 +11,8 @@ use native.Mathlib.Omega.{arith}
 use Rattle.rules.specs.Answers.{operandMeant}
 use Rattle.ast.specs.Operand.{operandKind}
 use Rattle.page.specs.Answers.{faultOf}
-use Rattle.walk.proofs.WalkedSoFar.{WalkedSoFar, Next, walked-start, too-long-refused, unfit, stepped, too-many}
+use Rattle.walk.proofs.WalkedSoFar.{WalkedSoFar, NextTurn, walked-start, too-long-refused, unfit, stepped}
+use Rattle.walk.proofs.WalkedSoFar.{too-many}
 use Rattle.walk.proofs.WalkedSoFar.{unreadable, ends-refused, ends-accepted}
 use borrow.Author.Needs.{needs}
 use Rattle.walk.proofs.walk.Statement.{statement}
@@ -46,7 +47,7 @@ step : (c : tie.After-bases Inv-loop μ-loop) →
     let at-item = at-operand-count .before .before in
     let at-loop = at-item .before .before .before .before .before in
     let at-start = at-loop .before .before .before .before .before in
-    Next (now (at-start .args .page)) (now (at-start .args .starts)) (now (at-start .args .firsts))
+    NextTurn (now (at-start .args .page)) (now (at-start .args .starts)) (now (at-start .args .firsts))
     (at-loop .loop .starts) (at-loop .loop .firsts) (at-loop .loop .tags) (at-loop .loop .values)
     (at-loop .loop .bases) (at-loop .loop .top) (at-loop .loop .at) (at-loop .loop .count)
     (at-operand-count .operand-count .result) (at-item .item .given .0 .1 .0)

@@ -5,12 +5,12 @@ use borrow.Author.Needs.{needs}
 use Prim.Native.Nat.{_-_}
 use native.Mathlib.Omega.{arith}
 use lib.ListN.{length}
-use Rattle.label.proofs.SortLaws.{Placing, place-start, next-key, place-on, place-here, place-last}
+use Rattle.label.proofs.SortLaws.{PlacingKey, place-start, next-key, place-on, place-here, place-last}
 use Rattle.label.proofs.sort.place.Statement.{statement}
 use Rattle.label.proofs.sort.place.Tie as tie
 
 abbrev Inv-loop : tie.InvT-loop
-Inv-loop page item order₀ at j₀ order j = Placing page item at order₀ order j
+Inv-loop page item order₀ at j₀ order j = PlacingKey page item at order₀ order j
 
 abbrev μ-loop : tie.MeasureT-loop
 μ-loop page item order₀ at j₀ order j = length order₀ - j

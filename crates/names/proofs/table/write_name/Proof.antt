@@ -8,7 +8,7 @@ use denote.Ref.{now}
 use borrow.Author.Needs.{needs}
 use lib.ListN.{length, take, drop}
 use Rattle.names.specs.Table.{nameAt}
-use Rattle.names.proofs.TableLaws.{Placed, table-starts, placed, length-between, nameAt-past}
+use Rattle.names.proofs.TableLaws.{NamePlaced, table-starts, placed, length-between, nameAt-past}
 use Rattle.names.proofs.WrittenLaws.{does-nothing, does-short, does-write}
 use Rattle.names.proofs.table.write_name.Statement.{statement}
 use Rattle.names.proofs.table.write_name.Tie as tie
@@ -20,7 +20,7 @@ name start = nameAt (now (start .args .letters)) (now (start .args .starts)) (st
 -- where both its ends are read: it lies within the letters, and is what stands there
 here : (c : tie.After-wide2) →
     let at-start = c .before .before .before .before .before .before .before .before in
-    Placed (now (at-start .args .letters)) (c .before .before .wide .result) (c .wide2 .result)
+    NamePlaced (now (at-start .args .letters)) (c .before .before .wide .result) (c .wide2 .result)
 here c =
     let at-first-if = c .before .before .before .before in
     let at-start = at-first-if .before .before .before .before in
