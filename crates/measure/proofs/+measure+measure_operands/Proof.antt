@@ -133,27 +133,33 @@ measure-rear-len-requires t c κs =
 
 measure-add-width : (t : ℕ) → measure-lts.Need-add-width (measure-claims t) (measure-at t) measure.Post
 measure-add-width t c =
+    let at-measure-operands = c .before .before .before in
+    let at-front-len = at-measure-operands .before .before .before .before in
     omega (
       arith,
-      c .before .before .before .before .before .before .before .front-len .ensures,
-      c .before .before .before .measure-operands .ensures .0 .bound,
+      at-front-len .front-len .ensures,
+      at-measure-operands .measure-operands .ensures .0 .bound,
     )
 
 measure-add-width-2 : (t : ℕ) → measure-lts.Need-add-width-2 (measure-claims t) (measure-at t) measure.Post
 measure-add-width-2 t c =
+    let at-measure-operands = c .before .before .before in
+    let at-front-len = at-measure-operands .before .before .before .before in
     omega (
       arith,
-      c .before .before .before .before .before .before .before .front-len .ensures,
-      c .before .before .before .measure-operands .ensures .0 .bound,
+      at-front-len .front-len .ensures,
+      at-measure-operands .measure-operands .ensures .0 .bound,
       c .rear-len .ensures,
     )
 
 measure-cast-widths : (t : ℕ) → measure-lts.Need-cast-widths (measure-claims t) (measure-at t) measure.Post
 measure-cast-widths t c =
+    let at-measure-operands = c .before .before .before in
+    let at-front-len = at-measure-operands .before .before .before .before in
     omega (
       arith,
-      c .before .before .before .before .before .before .before .front-len .ensures,
-      c .before .before .before .measure-operands .ensures .0 .bound,
+      at-front-len .front-len .ensures,
+      at-measure-operands .measure-operands .ensures .0 .bound,
       c .rear-len .ensures,
     )
 
@@ -324,8 +330,9 @@ measure-operands-returns-3 t c =
 measure-operands-add-result : (t : ℕ)
     → measure-operands-lts.Need-add-result (measure-operands-claims t) (measure-operands-at t) measure-operands.Post
 measure-operands-add-result t c =
+    let at-capped-add = c .before .before .before .before .before .before .before .before in
     omega
-    (arith, c .before .before .before .before .before .before .before .before .capped-add .ensures, c .if3 .left)
+    (arith, at-capped-add .capped-add .ensures, c .if3 .left)
 
 measure-operands-add-result-2 : (t : ℕ)
     → measure-operands-lts.Need-add-result-2 (measure-operands-claims t) (measure-operands-at t)

@@ -26,31 +26,31 @@ enum-told-5 c = search needs
 
 returns : tie.Need-returns
 returns c =
-    let at-start = c .before .before .before .before .before in
+    let at-start = c .before .before .before in
     λ page starts n. sym (ap (innerIndents (at-start .args .indents))
     (layout-shaped n (sym (c .enum-told .given .1) ∙ c .before .before .shape-of .ensures)))
 
 returns-2 : tie.Need-returns-2
 returns-2 c =
-    let at-start = c .before .before .before .before .before in
+    let at-start = c .before .before .before in
     λ page starts n. sym (ap (innerIndents (at-start .args .indents))
     (layout-shaped n (sym (c .enum-told2 .given .1) ∙ c .before .before .shape-of .ensures)))
 
 returns-3 : tie.Need-returns-3
 returns-3 c =
-    let at-start = c .before .before .before .before .before in
+    let at-start = c .before .before .before in
     λ page starts n. sym (ap (innerIndents (at-start .args .indents))
     (layout-shaped n (sym (c .enum-told3 .given .1) ∙ c .before .before .shape-of .ensures)))
 
 returns-4 : tie.Need-returns-4
 returns-4 c =
-    let at-start = c .before .before .before .before .before in
+    let at-start = c .before .before .before in
     λ page starts n. sym (ap (innerIndents (at-start .args .indents))
     (layout-shaped n (sym (c .enum-told4 .given .1) ∙ c .before .before .shape-of .ensures)))
 
 returns-5 : tie.Need-returns-5
 returns-5 c =
-    let at-start = c .before .before .before .before .before in
+    let at-start = c .before .before .before in
     λ page starts n. sym (ap (innerIndents (at-start .args .indents))
     (layout-shaped n (sym (c .enum-told5 .given .1) ∙ c .before .before .shape-of .ensures)))
 

@@ -34,7 +34,7 @@ add-result-2 c = search needs
 
 returns : tie.Need-returns
 returns c =
-    let at-start = c .before .before .before .before .before in (
+    let at-start = c .before .before .before in (
       λ page starts n. sym (ap (innerLevel (at-start .args .level))
           (layout-shaped n (sym (c .enum-told .given .1) ∙ c .before .before .shape-of .ensures))),
       omega arith,
@@ -42,7 +42,7 @@ returns c =
 
 returns-2 : tie.Need-returns-2
 returns-2 c =
-    let at-start = c .before .before .before .before .before in (
+    let at-start = c .before .before .before in (
       λ page starts n. sym (ap (innerLevel (at-start .args .level))
           (layout-shaped n (sym (c .enum-told2 .given .1) ∙ c .before .before .shape-of .ensures))),
       omega arith,
@@ -50,7 +50,7 @@ returns-2 c =
 
 returns-3 : tie.Need-returns-3
 returns-3 c =
-    let at-start = c .before .before .before .before .before in (
+    let at-start = c .before .before .before in (
       λ page starts n. sym (ap (innerLevel (at-start .args .level))
           (layout-shaped n (sym (c .enum-told3 .given .1) ∙ c .before .before .shape-of .ensures))),
       omega arith,
@@ -58,7 +58,7 @@ returns-3 c =
 
 returns-4 : tie.Need-returns-4
 returns-4 c =
-    let at-start = c .before .before .before .before .before in (
+    let at-start = c .before .before .before in (
       λ page starts n. add-one _ ∙ sym (ap (innerLevel (at-start .args .level))
           (layout-shaped n (sym (c .enum-told4 .given .1) ∙ c .before .before .shape-of .ensures))),
       omega arith,
@@ -66,7 +66,7 @@ returns-4 c =
 
 returns-5 : tie.Need-returns-5
 returns-5 c =
-    let at-start = c .before .before .before .before .before in (
+    let at-start = c .before .before .before in (
       λ page starts n. add-one _ ∙ sym (ap (innerLevel (at-start .args .level))
           (layout-shaped n (sym (c .enum-told5 .given .1) ∙ c .before .before .shape-of .ensures))),
       omega arith,

@@ -207,23 +207,25 @@ split-len-rear-at-len-requires t c κs =
 
 split-len-add-result : (t : ℕ) → split-len-lts.Need-add-result (split-len-claims t) (split-len-at t) split-len.Post
 split-len-add-result t c =
+    let at-front-at-len = c .before .before .before .before .before .before in
+    let at-start = at-front-at-len .before .before .before .before .before .before .before .before .before in
     omega (
       arith,
-      c .before .before .before .before .before .before .front-at-len .ensures,
+      at-front-at-len .front-at-len .ensures,
       c .before .split-operands-len .ensures .bound,
-      c .before .before .before .before .before .before .before .before .before .before .before .before .before
-          .before .before .fits,
+      at-start .fits,
     )
 
 split-len-add-result-2 : (t : ℕ) → split-len-lts.Need-add-result-2 (split-len-claims t) (split-len-at t) split-len.Post
 split-len-add-result-2 t c =
+    let at-front-at-len = c .before .before .before .before .before .before in
+    let at-start = at-front-at-len .before .before .before .before .before .before .before .before .before in
     omega (
       arith,
-      c .before .before .before .before .before .before .front-at-len .ensures,
+      at-front-at-len .front-at-len .ensures,
       c .before .split-operands-len .ensures .bound,
       c .rear-at-len .ensures,
-      c .before .before .before .before .before .before .before .before .before .before .before .before .before
-          .before .before .fits,
+      at-start .fits,
     )
 
 split-len-returns-3 : (t : ℕ) → split-len-lts.Need-returns-3 (split-len-claims t) (split-len-at t) split-len.Post
