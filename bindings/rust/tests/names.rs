@@ -118,11 +118,11 @@ fn header_archive_and_binding_have_one_version() {
 }
 
 #[test]
-fn codes_have_the_definitions_words_in_order() {
-    let words = CODES.split_once("words =\n").expect("the list of words").1;
-    let words = words.split_once("[]").expect("its end").0;
-    let words: Vec<_> = words.split('"').skip(1).step_by(2).collect();
-    assert_eq!(words, Code::ALL.map(Code::word));
+fn codes_have_the_definitions_tokens_in_order() {
+    let tokens = CODES.split_once("tokens =\n").expect("the list of tokens").1;
+    let tokens = tokens.split_once("[]").expect("its end").0;
+    let tokens: Vec<_> = tokens.split('"').skip(1).step_by(2).collect();
+    assert_eq!(tokens, Code::ALL.map(Code::word));
     for (code, number) in Code::ALL.into_iter().zip(1..) {
         assert_eq!(code.number(), number);
         assert_eq!(Code::of_number(number), Some(code));
