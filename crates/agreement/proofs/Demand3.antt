@@ -1,5 +1,6 @@
--- Demand 3 as two theorems, for every byte string, every type of contents and every sequence of contents: the words of the demand stand
--- above each, and each hypothesis and conclusion is one line. Both are read off `kindsRightWith` and `workPage-left`. Assumes nothing.
+-- Demand 3 as two theorems, for every byte string, every type of contents and every sequence of contents: the words of
+-- the demand stand above each, and each hypothesis and conclusion is one line. Both are read off `kindsRightWith` and
+-- `workPage-left`. Assumes nothing.
 use Prim.Native.Nat.{ℕ}
 use mathlib.Core.Path.{_≡_, refl, subst}
 use mathlib.Core.List.{List, [], _∷_}
@@ -39,9 +40,9 @@ module _ {C : Type 0} (contents : ℕ → C) (page : List ℕ) where
   outcome-right : (outcome : Outcome) → check page ≡ outcome → KindsRightWith isSetAside kindRefusals contents page outcome
   outcome-right outcome e = subst (λ (o : Outcome). KindsRightWith isSetAside kindRefusals contents page o) e (kindsRightWith contents page)
 
-  -- "Where check accepts a page in which no call falls under the exp or logarithm literal exception and each limitk or limit_ratio has
-  -- a scalar first argument, the working-out runs to the page's end, no record meets an operand kind that the documented operators
-  -- or carried signatures forbid, and exactly one value is left, of the reported kind."
+  -- "Where check accepts a page in which no call falls under the exp or logarithm literal exception and each limitk or
+  -- limit_ratio has a scalar first argument, the working-out runs to the page's end, no record meets an operand kind
+  -- that the documented operators or carried signatures forbid, and exactly one value is left, of the reported kind."
   pub check-accepted : (kind : Kind) (written : ℕ) → check page ≡ answer kind written
       → T (nothingSetAside (workOut contents page .steps))
       → RunsToEnd (readPage page) (workOut contents page)
@@ -52,8 +53,8 @@ module _ {C : Type 0} (contents : ℕ → C) (page : List ℕ) where
       let one = one-left kind (workOut contents page .finish) (clean .1) in
       (workPage-left isSetAside contents (readPage page) (one .0 ∷ []) (one .1), clean .0, one)
 
-  -- "Where check refuses a page for kinds, and the same two things are true of the records before the one named, that record is the
-  -- first that meets one."
+  -- "Where check refuses a page for kinds, and the same two things are true of the records before the one named, that
+  -- record is the first that meets one."
   pub check-refusedForKinds : (number named : ℕ) → check page ≡ refusal number named
       → T (any (eqb number) kindRefusals)
       → T (nothingSetAside (take named (workOut contents page .steps)))

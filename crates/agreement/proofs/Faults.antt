@@ -1,4 +1,4 @@
--- The faults of the check (`CheckAst`) against what the documents ask (`WorkingOut`), node by node, in terms of kinds.
+-- The faults of the check (`CheckAst`) against what the documents ask (`WorkingOut`), tree by tree, in terms of kinds.
 use Prim.Native.Nat.{ℕ, suc, _+_, _-_, min}
 use mathlib.Core.Path.{_≡_, refl, sym, ap, ap₂, _∙_, subst}
 use mathlib.Core.Bool.{Bool, true, false, _&&_, _||_, not}
@@ -29,7 +29,8 @@ use Rattle.agreement.proofs.Codes.{isPlain, isCounting, isScaled, isLim
 abbrev pub isKindRefusal : ℕ → Bool
 isKindRefusal n = any (eqb n) kindRefusals
 
--- no fault: a record not set aside is in place and its operands are as asked. A kind refusal: it is in place, and they are not
+-- no fault: a record not set aside is in place and its operands are as asked. A kind refusal: it is in place, and they
+-- are not
 abbrev pub Claimed : Bool → Bool → Bool → Option ℕ → Type 0
 Claimed ordinary inPlace allowed none = T ordinary → T inPlace × T allowed
 Claimed ordinary inPlace allowed (some n) = T (isKindRefusal n) → T inPlace × T (not allowed)

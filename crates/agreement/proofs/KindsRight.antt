@@ -1,5 +1,6 @@
--- Demand 3: the check's outcome of any page says what `Demand3.KindsRightWith` asks. By induction on the records: the kinds and bare
--- numbers of the working-out's stack are those of the checker's (`right`), record by record (`Operands.node`). Assumes nothing.
+-- Demand 3: the check's outcome of any page says what `Demand3.KindsRightWith` asks. By induction on the records: the
+-- kinds and bare numbers of the working-out's stack are those of the checker's (`right`), record by record
+-- (`Trees.record-claim`). Assumes nothing.
 use Prim.Native.Nat.{ℕ, suc, _+_, _≤_, min}
 use mathlib.Core.Path.{_≡_, refl, sym, ap, ap₂, _∙_, subst}
 use mathlib.Core.Bool.{Bool, true, false, not, true≢false, false≢true}
@@ -27,8 +28,8 @@ use Rattle.working_out.specs.Demand3.{kindRefusals, nothingSetAside, allAsAsked
 use Rattle.agreement.proofs.Bools.{both, either-left}
 use Rattle.agreement.proofs.Lists.{all-drop, all-operandsOf}
 use Rattle.agreement.proofs.Faults.{isKindRefusal}
-use Rattle.agreement.proofs.OperandOf.{operandOf, apply-operands, isFormed, NodeClaim}
-use Rattle.agreement.proofs.Operands.{operand}
+use Rattle.agreement.proofs.TreeOf.{treeOf, apply-operands, isFormed, TreeClaim}
+use Rattle.agreement.proofs.Trees.{record-claim}
 
 abbrev pushed : List Expr → Result Expr → Result (List Expr)
 pushed below r = andThen r (λ e. ok (e ∷ below))
@@ -71,7 +72,7 @@ module _ {C : Type 0} where
 
   step : (x : Ending) (count i : ℕ) (aside p a : Bool) (k : Kind) (l : Option Literal) (w : WorkedOut C)
       (below : List Expr) (rs : List Record) (r : Result Expr)
-      → NodeClaim (not aside) p a k l r
+      → TreeClaim (not aside) p a k l r
       → ((e : Expr) → k ≡ valueType e → l ≡ scalarValue e → T (isFormed e) → Claim (suc i) w (finished x count (walk apply (suc i) (e ∷ below) rs)))
       → Claim i (stepOf p aside a w) (finished x count (proceed i (pushed below r) (λ s. walk apply (suc i) s rs)))
   step x count i aside true a k l w below rs (refused n) c f = λ kind. (0, sym (zero-add i), λ g. (tt, either-left (not a) false (c kind .1)))
@@ -124,12 +125,12 @@ module _ {C : Type 0} (contents : ℕ → C) where
       (finished x count (proceed i s (λ s. walk apply (suc i) s rs)))) (sym (apply-operands r stack))
       (tested x count i (leb (operands r) (length stack)) (leb (operands r) (length vs)) (ap (leb (operands r)) lengths)
       (stepOf (isInPlace r) aside asked rest)
-      (pushed (drop (operands r) stack) (operandOf r (operandsOf (operands r) stack)))
+      (pushed (drop (operands r) stack) (treeOf r (operandsOf (operands r) stack)))
       (λ s. walk apply (suc i) s rs)
       (λ enough.
       step x count i aside (isInPlace r) asked
       (kindGiven r (operandsOf (operands r) (kinds vs))) (bareNumber r (operandsOf (operands r) bare)) rest
-      (drop (operands r) stack) rs (operandOf r (operandsOf (operands r) stack)) (seen enough)
+      (drop (operands r) stack) rs (treeOf r (operandsOf (operands r) stack)) (seen enough)
       (λ e k b g.
       right x count rs (suc i) (e ∷ drop (operands r) stack) (putBack isSetAside contents i r vs) (putBare r bare)
       (ap₂ {C = List Kind} (λ x xs. x ∷ xs) k below-kinds)
@@ -160,15 +161,15 @@ module _ {C : Type 0} (contents : ℕ → C) where
       below-bare : drop (operands r) bare ≡ map scalarValue (drop (operands r) stack)
       below-bare = ap (drop (operands r)) q₂ ∙ sym (map-drop scalarValue (operands r) stack)
 
-      LaidOut : List Kind → List (Option Literal) → Type 0
-      LaidOut k b = NodeClaim (not (isSetAside r k b)) (isInPlace r) (areAsAsked r k) (kindGiven r k)
-          (bareNumber r b) (operandOf r (operandsOf (operands r) stack))
+      Sees : List Kind → List (Option Literal) → Type 0
+      Sees k b = TreeClaim (not (isSetAside r k b)) (isInPlace r) (areAsAsked r k) (kindGiven r k)
+          (bareNumber r b) (treeOf r (operandsOf (operands r) stack))
 
-      seen : T (leb (operands r) (length stack)) → LaidOut (operandsOf (operands r) (kinds vs)) (operandsOf (operands r) bare)
+      seen : T (leb (operands r) (length stack)) → Sees (operandsOf (operands r) (kinds vs)) (operandsOf (operands r) bare)
       seen enough =
-          subst (λ k. LaidOut k (operandsOf (operands r) bare)) (sym ks)
-          (subst (λ b. LaidOut (map valueType (operandsOf (operands r) stack)) b) (sym bs)
-          (operand r (operandsOf (operands r) stack) (operands-length (operands r) stack enough) (all-operandsOf isFormed (operands r) stack h)))
+          subst (λ k. Sees k (operandsOf (operands r) bare)) (sym ks)
+          (subst (λ b. Sees (map valueType (operandsOf (operands r) stack)) b) (sym bs)
+          (record-claim r (operandsOf (operands r) stack) (operands-length (operands r) stack enough) (all-operandsOf isFormed (operands r) stack h)))
 
 -- ## Demand 3
 

@@ -1,5 +1,5 @@
--- A working-out that leaves values has run to the page's end: the page could be read to its end, and each record is a step. So "runs to the
--- page's end" of demand 3 is what `left` says. By induction on the records. Assumes nothing.
+-- A working-out that leaves values has run to the page's end: the page could be read to its end, and each record is a
+-- step. So "runs to the page's end" of demand 3 is what `left` says. By induction on the records. Assumes nothing.
 use Prim.Native.Nat.{ℕ, suc}
 use mathlib.Core.Path.{_≡_, refl, ap}
 use mathlib.Core.Bool.{Bool, true, false}

@@ -1,5 +1,5 @@
--- A claim on what the constructors of range, @ and offset make: it holds where it holds of each of their refusals and of the node
--- that they make. And a claim on the operands that have @ and offset, one case for each. Assumes nothing.
+-- A claim on what the constructors of range, @ and offset make: it holds where it holds of each of their refusals and
+-- of the tree that they make. And a claim on the trees that have @ and offset, one case for each. Assumes nothing.
 use Prim.Native.Nat.{ℕ}
 use mathlib.Core.Path.{_≡_, refl, subst}
 use mathlib.Core.Option.{Option, none, some, Option·none-ne-some, Option·some-injective}

@@ -1,5 +1,6 @@
--- A page that the check refuses with 19 has its label at the part that `labelPart` answers: the record named is a binary record with a label
--- in both lists (`apply-refuses`), and `readJoint` at that record finds the first one, with its place (`readJoint-written`). Assumes nothing.
+-- A page that the check refuses with 19 has its label at the part that `labelPart` answers: the record named is a
+-- binary record with a label in both lists (`apply-refuses`), and `readJoint` at that record finds the first one, with
+-- its place (`readJoint-written`). Assumes nothing.
 use Prim.Native.Nat.{ℕ, _+_, _-_, _≤_}
 use mathlib.Core.Path.{_≡_, refl, sym, ap, ap₂, _∙_, subst}
 use mathlib.Core.Bool.{Bool, true, false, not}
@@ -87,7 +88,8 @@ group-apart : (c : Cardinality) (earlier : Labels) (label : Text) (more : Labels
 group-apart c earlier label more e =
     head-labels c ∙ ap (λ (s : List ℕ). writeGroupHead c ++ s) (ap (writeAll writeText) e ∙ writeAll-append earlier (label ∷ more))
 
--- the fields of a binary record and what stands after it, and those before and after a label of its group, one after the other
+-- the fields of a binary record and what stands after it, and those before and after a label of its group, one after
+-- the other
 fields-apart : (kind code mark bool matching card left right rest : List ℕ)
     → (kind ++ code) ++ (mark ++ (bool ++ matching ++ card ++ left ++ right)) ++ rest
     ≡ kind ++ (code ++ (mark ++ (bool ++ (matching ++ (card ++ (left ++ (right ++ rest)))))))
@@ -195,7 +197,8 @@ module _ (page : List ℕ) (bytes : T (all isByte page)) (i : ℕ) where
   record-found (aggregate c m n) later e h = absurd h
   record-found (call f n) later e h = absurd h
 
-  -- a page refused with 19: the part is the first group label of the record named that is also in its on list, where it stands in the group list
+  -- a page refused with 19: the part is the first group label of the record named that is also in its on list, where it
+  -- stands in the group list
   pub labelPart-joint : check page ≡ refusal 19 i → HoldsJointLabel page i (labelPart page (check page))
   labelPart-joint e =
       let n = check-named page i e in

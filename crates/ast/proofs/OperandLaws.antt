@@ -1,6 +1,7 @@
--- Constructors and `check_ast` depend on trees through their operands alone: the judgement of a record on the operands of a stack is the operand
--- of what `apply` puts there. Each record is a case on the operand's tree. @ and offset have the check of a selector or a subquery run
--- again, so the trees on the stack have passed it (`Sound`); their numbers are exact, so that tests on floats are those on literals.
+-- Constructors and `check_ast` depend on trees through their operands alone: the judgement of a record on the operands
+-- of a stack is the operand of what `apply` puts there. Each record is a case on the operand's tree. @ and offset have
+-- the check of a selector or a subquery run again, so the trees on the stack have passed it (`Sound`); their numbers
+-- are exact, so that tests on floats are those on literals.
 use Prim.Native.Nat.{ℕ}
 use mathlib.Core.Path.{_≡_, refl, sym, ap, ap₂, _∙_}
 use mathlib.Core.Bool.{Bool, true, false}

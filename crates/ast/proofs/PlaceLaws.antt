@@ -1,5 +1,6 @@
--- `readJoint` on a binary record as it is written: it finds the record's own group labels, each with its place (`readJoint-written`), and
--- the first of them that is also in the on list (`first-shared`). By reading back what was written, field by field. Assumes nothing.
+-- `readJoint` on a binary record as it is written: it finds the record's own group labels, each with its place
+-- (`readJoint-written`), and the first of them that is also in the on list (`first-shared`). By reading back what was
+-- written, field by field. Assumes nothing.
 use Prim.Native.Nat.{ℕ}
 use mathlib.Core.Path.{_≡_, refl, ap, _∙_}
 use mathlib.Core.Bool.{Bool, true, false, _||_, not}

@@ -1,5 +1,5 @@
--- The bytes of record k of a page: what stands there is the record as it is written, after the records before it (`readPage-at`). By the
--- laws of one record, on what each leaves. Assumes nothing.
+-- The bytes of record k of a page: what stands there is the record as it is written, after the records before it
+-- (`readPage-at`). By the laws of one record, on what each leaves. Assumes nothing.
 use Prim.Native.Nat.{ℕ, zero, suc}
 use mathlib.Core.Path.{_≡_, refl, sym, ap, _∙_, subst}
 use mathlib.Core.Bool.{Bool, true, false}

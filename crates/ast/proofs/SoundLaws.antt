@@ -1,5 +1,5 @@
--- Trees that can stand on the stack: their own check has passed, and their numbers are exact. Every record keeps this, one case for
--- each constructor of a tree.
+-- Trees that can stand on the stack: their own check has passed, and their numbers are exact. Every record keeps this,
+-- one case for each constructor of a tree.
 use Prim.Native.Nat.{ℕ, zero, suc}
 use mathlib.Core.Path.{_≡_, refl}
 use mathlib.Core.Bool.{Bool, true, false}
@@ -132,7 +132,7 @@ unary-exact (Call f es) h = tt
 range-exact : (n : ℕ) (e : Expr) → MadeExact (newMatrixSelector n e)
 range-exact n e = newMatrixSelector-by MadeExact n e tt tt tt (λ s t q. tt)
 
--- a node with other @ and offset is no number
+-- a tree with other @ and offset is no number
 withTimes-exact : (u : Times) (e : Expr) (t : Times) → timesOf e ≡ some t → HasExact (withTimes u e)
 withTimes-exact u = timesOf-by (λ e t. HasExact (withTimes u e)) (λ e r s t. tt) (λ s t. tt) (λ s t r. tt)
 

@@ -1,5 +1,6 @@
--- The refusal table on operands: what a record makes of its operands. Constructors (refusals 6 to 15) and checks (16 to 34)
--- of one record stand together; the rows are those of `CheckAst`. That this is what the trees do is proved in proofs/OperandLaws.
+-- The refusal table on operands: what a record makes of its operands. Constructors (refusals 6 to 15) and checks (16 to
+-- 34) of one record stand together; the rows are those of `CheckAst`. That this is what the trees do is proved in
+-- proofs/OperandLaws.
 use Prim.Native.Nat.{ℕ}
 use mathlib.Core.Bool.{Bool, true, false, _&&_, _||_, not}
 use mathlib.Core.List.{List, [], _∷_, _++_, map}
@@ -58,7 +59,8 @@ abbrev pub setMark : ℕ → Bool → Operand → Result Operand
 setMark n true x = refused n
 setMark n false x = ok x
 
--- @ set on an operand, or else offset: the first refusal where it is set already, the second on an operand that has none
+-- @ set on an operand, or else offset: the first refusal where it is set already, the second on an operand that has
+-- none
 abbrev pub judgeMark : Bool → ℕ → ℕ → Operand → Result Operand
 judgeMark isAt twice without (numberOperand x) = refused without
 judgeMark isAt twice without stringOperand = refused without
@@ -93,7 +95,8 @@ judgeWrapper paren x = ok (otherOperand (operandKind x))
 abbrev pub judgeBinary : ℕ → Option BinModifier → Kind → Kind → Result Operand
 judgeBinary c m l r = put (binaryRows c m l r) (otherOperand (binaryKind l r))
 
--- `new_aggregate_expr` (14, 15), then `check_ast_for_aggregate_expr` (24, 25). The first argument says whether the code has a parameter
+-- `new_aggregate_expr` (14, 15), then `check_ast_for_aggregate_expr` (24, 25). The first argument says whether the code
+-- has a parameter
 abbrev pub judgeArguments : Bool → ℕ → List Kind → Result Operand
 judgeArguments has c [] = refused 14
 judgeArguments true c (p ∷ []) = refused 15

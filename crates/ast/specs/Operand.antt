@@ -1,5 +1,6 @@
--- Operands: what later records can ask of the expressions on the stack. A number has its value, as the 64-bit float that the code computes with; a
--- selector, a range and a subquery have marks that @ and offset are set; of any other tree the kind is enough.
+-- Operands: what later records can ask of the expressions on the stack. A number has its value, as the 64-bit float
+-- that the code computes with; a selector, a range and a subquery say whether @ and whether offset is set; of any other
+-- tree the kind is enough.
 use mathlib.Core.Bool.{Bool, true, false}
 use mathlib.Core.Option.{Option, none, some}
 use lib.Ieee.{Float}

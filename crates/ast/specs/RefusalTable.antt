@@ -1,5 +1,6 @@
--- Document 01's table of refusals, row by row: what it refuses, its example, and where the definition of the row stands. The check gives
--- each example that number at that record, by one computed test. (5 needs a buffer: outcomes/specs/Examples.)
+-- Document 01's table of refusals, row by row: what it refuses, its example, and where the definition of the row
+-- stands. The check gives each example that number at that record, by one computed test. (5 needs a buffer:
+-- outcomes/specs/Examples.)
 use Prim.Native.Nat.{ℕ}
 use mathlib.Core.Bool.{Bool, false, _&&_, _||_}
 use mathlib.Core.List.{List, [], _∷_, _++_}

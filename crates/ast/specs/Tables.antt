@@ -1,6 +1,6 @@
--- What the walk over a page leaves in two tables for the calls that write: where each record starts, and which record is the first
--- of the expression that it ends. The operands of a record are then found without a stack: the last one ends at the record before it,
--- and the one before that ends right before the first record of the last one.
+-- What the walk over a page leaves in two tables for the calls that write: where each record starts, and which record
+-- is the first of the expression that it ends. The operands of a record are then found without a stack: the last one
+-- ends at the record before it, and the one before that ends right before the first record of the last one.
 use Prim.Native.Nat.{ℕ, suc, _≤_, _<_}
 use mathlib.Core.Path.{_≡_}
 use mathlib.Core.List.{List, [], _∷_}
@@ -31,7 +31,8 @@ newest (e ∷ es) = e
 unfoldable pub treeAt : List ℕ → ℕ → Expr
 treeAt page i = newest (stackAt page (suc i))
 
--- entry i of the tables: record i stands at `start`, and its operands go down to the stack after the first `first` records
+-- entry i of the tables: record i stands at `start`, and its operands go down to the stack after the first `first`
+-- records
 pub record Entry (page : List ℕ) (start first i : ℕ) : Type 0 where
   pub stands : drop start page ≡ fromRecord i page
   pub item : Record

@@ -2,7 +2,8 @@
 --     Writing o o′ at text rest pos     a run of writers on the way to text: rest is left to be written at pos
 --     Cut left a rest                   what is left is a, then rest
 --     Run o o′ at text pieces pos       the same, with the pieces that are left; `start`, `fits`, `next`, `end`
--- `begin`, `step` and `finish` take a run from its start to its end, and `room` says that the next piece fits. Assumes nothing.
+-- `begin`, `step` and `finish` take a run from its start to its end, and `room` says that the next piece fits. Assumes
+-- nothing.
 use Prim.Native.Nat.{ℕ, _+_, _≤_, _<_}
 use native.Mathlib.Nat.{add-zero, zero-add, add-assoc}
 use native.Mathlib.Numerals.{add-one}

@@ -1,4 +1,5 @@
--- The three ends of a call that writes, for any text of the tree: refused by the check, too short a buffer, written. Assumes nothing.
+-- The three ends of a call that writes, for any text of the tree: refused by the check, too short a buffer, written.
+-- Assumes nothing.
 use Prim.Native.Nat.{ℕ}
 use mathlib.Core.Path.{_≡_, refl, ap, _∙_}
 use mathlib.Core.Bool.{true, false}

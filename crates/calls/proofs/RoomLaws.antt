@@ -1,5 +1,5 @@
--- What a call that writes a text asks: an accepted page has a record, and the length, measured up to one byte more than the room, says
--- whether the text fits. And 65,536 bytes hold every canonical text. Assumes nothing.
+-- What a call that writes a text asks: an accepted page has a record, and the length, measured up to one byte more than
+-- the room, says whether the text fits. And 65,536 bytes hold every canonical text. Assumes nothing.
 use Prim.Native.Nat.{ℕ, suc, _+_, _-_, _≤_, _<_, min}
 use mathlib.Core.Path.{_≡_, refl, ap, subst, _∙_}
 use mathlib.Core.Bool.{true, false}

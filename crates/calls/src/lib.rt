@@ -1,4 +1,5 @@
-// The calls that write into a lent buffer. The length is known before a byte is written: a refusal leaves the buffer as it was.
+// The calls that write into a lent buffer. The length is known before a byte is written: a refusal leaves the buffer as
+// it was.
 use measure::widths_of;
 use rules::Refusal;
 use split::prettify_len;

@@ -1,4 +1,5 @@
--- Whether a text has room: by the bound of `text.proofs.RoomLaws`, or by its length, measured up to one byte more than the room. Assumes nothing.
+-- Whether a text has room: by the bound of `text.proofs.RoomLaws`, or by its length, measured up to one byte more than
+-- the room. Assumes nothing.
 use Prim.Native.Nat.{ℕ, _+_, _*_, _≤_, min}
 use mathlib.Core.Path.{_≡_, sym, _∙_}
 use mathlib.Core.Bool.{true}

@@ -1,4 +1,5 @@
-// Whether a canonical text has room. No text is longer than 4 bytes a byte of its page and 128 a record: where that fits, nothing is measured.
+// Whether a canonical text has room. No text is longer than 4 bytes a byte of its page and 128 a record: where that
+// fits, nothing is measured.
 use crate::text_len;
 ghost use mathlib.Core.Path.{_≡_};
 ghost use Prim.Native.Nat.{suc};

@@ -1,5 +1,5 @@
-// Canonical text (ast.rs, `Display`): each node's text is put together from its operands' texts, by functions over record
-// positions that fall. What a node writes of its own is written by functions that do not recurse.
+// Canonical text (ast.rs, `Display`): each node's text is put together from its operands' texts, by functions over
+// record positions that fall. What a node writes of its own is written by functions that do not recurse.
 pub mod fits;
 pub mod own;
 
@@ -56,8 +56,8 @@ pub fn text_len(
     front + inner + rear
 }
 
-// The length of the texts of the newest expressions after the first `end` records, `count` of them, with so many bytes between each
-// two, or `cap` where it is more. `numberless` is said of the last one.
+// The length of the texts of the newest expressions after the first `end` records, `count` of them, with so many bytes
+// between each two, or `cap` where it is more. `numberless` is said of the last one.
 fn operands_len(
     page: &[u8],
     starts: &[u16],
@@ -123,8 +123,8 @@ pub fn write_text(
     put_rear(page, starts, node, out, others)
 }
 
-// Writes the texts of the newest expressions after the first `end` records, `count` of them, with what the node writes between each
-// two. `numberless` is said of the last one.
+// Writes the texts of the newest expressions after the first `end` records, `count` of them, with what the node writes
+// between each two. `numberless` is said of the last one.
 fn write_operands(
     page: &[u8],
     starts: &[u16],

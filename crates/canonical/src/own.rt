@@ -1,4 +1,5 @@
-// What a node writes of its own, by its shape: before its operands' texts, between each two and after them. Lengths are capped.
+// What a node writes of its own, by its shape: before its operands' texts, between each two and after them. Lengths are
+// capped.
 use pieces::head_len;
 use pieces::operator_len;
 use pieces::put_head;

@@ -1,5 +1,6 @@
--- The copy of an accepted page is a page again where it is short enough: it is read as the records of the copy, it is accepted with the same
--- tree, and it is its own copy. The walk over the copy's records goes through the same stacks. Assumes nothing.
+-- The copy of an accepted page is a page again where it is short enough: it is read as the records of the copy, it is
+-- accepted with the same tree, and it is its own copy. The walk over the copy's records goes through the same stacks.
+-- Assumes nothing.
 use Prim.Native.Nat.{ℕ, suc, _≤_}
 use mathlib.Core.Path.{_≡_, refl, sym, ap, ap₂, _∙_, subst}
 use mathlib.Core.Bool.{Bool, true, false}

@@ -1,5 +1,5 @@
--- The records of a copy: they are allowed where those of the page are, no more of them than of the page, and copied to themselves. The set
--- operator's change and the negated number are each done once. Assumes nothing.
+-- The records of a copy: they are allowed where those of the page are, no more of them than of the page, and copied to
+-- themselves. The set operator's change and the negated number are each done once. Assumes nothing.
 use Prim.Native.Nat.{ℕ, suc, _≤_}
 use mathlib.Core.Path.{_≡_, refl, ap, ap₂}
 use mathlib.Core.Bool.{Bool, true, false}

@@ -1,5 +1,5 @@
--- No copy has more than 8,827 bytes: a record grows by at most 5 bytes, and only a binary one; a binary record takes an operand more than it
--- puts back, so of at most 256 records at most 127 are binary. Assumes nothing.
+-- No copy has more than 8,827 bytes: a record grows by at most 5 bytes, and only a binary one; a binary record takes an
+-- operand more than it puts back, so of at most 256 records at most 127 are binary. Assumes nothing.
 use Prim.Native.Nat.{ℕ, suc, _+_, _*_, _≤_}
 use mathlib.Core.Path.{_≡_, refl, ap, _∙_}
 use mathlib.Core.Bool.{Bool, true, false}

@@ -1,5 +1,5 @@
--- Binary records as they are written: the code is one byte, then the modifier; of a set operator's modifier that is present the form of
--- its cardinality alone changes. Assumes nothing.
+-- Binary records as they are written: the code is one byte, then the modifier; of a set operator's modifier that is
+-- present the form of its cardinality alone changes. Assumes nothing.
 use Prim.Native.Nat.{ℕ}
 use mathlib.Core.Path.{_≡_, refl, ap, _∙_}
 use mathlib.Core.Bool.{Bool, true, false}

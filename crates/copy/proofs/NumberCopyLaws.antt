@@ -1,4 +1,5 @@
--- A number in the copy: its second byte is its form, which each unary record after it negates, and the rest of it stays. Assumes nothing.
+-- A number in the copy: its second byte is its form, which each unary record after it negates, and the rest of it
+-- stays. Assumes nothing.
 use Prim.Native.Nat.{ℕ, suc, _+_, _-_, _≤_}
 use mathlib.Core.Path.{_≡_, refl, sym, ap, _∙_}
 use mathlib.Core.Bool.{Bool, true, false}

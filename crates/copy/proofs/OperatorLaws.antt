@@ -1,5 +1,5 @@
--- The copy of a binary record as parts of the page: a set operator's absent modifier is written out, and of one that is present
--- the form of its cardinality alone changes. It stands where the matching has been read. Assumes nothing.
+-- The copy of a binary record as parts of the page: a set operator's absent modifier is written out, and of one that is
+-- present the form of its cardinality alone changes. It stands where the matching has been read. Assumes nothing.
 use Prim.Native.Nat.{ℕ, _+_, _-_, _≤_, _<_}
 use mathlib.Core.Path.{_≡_, refl, sym, ap, ap₂, _∙_, subst}
 use mathlib.Core.Bool.{Bool, true, false}

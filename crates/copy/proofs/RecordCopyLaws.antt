@@ -1,5 +1,5 @@
--- The copy is its records' copies, one after the other. A unary record is the byte 7 and the byte 7 is a unary record, so the records that a
--- number takes in are counted in bytes. Assumes nothing.
+-- The copy is its records' copies, one after the other. A unary record is the byte 7 and the byte 7 is a unary record,
+-- so the records that a number takes in are counted in bytes. Assumes nothing.
 use Prim.Native.Nat.{ℕ, zero, suc}
 use mathlib.Core.Path.{_≡_, refl, sym, ap, _∙_, subst}
 use mathlib.Core.Bool.{Bool, true, false}

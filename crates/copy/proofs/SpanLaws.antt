@@ -1,5 +1,5 @@
--- A record's copy as parts of the page: a record that reaches from `start` to `next` is the page's bytes between them. Its first byte
--- is its kind; a number's second byte is its form, and the rest of it stays. Assumes nothing.
+-- A record's copy as parts of the page: a record that reaches from `start` to `next` is the page's bytes between them.
+-- Its first byte is its kind; a number's second byte is its form, and the rest of it stays. Assumes nothing.
 use Prim.Native.Nat.{ℕ, suc, _+_, _-_, _≤_, _<_, zero-le}
 use mathlib.Core.Path.{_≡_, refl, sym, ap, _∙_, subst}
 use mathlib.Core.Bool.{Bool, true, false}

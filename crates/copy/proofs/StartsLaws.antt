@@ -1,5 +1,5 @@
--- The records of a readable page by their starts: the copy from one record on is that record's copy, then the copy from the next
--- record that it does not take in. Assumes nothing.
+-- The records of a readable page by their starts: the copy from one record on is that record's copy, then the copy from
+-- the next record that it does not take in. Assumes nothing.
 use Prim.Native.Nat.{ℕ, zero, suc, _+_, _-_, _≤_, _<_}
 use mathlib.Core.Path.{_≡_, refl, sym, ap, _∙_, subst}
 use mathlib.Core.Bool.{Bool, true, false}

@@ -1,5 +1,6 @@
--- Pages and their copies, by one computed test: what the copy changes, and what it leaves (document 01, 'Checking': "Accepted set operators:
--- absent modifier or one-to-one becomes many-to-many", "a negated number in place of number and unary. All else is copied in order").
+-- Pages and their copies, by one computed test: what the copy changes, and what it leaves (document 01, 'Checking':
+-- "Accepted set operators: absent modifier or one-to-one becomes many-to-many", "a negated number in place of number
+-- and unary. All else is copied in order").
 use Prim.Native.Nat.{ℕ}
 use mathlib.Core.List.{List, [], _∷_, _++_}
 use lib.Dec.{T}

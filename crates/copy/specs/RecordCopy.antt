@@ -1,5 +1,6 @@
--- The copy record by record, as the code makes it: what the record at the front of some bytes becomes, and how many records of the
--- page that takes. `Copy.antt` defines the copy; that it is these one after the other is proved in proofs/RecordCopyLaws.
+-- The copy record by record, as the code makes it: what the record at the front of some bytes becomes, and how many
+-- records of the page that takes. `Copy.antt` defines the copy; that it is these one after the other is proved in
+-- proofs/RecordCopyLaws.
 use Prim.Native.Nat.{ℕ, zero, suc}
 use mathlib.Core.List.{List, [], _∷_}
 use lib.Dec.{eqb}
@@ -21,7 +22,8 @@ abbrev pub negated : ℕ → Literal → Literal
 negated zero l = l
 negated (suc k) l = negated k (negate l)
 
--- a record with these bytes after it: a number takes the unary records there in, a set operator has its changed modifier
+-- a record with these bytes after it: a number takes the unary records there in, a set operator has its changed
+-- modifier
 abbrev pub copiedLeaf : Leaf → List ℕ → Leaf
 copiedLeaf (number l) rest = number (negated (unaries rest) l)
 copiedLeaf (string t) rest = string t
@@ -64,7 +66,8 @@ absorbedOf s = absorbedRead (readRecord s)
 
 -- ## In bytes
 
--- the form of the negated number (document 01, 'The page', kind 0): 0 whole and 1 negative whole, 3 Inf and 4 -Inf; NaN stays
+-- the form of the negated number (document 01, 'The page', kind 0): 0 whole and 1 negative whole, 3 Inf and 4 -Inf; NaN
+-- stays
 abbrev pub negatedForm : ℕ → ℕ
 negatedForm f = pick (eqb f 0) 1 (pick (eqb f 1) 0 (pick (eqb f 3) 4 (pick (eqb f 4) 3 f)))
 

@@ -1,4 +1,5 @@
-// A binary record in the copy: a set operator (`and`, `or`, `unless`) whose modifier is absent or one-to-one becomes many-to-many.
+// A binary record in the copy: a set operator (`and`, `or`, `unless`) whose modifier is absent or one-to-one becomes
+// many-to-many.
 use page::put_byte;
 use page::put_bytes;
 use rules::code::is_set_operator;

@@ -1,4 +1,5 @@
-// The whole copy, from record to record by their starts: whether it fits, tested before a byte is written, and its bytes.
+// The whole copy, from record to record by their starts: whether it fits, tested before a byte is written, and its
+// bytes.
 use crate::record::absorbed_by;
 use crate::record::put_record;
 use crate::record::record_len;

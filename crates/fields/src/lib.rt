@@ -1,4 +1,5 @@
-// What a node's text shows of its records, read where they stand: the fields of the record at its foot, and what is attached above it.
+// What a node's text shows of its records, read where they stand: the fields of the record at its foot, and what is
+// attached above it.
 pub mod attached;
 
 pub use attached::Attached;

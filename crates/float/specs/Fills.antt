@@ -1,5 +1,5 @@
--- The two fill numbers as 64-bit floats (document 01, 'The forms we use': a struct with left and right f64 and presence marks; ast.rs,
--- `VectorMatchFillValues`).
+-- The two fill numbers as 64-bit floats (document 01, 'The forms we use': a struct with left and right f64 and presence
+-- marks; ast.rs, `VectorMatchFillValues`).
 use mathlib.Core.Bool.{Bool, true, false, _&&_}
 use mathlib.Core.Option.{Option, none, some}
 use lib.Ieee as Ieee

@@ -1,4 +1,5 @@
-// Literals as 64-bit floats (document 01, 'Checking'): the float of exactly that value, its tests, and the two fills held together.
+// Literals as 64-bit floats (document 01, 'Checking'): the float of exactly that value, its tests, and the two fills
+// held together.
 use records::Fill;
 use records::Literal;
 ghost use mathlib.Core.Path.{_≡_};

@@ -1,4 +1,5 @@
--- Modifiers, operators, aggregators and selectors in the pieces that are written, and their lengths up to a cap. Assumes nothing.
+-- Modifiers, operators, aggregators and selectors in the pieces that are written, and their lengths up to a cap.
+-- Assumes nothing.
 use Prim.Native.Nat.{ℕ, _+_, min}
 use native.Mathlib.Omega.{arith}
 use mathlib.Core.Bool.{true, false}

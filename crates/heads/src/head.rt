@@ -1,4 +1,5 @@
-// Operators with their modifier (ast.rs, `get_op_matching_string`) and aggregators with their grouping (`get_op_string`).
+// Operators with their modifier (ast.rs, `get_op_matching_string`) and aggregators with their grouping
+// (`get_op_string`).
 use float::FillValues;
 use float::fill_values;
 use leaves::capped_add;

@@ -1,5 +1,5 @@
-// What a node longer than a line writes of its own, by its shape: before its operands' texts, between each two and after them, with
-// line feeds and two spaces a level. Lengths are capped.
+// What a node longer than a line writes of its own, by its shape: before its operands' texts, between each two and
+// after them, with line feeds and two spaces a level. Lengths are capped.
 use pieces::head_len;
 use pieces::operator_len;
 use pieces::put_head;

@@ -1,5 +1,5 @@
-// Blocks of standard input and the numbers in front of them, for programs that read kept pages. What is read no contract can say: only
-// where it is put.
+// Blocks of standard input and the numbers in front of them, for programs that read kept pages. What is read no
+// contract can say: only where it is put.
 ghost use Prim.Native.Nat.{_<_};
 ghost use mathlib.Core.Path.{_≡_};
 ghost use mathlib.Core.List.{[], _∷_};
@@ -19,7 +19,8 @@ pub fn number_of(a: u8, b: u8, c: u8, d: u8) -> u64
     wide(a) + 256 * wide(b) + 65536 * wide(c) + 16777216 * wide(d)
 }
 
-// A block of so many bytes; the end of the input, before a block begins; or no block: the input ends inside it, or it is larger than the buffer.
+// A block of so many bytes; the end of the input, before a block begins; or no block: the input ends inside it, or it
+// is larger than the buffer.
 pub enum Block {
     Got(usize),
     End,

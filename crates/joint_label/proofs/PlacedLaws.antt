@@ -1,5 +1,6 @@
--- The part of the first group label that is also in the on list: where the bytes from it on begin (`part-from`), and the same of a list that
--- was read. Labels placed are read from the same bytes as labels (`repeat-placed`). Assumes nothing.
+-- The part of the first group label that is also in the on list: where the bytes from it on begin (`part-from`), and
+-- the same of a list that was read. Labels placed are read from the same bytes as labels (`repeat-placed`). Assumes
+-- nothing.
 use Prim.Native.Nat.{ℕ, zero, suc, _-_, _≤_, _<_}
 use mathlib.Core.Path.{_≡_, refl, sym, ap, _∙_}
 use mathlib.Core.Bool.{Bool, true, false}

@@ -1,4 +1,5 @@
--- What the answers of this crate mean: a part of the page by its ends is the definition's part by its start and its size.
+-- What the answers of this crate mean: a part of the page by its ends is the definition's part by its start and its
+-- size.
 use Prim.Native.Nat.{ℕ, _-_}
 use mathlib.Core.List.{List, [], _∷_}
 use mathlib.Core.Path.{_≡_}

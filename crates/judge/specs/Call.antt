@@ -20,7 +20,8 @@ findingMeant (Fault r) = some (refusalNumber r)
 abbrev pub boundedFault : ℕ → ℕ → ℕ → Option ℕ
 boundedFault least extra count = firstFault (when (ltb count least) 27 ∷ when (ltb (least + extra) count) 28 ∷ [])
 
--- the kind declared for the next argument, and the kinds declared from there on: the last one repeats (`check_args_match_types`)
+-- the kind declared for the next argument, and the kinds declared from there on: the last one repeats
+-- (`check_args_match_types`)
 pub data Next : Type 0 where
   undeclared : Next
   next : spec.Kind → List spec.Kind → Next

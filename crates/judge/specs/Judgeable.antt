@@ -1,4 +1,5 @@
--- What a judge of records may take for granted of the record: its texts lie on the page, its number is exact, its operands are there.
+-- What a judge of records may take for granted of the record: its texts lie on the page, its number is exact, its
+-- operands are there.
 use Prim.Native.Nat.{ℕ, _+_, _≤_}
 use mathlib.Core.List.{List}
 use Rattle.records.specs.Record as spec

@@ -1,5 +1,5 @@
-// The literal exception (ast.rs, `check_ast_for_call`): exp of NaN or an infinity, a logarithm also of a value at or below 0. Names are
-// compared exactly, and only a bare number counts.
+// The literal exception (ast.rs, `check_ast_for_call`): exp of NaN or an infinity, a logarithm also of a value at or
+// below 0. Names are compared exactly, and only a bare number counts.
 use float::at_or_below_zero;
 use float::is_infinite;
 use float::is_nan;

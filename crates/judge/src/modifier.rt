@@ -1,4 +1,5 @@
-// Modifiers of binary expressions, as the check asks of them (ast.rs, `is_matching_on`, `is_labels_joint`, `is_matching_labels_not_empty`).
+// Modifiers of binary expressions, as the check asks of them (ast.rs, `is_matching_on`, `is_labels_joint`,
+// `is_matching_labels_not_empty`).
 use crate::label::has_joint;
 use crate::label::has_labels;
 use records::Cardinality;

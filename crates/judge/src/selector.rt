@@ -1,4 +1,5 @@
-// Selectors (ast.rs, `check_ast_for_vector_selector`): refusals 33 and 34. The matchers' facts were taken when they were read.
+// Selectors (ast.rs, `check_ast_for_vector_selector`): refusals 33 and 34. The matchers' facts were taken when they
+// were read.
 use reader::Selector;
 use rules::Operand;
 use rules::Refusal;

@@ -1,4 +1,5 @@
--- Keys of matchers: the parts printed are the matcher's, and the keys collected are those of the matchers read. Assumes nothing.
+-- Keys of matchers: the parts printed are the matcher's, and the keys collected are those of the matchers read. Assumes
+-- nothing.
 use Prim.Native.Nat.{ℕ, _+_, _-_, _≤_, _<_}
 use native.Mathlib.Numerals.{add-one}
 use native.Mathlib.Omega.{arith}

@@ -1,5 +1,5 @@
--- How long the texts of labels and matchers can be: with what separates them at most four bytes for each byte that they have on the page,
--- where a text has its length before it. Assumes nothing.
+-- How long the texts of labels and matchers can be: with what separates them at most four bytes for each byte that they
+-- have on the page, where a text has its length before it. Assumes nothing.
 use Prim.Native.Nat.{_+_, _*_, _≤_}
 use native.Mathlib.Omega.{arith}
 use mathlib.Core.Bool.{Bool, true, false}

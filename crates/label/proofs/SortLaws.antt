@@ -1,4 +1,5 @@
--- Putting keys in order: `insert` of texts and `placed` of keys keep step, so `sort` is met with no law of the order. Assumes nothing.
+-- Putting keys in order: `insert` of texts and `placed` of keys keep step, so `sort` is met with no law of the order.
+-- Assumes nothing.
 use Prim.Native.Nat.{ℕ, zero, suc, _+_, _-_, _≤_, _<_}
 use native.Mathlib.Nat.{le-of-suc-le-suc, not-suc-le-zero}
 use native.Mathlib.Numerals.{add-one}

@@ -1,4 +1,5 @@
--- Quoted texts as symbols: the order of the texts is the order of their symbols. No symbol's bytes begin another's. Assumes nothing.
+-- Quoted texts as symbols: the order of the texts is the order of their symbols. No symbol's bytes begin another's.
+-- Assumes nothing.
 use Prim.Native.Nat.{ℕ, zero, suc, _+_, _-_, _*_, _/_, _%_, _≤_, _<_}
 use native.Mathlib.Nat.{le-of-suc-le-suc, not-suc-le-zero}
 use native.Mathlib.Omega.{arith}

@@ -12,7 +12,8 @@ use Rattle.records.specs.Matcher.{Matcher}
 use Rattle.label.specs.Label.{displayMatcher, sort}
 use Rattle.label.specs.Symbols.{matcherText}
 
--- lowest first: 1 bit for a bare name, 2 for the operator, 8 for the value's size, 15 for its start, 8 for the name's size, then its start
+-- lowest first: 1 bit for a bare name, 2 for the operator, 8 for the value's size, 15 for its start, 8 for the name's
+-- size, then its start
 unfoldable pub unpacked : ℕ → Printed
 unpacked k =
     let valueStart = k / 2 / 4 / 256 % 32768 in

@@ -1,5 +1,6 @@
-// Labels, quoted where they fail `is_label`, and lists of them joined by `, ` (label/mod.rs, `Display` of `Labels`).
-// A list stays on the page: where its first label starts and how many there are. All can be read, so that no byte is tested again.
+// Labels, quoted where they fail `is_label`, and lists of them joined by `, ` (label/mod.rs, `Display` of `Labels`). A
+// list stays on the page: where its first label starts and how many there are. All can be read, so that no byte is
+// tested again.
 use leaves::capped_add;
 use leaves::put_quoted;
 use leaves::quoted_len;

@@ -1,5 +1,6 @@
-// The matchers of a selector (label/matcher.rs, `Display` of `Matchers`): their texts sorted as bytes, with a comma between each two.
-// The list stays on the page: where its first matcher starts and how many there are. All can be read, so that no byte is tested again.
+// The matchers of a selector (label/matcher.rs, `Display` of `Matchers`): their texts sorted as bytes, with a comma
+// between each two. The list stays on the page: where its first matcher starts and how many there are. All can be read,
+// so that no byte is tested again.
 use crate::key::Printed;
 use crate::key::pack;
 use crate::key::unpack;

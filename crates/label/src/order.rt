@@ -1,5 +1,6 @@
-// The order of two matchers' texts, with neither text stored: they are compared symbol by symbol, where a symbol is a byte that stands
-// for itself or a backslash with its letter. A larger symbol has larger bytes, and no symbol's bytes begin another's.
+// The order of two matchers' texts, with neither text stored: they are compared symbol by symbol, where a symbol is a
+// byte that stands for itself or a backslash with its letter. A larger symbol has larger bytes, and no symbol's bytes
+// begin another's.
 use leaves::escape_letter;
 ghost use mathlib.Core.Path.{_≡_};
 ghost use Prim.Native.Nat.{_+_, _≤_, _<_};
@@ -99,7 +100,8 @@ fn matcher_symbol(name: &[u8], bare: bool, op: u8, value: &[u8], j: usize) -> us
     quoted_symbol(value, k - o)
 }
 
-// Whether the first matcher's text comes no later than the second's; `bare1` and `bare2` say whether the names are labels.
+// Whether the first matcher's text comes no later than the second's; `bare1` and `bare2` say whether the names are
+// labels.
 pub fn matcher_at_most(
     name1: &[u8],
     bare1: bool,

@@ -1,4 +1,5 @@
-// Keys put in the order of their texts by the definition's own insertion sort: from the last key on, each is put among those after it.
+// Keys put in the order of their texts by the definition's own insertion sort: from the last key on, each is put among
+// those after it.
 use crate::key::key_at_most;
 ghost use mathlib.Core.Path.{_≡_};
 ghost use mathlib.Core.List.{_++_};

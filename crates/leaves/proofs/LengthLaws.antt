@@ -1,5 +1,6 @@
--- How long the texts of a page's values can be: quoted texts, numbers, durations, @ times and offsets. A number on a page is at most
--- 2^53, so it has at most 16 digits, and of a duration after its days each rest is below its unit. Assumes nothing.
+-- How long the texts of a page's values can be: quoted texts, numbers, durations, @ times and offsets. A number on a
+-- page is at most 2^53, so it has at most 16 digits, and of a duration after its days each rest is below its unit.
+-- Assumes nothing.
 use Prim.Native.Nat.{ℕ, zero, suc, _+_, _-_, _*_, _/_, _^_, _≤_, _<_}
 use Prim.Native.String.{String}
 use native.Mathlib.Omega.{arith}

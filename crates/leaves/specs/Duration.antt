@@ -1,5 +1,6 @@
--- Durations (duration.rs, `display_duration`): seven counts, years down to milliseconds. The units are those of Prometheus 3.5,
--- 'Querying basics', 'Float literals and time durations': "1w equals 7d", "1y equals 365d (ignoring leap days)".
+-- Durations (duration.rs, `display_duration`): seven counts, years down to milliseconds. The units are those of
+-- Prometheus 3.5, 'Querying basics', 'Float literals and time durations': "1w equals 7d", "1y equals 365d (ignoring
+-- leap days)".
 use Prim.Native.Nat.{ℕ, zero, suc, _*_, _-_, _/_, _%_}
 use Prim.Native.String.{String}
 use mathlib.Core.Bool.{Bool, true, false, _&&_, not}

@@ -1,4 +1,5 @@
-// Texts of number literals and fills (ast.rs, `NumberLiteral`; Rust's `Display` of an f64): digits, `NaN`, and the word for infinity.
+// Texts of number literals and fills (ast.rs, `NumberLiteral`; Rust's `Display` of an f64): digits, `NaN`, and the word
+// for infinity.
 use crate::decimal::decimal_len;
 use crate::decimal::put_decimal;
 use page::put_byte;

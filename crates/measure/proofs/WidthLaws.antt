@@ -1,5 +1,5 @@
--- A width is a length up to 101, so that a length up to any smaller cap is that of the width; and a table stays right when a right width is
--- put into it. Assumes nothing.
+-- A width is a length up to 101, so that a length up to any smaller cap is that of the width; and a table stays right
+-- when a right width is put into it. Assumes nothing.
 use Prim.Native.Nat.{ℕ, zero, suc, _+_, _≤_, _<_, min}
 use mathlib.Core.Path.{_≡_, refl, sym, _∙_}
 use mathlib.Core.List.{List}

@@ -1,5 +1,5 @@
--- A table of how wide the nodes of a page are: the lengths of their texts up to 101, one byte more than a line has (parser/mod.rs,
--- `MAX_CHARACTERS_PER_LINE`); 0 where a node was not measured.
+-- A table of how wide the nodes of a page are: the lengths of their texts up to 101, one byte more than a line has
+-- (parser/mod.rs, `MAX_CHARACTERS_PER_LINE`); 0 where a node was not measured.
 use Prim.Native.Nat.{ℕ, min}
 use mathlib.Core.Path.{_≡_}
 use mathlib.Core.List.{List}

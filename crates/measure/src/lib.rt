@@ -1,5 +1,5 @@
-// How wide the nodes of a page are: the lengths of their texts up to one byte more than a line, measured once for every node, each
-// from its operands' lengths, and kept in a table.
+// How wide the nodes of a page are: the lengths of their texts up to one byte more than a line, measured once for every
+// node, each from its operands' lengths, and kept in a table.
 use canonical::own::between_len;
 use canonical::own::front_len;
 use canonical::own::rear_len;
@@ -75,8 +75,8 @@ fn room_after(cap: usize, bytes: usize) -> usize
     cap - bytes
 }
 
-// Measures the newest expressions after the first `end` records, `count` of them, and returns the length of their texts with so many
-// bytes between each two, or `cap` where it is more. `numberless` is said of the last one.
+// Measures the newest expressions after the first `end` records, `count` of them, and returns the length of their texts
+// with so many bytes between each two, or `cap` where it is more. `numberless` is said of the last one.
 fn measure_operands(
     page: &[u8],
     starts: &[u16],

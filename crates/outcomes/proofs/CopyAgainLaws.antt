@@ -1,5 +1,5 @@
--- The bytes that `copy` reports, taken as a page: they are the copy, they are accepted with the same kind, and they are their own copy. By the
--- laws of crate `copy` on what the buffer holds. Assumes nothing.
+-- The bytes that `copy` reports, taken as a page: they are the copy, they are accepted with the same kind, and they are
+-- their own copy. By the laws of crate `copy` on what the buffer holds. Assumes nothing.
 use Prim.Native.Nat.{ℕ, _≤_}
 use mathlib.Core.Path.{_≡_, refl, sym, ap, _∙_, subst}
 use mathlib.Core.Bool.{Bool, true, false}

@@ -1,4 +1,5 @@
--- The calls on a page that write (document 01, 'Outcomes of a page'): what each answers, and what the lent buffer holds afterwards.
+-- The calls on a page that write (document 01, 'Outcomes of a page'): what each answers, and what the lent buffer holds
+-- afterwards.
 use Prim.Native.Nat.{ℕ}
 use mathlib.Core.Path.{_≡_}
 use mathlib.Core.List.{List, _++_}
@@ -22,7 +23,8 @@ pub record Called : Type 0 where
 abbrev pub tooShort : ℕ
 tooShort = 5
 
--- a text written to the start of a buffer: the bytes after it stay. 5 where it does not fit, and then nothing is written
+-- a text written to the start of a buffer: the bytes after it stay. 5 where it does not fit, and then nothing is
+-- written
 abbrev pub written : Kind → ℕ → List ℕ → List ℕ → Called
 written k records text buffer =
     pick (leb (length text) (length buffer))

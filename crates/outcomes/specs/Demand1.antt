@@ -1,5 +1,5 @@
--- The client's demand 1, as laws of the calls (proved in proofs/CallsLaws): what a call does to the lent buffer, and which outcomes
--- it can have.
+-- The client's demand 1, as laws of the calls (proved in proofs/CallsLaws): what a call does to the lent buffer, and
+-- which outcomes it can have.
 use Prim.Native.Nat.{ℕ, _≤_}
 use mathlib.Core.Path.{_≡_}
 use mathlib.Core.List.{List}
@@ -14,7 +14,8 @@ abbrev pub Keeps : List ℕ → Outcome → List ℕ → Type 0
 Keeps before (refusal n i) after = after ≡ before
 Keeps before (answer k n) after = (length after ≡ length before) × (n ≤ length before) × (drop n after ≡ drop n before)
 
--- the outcome of check, and that of another call on the same page: the same kind or the same refusal, but for 5 of an accepted page
+-- the outcome of check, and that of another call on the same page: the same kind or the same refusal, but for 5 of an
+-- accepted page
 abbrev pub Agrees : Outcome → Outcome → Type 0
 Agrees (answer k n) (answer j m) = k ≡ j
 Agrees (answer k n) (refusal m i) = m ≡ tooShort

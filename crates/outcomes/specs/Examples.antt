@@ -1,4 +1,5 @@
--- Document 01's starred bench examples, proved together by one computed test. (A program runs the others against the Rust.)
+-- Document 01's starred bench examples, proved together by one computed test. (A program runs the others against the
+-- Rust.)
 use Prim.Native.Nat.{ℕ}
 use Prim.Native.String.{String}
 use mathlib.Core.Bool.{Bool, false, _&&_}
@@ -23,7 +24,8 @@ use Rattle.records.specs.Outcome.{Outcome, answer, refusal}
 use Rattle.outcomes.specs.Calls.{Called, copy, canonicalText, splitText}
 use Rattle.outcomes.specs.Output.{programOutput}
 
--- what a page gives: its kind, its canonical text and its copy; or a refusal's number and record, and the program's output
+-- what a page gives: its kind, its canonical text and its copy; or a refusal's number and record, and the program's
+-- output
 data Expected : Type 0 where
   gives : Kind → String → List ℕ → Expected
   refuses : ℕ → ℕ → String → Expected

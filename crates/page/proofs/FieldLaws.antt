@@ -1,5 +1,5 @@
--- Numbers a byte at a time, as `read_up_to` goes: a byte with its high bit set stands before the number of the groups after it, which
--- is at most 1/128 of the limit. Then choices of forms. Assumes nothing.
+-- Numbers a byte at a time, as `read_up_to` goes: a byte with its high bit set stands before the number of the groups
+-- after it, which is at most 1/128 of the limit. Then choices of forms. Assumes nothing.
 use Prim.Native.Nat.{ℕ, zero, suc, _+_, _*_, _-_, _/_, _≤_, _<_}
 use mathlib.Core.Path.{_≡_, refl, sym, ap, _∙_}
 use mathlib.Core.Bool.{Bool, true, false}

@@ -1,5 +1,6 @@
--- Reading after writing, for any reader and its writer: bytes that were written are read as the value that was written, whatever follows
--- them (`ReadsAs`), and a reader gives allowed values only (`Gives`). Both are closed under sequences, choices of forms and lists.
+-- Reading after writing, for any reader and its writer: bytes that were written are read as the value that was written,
+-- whatever follows them (`ReadsAs`), and a reader gives allowed values only (`Gives`). Both are closed under sequences,
+-- choices of forms and lists.
 use Prim.Native.Nat.{ℕ, zero, suc, _≤_}
 use mathlib.Core.Path.{_≡_, refl, sym, ap, ap₂, _∙_, subst}
 use mathlib.Core.Bool.{Bool, true, false}

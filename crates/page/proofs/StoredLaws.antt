@@ -1,5 +1,5 @@
--- What can be read, and so need not be tested again: the fields in front of a field can be read, a text is as long as its number says, and a
--- choice is a byte. Each law refutes the other outcomes of the reader. Assumes nothing.
+-- What can be read, and so need not be tested again: the fields in front of a field can be read, a text is as long as
+-- its number says, and a choice is a byte. Each law refutes the other outcomes of the reader. Assumes nothing.
 use Prim.Native.Nat.{ℕ, _+_, _-_, _≤_, _<_}
 use mathlib.Core.Path.{_≡_, refl, sym, ap, _∙_}
 use mathlib.Core.Bool.{Bool, true, false}

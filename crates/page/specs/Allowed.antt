@@ -1,5 +1,5 @@
--- What document 01 allows in a field ('The page', 'Highest values'): a value so allowed is read back as it was written, and no reader
--- gives another (proofs/ReadBackLaws).
+-- What document 01 allows in a field ('The page', 'Highest values'): a value so allowed is read back as it was written,
+-- and no reader gives another (proofs/ReadBackLaws).
 use Prim.Native.Nat.{ℕ, _≤_}
 use mathlib.Core.Bool.{Bool}
 use mathlib.Core.List.{List, [], _∷_}

@@ -1,4 +1,5 @@
-// The fields of a page (document 01, 'The page', house format): numbers, counts and texts, read at a position; bytes written into a buffer.
+// The fields of a page (document 01, 'The page', house format): numbers, counts and texts, read at a position; bytes
+// written into a buffer.
 pub mod fault;
 pub mod limit;
 pub mod list;

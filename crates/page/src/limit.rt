@@ -1,4 +1,5 @@
-// The highest values of a page (document 01, 'Highest values'), as in specs/Limits, and the sizes that the printers go by.
+// The highest values of a page (document 01, 'Highest values'), as in specs/Limits, and the sizes that the printers go
+// by.
 
 // Bytes of a page (document 01, 'Highest values').
 pub const PAGE_LIMIT: usize = 8192;

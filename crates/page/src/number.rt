@@ -1,4 +1,5 @@
-// Numbers: groups of seven bits, lowest first, the high bit of each byte set except the last; shortest form, at most 2^53.
+// Numbers: groups of seven bits, lowest first, the high bit of each byte set except the last; shortest form, at most
+// 2^53.
 use crate::fault::Fault;
 use crate::limit::COUNT_LIMIT;
 use crate::limit::NUMBER_LIMIT;
@@ -15,8 +16,8 @@ pub enum Number {
     Bad,
 }
 
-// The number at a position, if it is at most `limit`. The groups after the first make a number of at most `limit / 128`, so the
-// calls are no deeper than the limit has groups.
+// The number at a position, if it is at most `limit`. The groups after the first make a number of at most `limit /
+// 128`, so the calls are no deeper than the limit has groups.
 pub fn read_up_to(page: &[u8], at: usize, limit: u64) -> Number
     ensures reads { λ r. ⌜ numberAt (now (page .entry)) r ≡ readUpTo limit (drop at (now (page .entry))) ⌝ }
     ensures lies { λ r. ⌜ numberEnd r ≤ length (now (page .entry)) ⌝ }

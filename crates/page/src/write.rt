@@ -1,4 +1,5 @@
-// Writers of bytes into a lent buffer. Each takes a position with room after it and answers the position after what it wrote.
+// Writers of bytes into a lent buffer. Each takes a position with room after it and answers the position after what it
+// wrote.
 ghost use mathlib.Core.List.{[], _∷_};
 ghost use Prim.Native.Nat.{_+_, _≤_};
 ghost use lib.ListN.{length};

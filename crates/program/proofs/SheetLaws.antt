@@ -1,6 +1,6 @@
--- The program's output, from what `split` did to the first 65,536 bytes of a buffer with a byte more. The buffer's own bytes do not
--- matter to the line; what `split` keeps (demand 1) makes its text the first piece of a run, and leaves the buffer to the words of a
--- refusal. Assumes nothing.
+-- The program's output, from what `split` did to the first 65,536 bytes of a buffer with a byte more. The buffer's own
+-- bytes do not matter to the line; what `split` keeps (demand 1) makes its text the first piece of a run, and leaves
+-- the buffer to the words of a refusal. Assumes nothing.
 use Prim.Native.Nat.{ℕ, _+_, _≤_, _<_}
 use native.Mathlib.Nat.{zero-add}
 use native.Mathlib.Omega.{arith}

@@ -48,8 +48,8 @@ pub record SelectorRead (page : List ℕ) (s : Selector) : Type 0 where
   pub facts : ListFacts (matchersOn page (s .matchers .start) (s .matchers .count)) (s .named) (s .empty)
   pub stored : AllRead matcher.readMatcher (s .matchers .count) (drop (s .matchers .start) page)
 
--- a record's own texts lie on the page: a string, a selector's name, a function's name (with the count of its kinds); its labels and matchers
--- can all be read again
+-- a record's own texts lie on the page: a string, a selector's name, a function's name (with the count of its kinds);
+-- its labels and matchers can all be read again
 abbrev pub TextsLie : List ℕ → Record → Type 0
 TextsLie page (code.Number l) = Unit {0}
 TextsLie page (code.String s) = Lies page s

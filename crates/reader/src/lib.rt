@@ -31,8 +31,8 @@ ghost use Rattle.page.specs.Answers.{numberAt};
 ghost use Rattle.records.specs.Record.{operands, readCode, recordForms, readRecord};
 ghost use Rattle.reader.specs.Answers.{recordOn, recordAt, recordLies};
 
-// A selector: its name, a part without bytes where there is none, its matchers, and what the check asks of them: whether one is
-// named `__name__`, and whether all accept empty text.
+// A selector: its name, a part without bytes where there is none, its matchers, and what the check asks of them:
+// whether one is named `__name__`, and whether all accept empty text.
 pub struct Selector {
     pub name: page::Span,
     pub matchers: page::List,

@@ -1,5 +1,5 @@
--- Laws of lists as numbers (specs/Numbers): where a text stands, by the bytes that are left after it; a list, an element at a time.
--- Assumes nothing.
+-- Laws of lists as numbers (specs/Numbers): where a text stands, by the bytes that are left after it; a list, an
+-- element at a time. Assumes nothing.
 use Prim.Native.Nat.{ℕ, _-_, _≤_, _<_}
 use native.Mathlib.Omega.{arith}
 use mathlib.Core.List.{List, [], _∷_, _++_}

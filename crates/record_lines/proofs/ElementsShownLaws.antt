@@ -1,5 +1,5 @@
--- Of a record that was read no element is left out: the numbers of labels, matchers and kinds (specs/Numbers) are read exactly where
--- `readAnyText`, `readMatcher` and `readKind` read, and leave the same bytes. Assumes nothing.
+-- Of a record that was read no element is left out: the numbers of labels, matchers and kinds (specs/Numbers) are read
+-- exactly where `readAnyText`, `readMatcher` and `readKind` read, and leave the same bytes. Assumes nothing.
 use Prim.Native.Nat.{ℕ, zero, suc, _-_, _≤_, _<_}
 use native.Mathlib.Omega.{arith}
 use mathlib.Core.Bool.{Bool}

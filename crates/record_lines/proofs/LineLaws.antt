@@ -1,5 +1,5 @@
--- Laws of a line (specs/Line): texts that are put one after the other are put as one list, and so are numbers; where all texts fit, the line
--- is the texts as they stand. Assumes nothing.
+-- Laws of a line (specs/Line): texts that are put one after the other are put as one list, and so are numbers; where
+-- all texts fit, the line is the texts as they stand. Assumes nothing.
 use Prim.Native.Nat.{ℕ, _+_, _≤_, _<_}
 use native.Mathlib.Nat.{add-zero, add-assoc}
 use native.Mathlib.Omega.{arith}
@@ -47,7 +47,8 @@ putAll-room (t ∷ ts) a at h =
     ∙ putAll-room ts (splice a at t) (at + length t) (omega arith)
     ∙ rw (splice-splice a at t (join ts) (omega arith), all, add-assoc at (length t) (length (join ts)))
 
--- where the line has room for all its texts, it is these as they stand, all else is as it was, and the position is the one after them
+-- where the line has room for all its texts, it is these as they stand, all else is as it was, and the position is the
+-- one after them
 pub puts-wrote : {a b : List ℕ} {at n : ℕ} {ts : List (List ℕ)} → Puts a at ts b n → at + length (join ts) ≤ length a → Wrote a b at (join ts) n
 puts-wrote {a} {b} {at} {n} {ts} p h =
     let e : lineAt b n ≡ lineAt (splice a at (join ts)) (at + length (join ts)) = sym (p .is) ∙ putAll-room ts a at h in

@@ -1,5 +1,5 @@
--- A record of each of the twelve kinds and its line, as the oracle prints it of the same page (`oracle show`), proved together by one computed
--- test; and lines that the contract rules out.
+-- A record of each of the twelve kinds and its line, as the oracle prints it of the same page (`oracle show`), proved
+-- together by one computed test; and lines that the contract rules out.
 use Prim.Native.Nat.{ℕ}
 use Prim.Native.String.{String}
 use mathlib.Core.Bool.{Bool, true, false, _&&_}

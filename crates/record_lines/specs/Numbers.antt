@@ -1,5 +1,6 @@
--- What stands in a record as numbers, in the order of the page (oracle/src/show.rs; in words at the head of the program show_records): a text
--- is its start and its size, a list its count and its elements, a flag 0 or 1, a choice the number of its form and the fields of that form.
+-- What stands in a record as numbers, in the order of the page (oracle/src/show.rs; in words at the head of the program
+-- show_records): a text is its start and its size, a list its count and its elements, a flag 0 or 1, a choice the
+-- number of its form and the fields of that form.
 use Prim.Native.Nat.{ℕ, _-_}
 use mathlib.Core.Bool.{Bool, true, false}
 use mathlib.Core.List.{List, [], _∷_, _++_}
@@ -61,8 +62,8 @@ fillNumbers (fill.Some l) = 1 ∷ literalNumbers l
 
 -- ## Lists, read again from their first element on
 
--- The numbers stop at an element that cannot be read; of a record that was read none is left out (`labels-shown`, `matchers-shown`,
--- `kinds-shown`, proofs/ElementsShownLaws).
+-- The numbers stop at an element that cannot be read; of a record that was read none is left out (`labels-shown`,
+-- `matchers-shown`, `kinds-shown`, proofs/ElementsShownLaws).
 
 -- a text, where it stands: the bytes that are left tell how far the reader has come
 unfoldable pub readLabelNumbers : List ℕ → Reader (List ℕ)

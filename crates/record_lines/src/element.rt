@@ -14,8 +14,8 @@ ghost use Rattle.page.specs.Read.{andThen, return};
 ghost use Rattle.record_lines.specs.Numbers.{spanNumbers, readLabelNumbers, readKindNumbers, readPatternFlagNumbers, readMatcherTexts, readMatcherNumbers};
 ghost use Rattle.record_lines.specs.Answers.{elementAt, readElement};
 
-// A label where it stands; the number of a matcher's operator, where its name and its value stand, and the flag of a pattern; the number
-// of a kind.
+// A label where it stands; the number of a matcher's operator, where its name and its value stand, and the flag of a
+// pattern; the number of a kind.
 pub enum Element {
     Label(Span),
     Matcher {

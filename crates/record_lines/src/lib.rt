@@ -1,4 +1,5 @@
-// The lines of the program show_records, which has their format: what stands in a record as numbers, for comparison with the Rust.
+// The lines of the program show_records, which has their format: what stands in a record as numbers, for comparison
+// with the Rust.
 mod element;
 mod line;
 mod list;

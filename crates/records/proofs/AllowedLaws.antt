@@ -1,5 +1,5 @@
--- Every record that is read is one that document 01 allows (`readRecord-gives`), field by field, by the closure laws of `Gives`. Assumes
--- nothing.
+-- Every record that is read is one that document 01 allows (`readRecord-gives`), field by field, by the closure laws of
+-- `Gives`. Assumes nothing.
 use Prim.Native.Nat.{ℕ, _≤_, _<_}
 use mathlib.Core.Bool.{Bool, true, false}
 use mathlib.Core.Option.{none, some}

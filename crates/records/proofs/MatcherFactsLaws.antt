@@ -1,5 +1,5 @@
--- A matcher read for its facts alone gives the facts of the matcher read. A loop over a list of matchers keeps its facts: what was seen
--- so far, and what is left of the list, decide together. Assumes nothing.
+-- A matcher read for its facts alone gives the facts of the matcher read. A loop over a list of matchers keeps its
+-- facts: what was seen so far, and what is left of the list, decide together. Assumes nothing.
 use Prim.Native.Nat.{ℕ, zero, suc, _-_, _≤_, _<_}
 use mathlib.Core.Path.{_≡_, refl, sym, ap, _∙_}
 use mathlib.Core.Bool.{Bool, true, false, _&&_, _||_}

@@ -1,5 +1,6 @@
--- Pages: allowed records that were written are read back, and a page whose records can all be read is those records, written. So pages
--- that can be read and lists of allowed records within the limits are the same thing. Assumes nothing.
+-- Pages: allowed records that were written are read back, and a page whose records can all be read is those records,
+-- written. So pages that can be read and lists of allowed records within the limits are the same thing. Assumes
+-- nothing.
 use Prim.Native.Nat.{ℕ, zero, suc, _+_, _≤_}
 use mathlib.Core.Path.{_≡_, refl, sym, ap, _∙_, subst}
 use mathlib.Core.Bool.{Bool, true, false}

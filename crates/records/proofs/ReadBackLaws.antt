@@ -1,5 +1,5 @@
--- Every record that document 01 allows is read back as it was written, whatever follows (`readRecord-back`); field by field, by the
--- closure laws of `ReadsAs`. Assumes nothing.
+-- Every record that document 01 allows is read back as it was written, whatever follows (`readRecord-back`); field by
+-- field, by the closure laws of `ReadsAs`. Assumes nothing.
 use Prim.Native.Nat.{ℕ, _≤_, _<_}
 use mathlib.Core.Path.{sym}
 use mathlib.Core.Bool.{Bool, true, false}

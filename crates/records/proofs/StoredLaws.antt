@@ -1,5 +1,5 @@
--- The parts of a matcher that can be read: its operator is the first byte, then come two texts that can be read, and after a pattern a flag
--- that is one byte. Assumes nothing.
+-- The parts of a matcher that can be read: its operator is the first byte, then come two texts that can be read, and
+-- after a pattern a flag that is one byte. Assumes nothing.
 use Prim.Native.Nat.{ℕ, zero, suc, _+_, _≤_, _<_}
 use mathlib.Core.Path.{_≡_, refl, sym, ap, _∙_}
 use mathlib.Core.Bool.{Bool}

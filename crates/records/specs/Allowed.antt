@@ -1,5 +1,5 @@
--- The records that document 01 allows ('The page'), field by field with its limits. A record so allowed is read back as it was written,
--- and every record that is read is one (proofs/ReadBackLaws, proofs/AllowedLaws).
+-- The records that document 01 allows ('The page'), field by field with its limits. A record so allowed is read back as
+-- it was written, and every record that is read is one (proofs/ReadBackLaws, proofs/AllowedLaws).
 use Prim.Native.Nat.{_≤_, _<_}
 use mathlib.Core.Option.{Option, none, some}
 use lib.Dec.{T}

@@ -1,4 +1,5 @@
--- What the answers of the functions that read parts of records mean on a page: a position stands for the bytes from there on.
+-- What the answers of the functions that read parts of records mean on a page: a position stands for the bytes from
+-- there on.
 use Prim.Native.Nat.{ℕ}
 use mathlib.Core.Bool.{Bool}
 use mathlib.Core.List.{List}

@@ -1,4 +1,5 @@
--- What the check asks of a matcher, read without the matcher itself: whether it is named `__name__`, and whether it accepts empty text.
+-- What the check asks of a matcher, read without the matcher itself: whether it is named `__name__`, and whether it
+-- accepts empty text.
 use Prim.Native.Nat.{ℕ}
 use mathlib.Core.Bool.{Bool, not}
 use mathlib.Core.List.{List, [], _∷_}

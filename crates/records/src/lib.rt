@@ -1,4 +1,5 @@
-// The parts of records (document 01, 'The page'), read at a position. Texts and lists stay on the page and are given by positions.
+// The parts of records (document 01, 'The page'), read at a position. Texts and lists stay on the page and are given by
+// positions.
 pub mod kind;
 pub mod label;
 pub mod literal;

@@ -25,7 +25,8 @@ pub struct Matcher {
     pub value: page::Span,
 }
 
-// What the check asks of a matcher: whether it is named `__name__`, whether it accepts empty text, and the position after it.
+// What the check asks of a matcher: whether it is named `__name__`, whether it accepts empty text, and the position
+// after it.
 pub enum MatcherFacts {
     Got {
         named: bool,

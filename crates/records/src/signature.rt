@@ -1,4 +1,5 @@
-// Signatures of functions (function.rs, `Function`): a name, declared kinds, how many arguments beyond them, and the result.
+// Signatures of functions (function.rs, `Function`): a name, declared kinds, how many arguments beyond them, and the
+// result.
 use crate::kind::Kind;
 use crate::kind::KindField;
 use crate::kind::read_kind;

@@ -1,4 +1,5 @@
-// A matcher that can be read: its operator and its flag are one byte each, its texts end where their lengths say. No byte is tested again.
+// A matcher that can be read: its operator and its flag are one byte each, its texts end where their lengths say. No
+// byte is tested again.
 use crate::matcher::MatchOp;
 use crate::matcher::Matcher;
 ghost use mathlib.Core.Path.{_≡_};

@@ -1,5 +1,5 @@
--- How a stack of operands lies in two arrays: an operand is a tag, and the value that a number has. The arrays are filled from the end
--- downwards, so that the stack is what lies from its top on.
+-- How a stack of operands lies in two arrays: an operand is a tag, and the value that a number has. The arrays are
+-- filled from the end downwards, so that the stack is what lies from its top on.
 use Prim.Native.Nat.{ℕ, _+_}
 use mathlib.Core.Bool.{Bool, true, false}
 use mathlib.Core.List.{List, [], _∷_}

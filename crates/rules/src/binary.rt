@@ -14,7 +14,8 @@ ghost use Rattle.ast.specs.Expr.{binaryKind};
 ghost use Rattle.rules.specs.Answers.{verdictMeant};
 ghost use Rattle.rules.specs.ModifierFacts.{judgeSides};
 
-// What the check asks of a modifier: bool is set; a group label is in the on list too; it groups; its matching has labels.
+// What the check asks of a modifier: bool is set; a group label is in the on list too; it groups; its matching has
+// labels.
 pub struct ModifierFacts {
     pub boolean: bool,
     pub joint: bool,

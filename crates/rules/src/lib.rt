@@ -1,4 +1,5 @@
-// The refusal table on operands: what a record asks of its operands, and what it puts back (ast.rs, constructors and `check_ast`).
+// The refusal table on operands: what a record asks of its operands, and what it puts back (ast.rs, constructors and
+// `check_ast`).
 pub mod aggregate;
 pub mod binary;
 pub mod code;

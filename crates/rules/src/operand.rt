@@ -1,4 +1,5 @@
-// Operands: what later records can ask of the expressions on the stack. The stack lies in two arrays, the tags and the values of the numbers.
+// Operands: what later records can ask of the expressions on the stack. The stack lies in two arrays, the tags and the
+// values of the numbers.
 use records::Kind;
 ghost use Prim.Native.Nat.{_<_};
 ghost use mathlib.Core.Path.{_≡_};

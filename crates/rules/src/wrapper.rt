@@ -1,4 +1,5 @@
-// Records on one operand (ast.rs, `new_unary_expr`, `new_matrix_selector`, `at_expr`, `offset_expr`, `new_subquery_expr`).
+// Records on one operand (ast.rs, `new_unary_expr`, `new_matrix_selector`, `at_expr`, `offset_expr`,
+// `new_subquery_expr`).
 use crate::kind::is_operand;
 use crate::kind::is_vector;
 use crate::operand::Operand;
@@ -65,7 +66,8 @@ fn is_marked(is_at: bool, at: bool, offset: bool) -> bool
     offset
 }
 
-// @ set on an operand, or else offset: the first refusal where it is set already, the second on an operand that has none.
+// @ set on an operand, or else offset: the first refusal where it is set already, the second on an operand that has
+// none.
 fn judge_mark(operand: Operand, is_at: bool, twice: Refusal, without: Refusal) -> Verdict
     ensures { λ r. ⌜ verdictMeant r ≡ judgeMark «is_at» (refusalNumber twice) (refusalNumber without) (operandMeant operand) ⌝ }
 {

@@ -1,4 +1,5 @@
--- The part of 19's label, by the outcome of check: empty where the page is accepted, or longer than a page may be. Assumes nothing.
+-- The part of 19's label, by the outcome of check: empty where the page is accepted, or longer than a page may be.
+-- Assumes nothing.
 use Prim.Native.Nat.{ℕ, _<_}
 use mathlib.Core.Path.{_≡_, refl, sym, ap, subst}
 use mathlib.Core.List.{List}

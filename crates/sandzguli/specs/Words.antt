@@ -1,4 +1,5 @@
--- The words of the library's face for C (house format): one 64-bit number for an outcome, one for the part of 19's label.
+-- The words of the library's face for C (house format): one 64-bit number for an outcome, one for the part of 19's
+-- label.
 use Prim.Native.Nat.{ℕ, _+_, _*_, _^_, _%_, _≤_}
 use mathlib.Core.Path.{_≡_}
 use mathlib.Core.List.{List}
@@ -7,8 +8,9 @@ use Rattle.records.specs.Outcome.{Outcome, answer, refusal}
 use Rattle.ast.specs.Part.{Part}
 use Rattle.outcomes.specs.Calls.{Called}
 
--- accepted: four times the count of bytes written, and the kind's number. A count is below 2^61, since no memory is larger; the
--- remainder says so without a claim on texts. Refused: the highest bit, then the refusal's number and the record
+-- accepted: four times the count of bytes written, and the kind's number. A count is below 2^61, since no memory is
+-- larger; the remainder says so without a claim on texts. Refused: the highest bit, then the refusal's number and the
+-- record
 abbrev pub outcomeWord : Outcome → ℕ
 outcomeWord (answer k n) = n % 2 ^ 61 * 4 + kindNumber k
 outcomeWord (refusal n i) = 2 ^ 63 + n * 65536 + i

@@ -36,7 +36,8 @@ pub extern "C" fn sandzguli_copy(page: &[u8], out: &mut [u8]) -> u64
     outcome_word(copy(page, out))
 }
 
-// The start and the size of the label of 19; 0 where there is none. A page above the limit is refused with 3, so the word fits.
+// The start and the size of the label of 19; 0 where there is none. A page above the limit is refused with 3, so the
+// word fits.
 #[no_mangle]
 pub extern "C" fn sandzguli_joint_label(page: &[u8]) -> u64
     ensures { λ r. ⌜ r ≡ labelWord (labelPart (now (page .entry)) (check (now (page .entry)))) ⌝ }

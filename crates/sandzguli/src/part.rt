@@ -9,7 +9,8 @@ ghost use Rattle.ast.specs.CheckPage.{check};
 ghost use Rattle.ast.specs.Part.{labelPart, partOf};
 ghost use Rattle.joint_label.specs.Answers.{IsPart};
 
-// Where it starts and ends; no bytes where the page is not refused with 19. Only the outcome says whether there is a label.
+// Where it starts and ends; no bytes where the page is not refused with 19. Only the outcome says whether there is a
+// label.
 pub fn label_span(page: &[u8]) -> Span
     ensures { λ r. ⌜ IsPart (now (page .entry)) (labelPart (now (page .entry)) (check (now (page .entry)))) r ⌝ }
 {

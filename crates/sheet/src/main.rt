@@ -1,6 +1,8 @@
-// The program `sheet`: a page on standard input; on standard output its split text, or `refused N at R`, and a line feed.
+// The program `sheet`: a page on standard input; on standard output its split text, or `refused N at R`, and a line
+// feed.
 //
-// At most one byte more than a page may have is read: what is written depends on no more (`output-first`, crate program).
+// At most one byte more than a page may have is read: what is written depends on no more (`output-first`, crate
+// program).
 use program::put_sheet;
 
 // A short count says neither that the input has ended nor that a read failed. Only an input that has ended answers 0 to

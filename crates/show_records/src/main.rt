@@ -1,17 +1,19 @@
 // Shows what each record of a page is, for comparison with the Rust.
 //
-// Standard input is a stream of pages, each a length of four bytes, lowest first, and so many bytes, at most 65,536. For each page a line is
-// written for each record, from the left to the page's end or the first record that cannot be read (no limit on the count of records):
+// Standard input is a stream of pages, each a length of four bytes, lowest first, and so many bytes, at most 65,536.
+// For each page a line is written for each record, from the left to the page's end or the first record that cannot be
+// read (no limit on the count of records):
 //
 //     NEXT KIND FIELDS..     the position after the record, its kind 0 to 11, and its fields in the order of the page
 //     fault N at R           record R is refused with N, 1, 3 or 4
 //     end R                  the page ends after R records
 //
-// Fields are decimal numbers. A text is its start and its size; a list is its count and its elements; a flag is 0 or 1; a choice is the
-// number of its form and the fields of that form. So a matcher is 0 to 3, name, value, and a flag for 2 and 3; a call is its name, its
-// kinds, 0 to 2 (2 with the upper), the result kind and the count of arguments.
+// Fields are decimal numbers. A text is its start and its size; a list is its count and its elements; a flag is 0 or 1;
+// a choice is the number of its form and the fields of that form. So a matcher is 0 to 3, name, value, and a flag for 2
+// and 3; a call is its name, its kinds, 0 to 2 (2 with the upper), the result kind and the count of arguments.
 //
-// Input that is no such stream, as a page without its length, is answered on standard error by a sentence that says what is wanted.
+// Input that is no such stream, as a page without its length, is answered on standard error by a sentence that says
+// what is wanted.
 use input::Block;
 use input::read_block;
 use reader::RecordField;

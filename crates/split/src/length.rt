@@ -57,8 +57,8 @@ pub fn split_len(
     front + inner + rear
 }
 
-// The length of the split texts of the newest expressions after the first `end` records, `count` of them, with so many bytes between
-// each two, or `cap` where it is more. `numberless` is said of the last one, `indents` of the first.
+// The length of the split texts of the newest expressions after the first `end` records, `count` of them, with so many
+// bytes between each two, or `cap` where it is more. `numberless` is said of the last one, `indents` of the first.
 fn split_operands_len(
     page: &[u8],
     starts: &[u16],

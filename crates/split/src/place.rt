@@ -7,7 +7,8 @@ ghost use Prim.Native.Nat.{ℕ, suc, _≤_};
 ghost use Rattle.view.specs.View.{NodeAt};
 ghost use Rattle.split.specs.Place.{withNumberless, withIndents, innerPlace};
 
-// How a tree stands in split text: whether it is known to be no bare number, whether its first line is indented, and its level.
+// How a tree stands in split text: whether it is known to be no bare number, whether its first line is indented, and
+// its level.
 pub struct Place {
     pub numberless: bool,
     pub indents: bool,

@@ -51,8 +51,8 @@ pub fn write_split(
     put_rear_at(page, starts, own, place.level, out, others)
 }
 
-// Writes the split texts of the newest expressions after the first `end` records, `count` of them, with what the node writes between
-// each two. `indents` and level are the node's; `numberless` is said of the last operand.
+// Writes the split texts of the newest expressions after the first `end` records, `count` of them, with what the node
+// writes between each two. `indents` and level are the node's; `numberless` is said of the last operand.
 fn write_split_operands(
     page: &[u8],
     starts: &[u16],

@@ -1,5 +1,5 @@
--- Ranges, @ and offsets, going down: the tree that such a record ends is the one below with the record's part settled on it. And a tree
--- that is no bare number stays none.
+-- Ranges, @ and offsets, going down: the tree that such a record ends is the one below with the record's part settled
+-- on it. And a tree that is no bare number stays none.
 use Prim.Native.Nat.{ℕ, suc, _-_}
 use mathlib.Core.Path.{_≡_, refl, ap, _∙_}
 use mathlib.Core.List.{List}

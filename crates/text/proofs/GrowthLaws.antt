@@ -1,5 +1,5 @@
--- How much longer a node's text is than its operands' texts: at most four bytes for each byte of its record and a fixed number of bytes,
--- where each operand is counted with the two bytes of a separator. Assumes nothing.
+-- How much longer a node's text is than its operands' texts: at most four bytes for each byte of its record and a fixed
+-- number of bytes, where each operand is counted with the two bytes of a separator. Assumes nothing.
 use Prim.Native.Nat.{ℕ, zero, suc, _+_, _*_, _≤_}
 use native.Mathlib.Omega.{arith}
 use mathlib.Core.Path.{_≡_, refl, sym, ap, _∙_}

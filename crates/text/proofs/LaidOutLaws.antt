@@ -1,5 +1,5 @@
--- What each record says of the tree that it ends: how its text is put together and where its operands lie. The record may have ranges,
--- @ and offsets above it (`settled`): these are part of its node.
+-- What each record says of the tree that it ends: how its text is put together and where its operands lie. The record
+-- may have ranges, @ and offsets above it (`settled`): these are part of its node.
 use Prim.Native.Nat.{ℕ, suc, _-_, _≤_, zero-le}
 use native.Mathlib.Omega.{arith}
 use mathlib.Core.Path.{_≡_, refl, sym, ap, _∙_}

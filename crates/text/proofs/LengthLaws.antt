@@ -1,5 +1,5 @@
--- Lengths of operands' texts up to a cap, from the last operand down, for any two texts of the first operand and of the others; and the
--- length of a node from its pieces.
+-- Lengths of operands' texts up to a cap, from the last operand down, for any two texts of the first operand and of the
+-- others; and the length of a node from its pieces.
 use Prim.Native.Nat.{ℕ, _+_, _-_, _≤_, _<_, min}
 use native.Mathlib.Omega.{arith}
 use mathlib.Core.Path.{_≡_, sym, ap, _∙_}

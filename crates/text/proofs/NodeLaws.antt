@@ -1,4 +1,5 @@
--- The text of the tree that a record ends, from its layout and its operands on the stack: what the recursive functions go by.
+-- The text of the tree that a record ends, from its layout and its operands on the stack: what the recursive functions
+-- go by.
 use Prim.Native.Nat.{ℕ, suc, _≤_, _<_}
 use native.Mathlib.Omega.{arith}
 use mathlib.Core.Path.{_≡_, ap₂, _∙_}

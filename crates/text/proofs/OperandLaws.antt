@@ -1,5 +1,6 @@
--- Texts of operands, joined from the last one down: where the walk's tables say where each expression begins, the operands of a node
--- are found from its last one, and so the recursion over them goes. Any two texts, of the first operand and of the others.
+-- Texts of operands, joined from the last one down: where the walk's tables say where each expression begins, the
+-- operands of a node are found from its last one, and so the recursion over them goes. Any two texts, of the first
+-- operand and of the others.
 use Prim.Native.Nat.{ℕ, zero, suc, _-_, _≤_, _<_}
 use native.Mathlib.Numerals.{sub-one}
 use native.Mathlib.Omega.{arith}

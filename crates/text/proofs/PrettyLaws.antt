@@ -1,5 +1,6 @@
--- Split text by pieces, with a bool that says whether the first line is indented. A node that fits a line prints as its canonical text,
--- unary expressions and subqueries too, since their operands are shorter still; a longer one by the pieces of its layout.
+-- Split text by pieces, with a bool that says whether the first line is indented. A node that fits a line prints as its
+-- canonical text, unary expressions and subqueries too, since their operands are shorter still; a longer one by the
+-- pieces of its layout.
 use Prim.Native.Nat.{ℕ, suc, _+_, _≤_, _<_}
 use native.Mathlib.Omega.{arith}
 use mathlib.Core.Path.{_≡_, refl, sym, ap, subst, _∙_}

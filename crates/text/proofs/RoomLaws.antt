@@ -1,5 +1,5 @@
--- Every canonical text fits four bytes for each byte of its page and 128 for each record, up to the one that ends its tree: a record adds at
--- most so much to the texts of the expressions on the stack. Assumes nothing.
+-- Every canonical text fits four bytes for each byte of its page and 128 for each record, up to the one that ends its
+-- tree: a record adds at most so much to the texts of the expressions on the stack. Assumes nothing.
 use Prim.Native.Nat.{ℕ, zero, suc, _+_, _*_, _≤_}
 use native.Mathlib.Omega.{arith}
 use mathlib.Core.Path.{_≡_, refl, ap}

@@ -1,5 +1,5 @@
--- How long what a node writes of its own can be: labels and matchers at most four bytes for each byte that they have on the page, all else
--- at most a fixed number of bytes. Assumes nothing.
+-- How long what a node writes of its own can be: labels and matchers at most four bytes for each byte that they have on
+-- the page, all else at most a fixed number of bytes. Assumes nothing.
 use Prim.Native.Nat.{ℕ, zero, suc, _+_, _-_, _*_, _≤_}
 use Prim.Native.String.{String}
 use native.Mathlib.Omega.{arith}

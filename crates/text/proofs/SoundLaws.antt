@@ -1,5 +1,6 @@
--- Every tree on the stack of an accepted page is sound: names begin with a letter, `_` or `:`, the tokens of the codes with no white
--- character, and a selector without a name has matchers, or it is refused with 34. So no text begins with one (`display-trimmed`).
+-- Every tree on the stack of an accepted page is sound: names begin with a letter, `_` or `:`, the tokens of the codes
+-- with no white character, and a selector without a name has matchers, or it is refused with 34. So no text begins with
+-- one (`display-trimmed`).
 use Prim.Native.Nat.{ℕ, zero, suc, _-_, _≤_, _<_}
 use native.Mathlib.Omega.{arith}
 use mathlib.Core.Path.{_≡_, refl, sym, ap, subst, _∙_}

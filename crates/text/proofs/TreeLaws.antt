@@ -1,5 +1,5 @@
--- What an accepted record puts on the stack: the tree that its constructor made, with a set operator's modifier completed, on what
--- is left below its operands.
+-- What an accepted record puts on the stack: the tree that its constructor made, with a set operator's modifier
+-- completed, on what is left below its operands.
 use Prim.Native.Nat.{ℕ}
 use native.Mathlib.Omega.{arith}
 use mathlib.Core.Path.{_≡_, refl, sym, ap, _∙_}

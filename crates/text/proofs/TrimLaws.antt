@@ -1,5 +1,6 @@
--- `trim_start` under a unary expression takes away the operand's indentation and nothing else, since no node's own text begins with
--- a white character: a number, a quote, a name, a brace, a bracket, a minus or a token stands first, all above the space.
+-- `trim_start` under a unary expression takes away the operand's indentation and nothing else, since no node's own text
+-- begins with a white character: a number, a quote, a name, a brace, a bracket, a minus or a token stands first, all
+-- above the space.
 use Prim.Native.Nat.{ℕ, zero, suc, _+_, _/_, _%_, _<_}
 use native.Mathlib.Omega.{arith}
 use mathlib.Core.Path.{_≡_, refl}

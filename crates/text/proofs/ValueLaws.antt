@@ -1,5 +1,5 @@
--- The value of a bare number, going down a chain of unary records: each negates it, and the record at the chain's foot is a number or
--- what it ends has no value.
+-- The value of a bare number, going down a chain of unary records: each negates it, and the record at the chain's foot
+-- is a number or what it ends has no value.
 use Prim.Native.Nat.{ℕ, suc, _-_}
 use native.Mathlib.Omega.{arith}
 use mathlib.Core.Path.{_≡_, refl, sym, ap, _∙_}

@@ -1,4 +1,5 @@
--- Writing operands' texts from the last operand down, for any two texts of the first operand and of the others: runs of three pieces.
+-- Writing operands' texts from the last operand down, for any two texts of the first operand and of the others: runs of
+-- three pieces.
 use Prim.Native.Nat.{ℕ, _+_, _-_, _≤_}
 use mathlib.Core.Path.{_≡_, sym, ap, _∙_}
 use mathlib.Core.List.{List, [], _∷_, _++_, append-nil}

@@ -1,5 +1,6 @@
--- Records that are part of one node: a selector or a subquery with its range, @ and offset is made of up to four records, each on the
--- one before it. Going down from the last of them, what is met is kept, and `settled` puts it on the tree below.
+-- Records that are part of one node: a selector or a subquery with its range, @ and offset is made of up to four
+-- records, each on the one before it. Going down from the last of them, what is met is kept, and `settled` puts it on
+-- the tree below.
 use Prim.Native.Nat.{ℕ}
 use mathlib.Core.Option.{Option, none, some}
 use Rattle.records.specs.Matcher.{Selector}

@@ -30,8 +30,8 @@ module _ {A : Type 0} where
 abbrev pub labelled : String → Labels → List ℕ
 labelled w ls = bytes w ++ bytes " (" ++ displayLabels ls ++ bytes ")"
 
--- `BinModifier`: the Rust writes each part with a space after it, trims the end and puts one space in front. No part begins or
--- ends in a space, so each part here has its space in front
+-- `BinModifier`: the Rust writes each part with a space after it, trims the end and puts one space in front. No part
+-- begins or ends in a space, so each part here has its space in front
 abbrev pub displayBool : Bool → List ℕ
 displayBool true = bytes " bool"
 displayBool false = []

@@ -1,5 +1,5 @@
--- What the functions that write a page's texts know of the tree that a record ends: how its text is put together, and where its
--- operands lie. They are the newest expressions after the first `end` records, `count` of them.
+-- What the functions that write a page's texts know of the tree that a record ends: how its text is put together, and
+-- where its operands lie. They are the newest expressions after the first `end` records, `count` of them.
 use Prim.Native.Nat.{ℕ, _-_, _≤_}
 use mathlib.Core.Path.{_≡_}
 use mathlib.Core.List.{List}

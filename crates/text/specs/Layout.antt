@@ -1,6 +1,6 @@
--- How a node's text is put together from its operands' texts: what the node writes before them, between each two and after them.
--- There are five ways; the texts of pages are written by these alone, whatever the record. That they give `display` and `pretty` is
--- proved in proofs/DisplayLaws and proofs/PrettyLaws.
+-- How a node's text is put together from its operands' texts: what the node writes before them, between each two and
+-- after them. There are five ways; the texts of pages are written by these alone, whatever the record. That they give
+-- `display` and `pretty` is proved in proofs/DisplayLaws and proofs/PrettyLaws.
 use Prim.Native.Nat.{ℕ, suc}
 use mathlib.Core.Bool.{Bool, true, false}
 use mathlib.Core.List.{List, [], _∷_, _++_, map}

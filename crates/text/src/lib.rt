@@ -1,4 +1,5 @@
-// @ and offset of a selector, a range or a subquery, as the functions that print them take them (ast.rs, `at` and `offset`).
+// @ and offset of a selector, a range or a subquery, as the functions that print them take them (ast.rs, `at` and
+// `offset`).
 pub enum At {
     None,
     Some(records::AtModifier),

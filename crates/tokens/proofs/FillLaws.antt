@@ -1,5 +1,5 @@
--- Fills by their forms, as the code has them. That the code's comparison of floats is `equalAsFloats` is `float-equal` of records; here it is
--- turned round, since the definition names the right number first. Assumes nothing.
+-- Fills by their forms, as the code has them. That the code's comparison of floats is `equalAsFloats` is `float-equal`
+-- of records; here it is turned round, since the definition names the right number first. Assumes nothing.
 use Prim.Native.Nat.{ℕ, _+_}
 use Prim.Native.String.{String}
 use native.Mathlib.Omega.{arith}

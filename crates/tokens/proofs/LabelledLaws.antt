@@ -1,4 +1,5 @@
--- Tokens with labels in brackets: the texts of matching, cardinality and grouping by their forms, as the code has them. Assumes nothing.
+-- Tokens with labels in brackets: the texts of matching, cardinality and grouping by their forms, as the code has them.
+-- Assumes nothing.
 use Prim.Native.Nat.{ℕ, _+_, min}
 use Prim.Native.String.{String}
 use native.Mathlib.Omega.{arith}

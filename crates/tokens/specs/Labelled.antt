@@ -1,4 +1,5 @@
--- Tokens with labels or a fill in brackets, from the token's bytes: `labelled` and `filled` of Display with the token as it lies in the code.
+-- Tokens with labels or a fill in brackets, from the token's bytes: `labelled` and `filled` of Display with the token
+-- as it lies in the code.
 use Prim.Native.Nat.{ℕ}
 use mathlib.Core.Bool.{Bool}
 use mathlib.Core.List.{List, [], _∷_, _++_}

@@ -1,5 +1,5 @@
-// Fills (ast.rs, `VectorMatchFillValues`): equal as floats they print as one, with the right number; else each that is there.
-// The digits are the literals'; the comparison is the floats'.
+// Fills (ast.rs, `VectorMatchFillValues`): equal as floats they print as one, with the right number; else each that is
+// there. The digits are the literals'; the comparison is the floats'.
 use float::FillValues;
 use float::same_fills;
 use leaves::numeral_len;

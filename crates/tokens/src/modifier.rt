@@ -1,4 +1,5 @@
-// Matching, grouping and cardinality (ast.rs, `BinModifier`, `get_op_string`): tokens with labels, each with its space in front.
+// Matching, grouping and cardinality (ast.rs, `BinModifier`, `get_op_string`): tokens with labels, each with its space
+// in front.
 use crate::labelled::labelled_len;
 use crate::labelled::put_labelled;
 use page::put_byte;

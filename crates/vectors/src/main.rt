@@ -1,8 +1,9 @@
 // Replays the kept list: pages with the answers of the Rust (oracle/KEPT.md has the format), read from standard input.
 //
-// Each page is checked; its outcome and the part of 19's label are compared with the entry's words. An accepted page is copied and printed
-// into a buffer of exactly the entry's size, and then into one a byte shorter, which is refused with 5 and keeps its first byte.
-// Written is `N pages equal`, or `entry N differs` at the first one that is not equal, counted from 0.
+// Each page is checked; its outcome and the part of 19's label are compared with the entry's words. An accepted page is
+// copied and printed into a buffer of exactly the entry's size, and then into one a byte shorter, which is refused with
+// 5 and keeps its first byte. Written is `N pages equal`, or `entry N differs` at the first one that is not equal,
+// counted from 0.
 mod compare;
 mod word;
 

@@ -1,5 +1,5 @@
--- What the record at the foot of a node gives it, one law for all kinds of record (`laidOut-item`): its layout, under what
--- the records above set, and its operands. Shape and count go by the foot's kind, which two short tables hold.
+-- What the record at the foot of a node gives it, one law for all kinds of record (`laidOut-item`): its layout, under
+-- what the records above set, and its operands. Shape and count go by the foot's kind, which two short tables hold.
 use Prim.Native.Nat.{ℕ, suc}
 use native.Mathlib.Omega.{arith}
 use mathlib.Core.Path.{_≡_, refl, sym, ap, subst, _∙_}
@@ -29,7 +29,8 @@ use Rattle.view.proofs.ChainedLaws.{sets-low, sets-here, sets-tree}
 
 -- ## The layout by the record
 
--- the layout of a node with this record at its foot, this range and these times above it; an attached record is the foot of none
+-- the layout of a node with this record at its foot, this range and these times above it; an attached record is the
+-- foot of none
 abbrev pub layoutBy : Record → Option ℕ → Times → Layout
 layoutBy (leaf (number l)) n u = whole (displayLiteral l)
 layoutBy (leaf (string t)) n u = whole (quote t)

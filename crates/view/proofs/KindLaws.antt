@@ -1,5 +1,5 @@
--- The kind of a record is its first byte, for a number below 128 is one byte, and its fields stand after that byte: each form of
--- record gives records of its own number only.
+-- The kind of a record is its first byte, for a number below 128 is one byte, and its fields stand after that byte:
+-- each form of record gives records of its own number only.
 use Prim.Native.Nat.{ℕ, zero, suc, _+_, _*_, _-_, _≤_, _<_}
 use native.Mathlib.Omega.{arith}
 use mathlib.Core.Path.{_≡_, refl, sym, ap, _∙_}

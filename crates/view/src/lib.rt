@@ -1,5 +1,6 @@
-// The node that a record ends: where its records stand. A selector or a subquery with its range, @ and offset is one node of up to four
-// records, a negated number one of several. What a node writes of its own is read where it stands, when it is written.
+// The node that a record ends: where its records stand. A selector or a subquery with its range, @ and offset is one
+// node of up to four records, a negated number one of several. What a node writes of its own is read where it stands,
+// when it is written.
 pub mod literal;
 pub mod shape;
 
@@ -26,8 +27,8 @@ pub enum Foot {
     Call,
 }
 
-// A node: record `base` is its foot, and above it up to record `top` stand its range, @ and offset. Its operands are the newest
-// expressions after the first `base` records, `count` of them.
+// A node: record `base` is its foot, and above it up to record `top` stand its range, @ and offset. Its operands are
+// the newest expressions after the first `base` records, `count` of them.
 pub struct Node {
     pub foot: Foot,
     pub top: usize,

@@ -4,8 +4,8 @@ use crate::Node;
 ghost use mathlib.Core.Path.{_≡_};
 ghost use Rattle.view.specs.View.{isMinus, shapeOf};
 
-// The way in which a node's text is put together: a text of its own, a minus before the operand, a suffix after it, operands in
-// brackets after a head, an operator between two.
+// The way in which a node's text is put together: a text of its own, a minus before the operand, a suffix after it,
+// operands in brackets after a head, an operator between two.
 pub enum Shape {
     Whole,
     Minus,

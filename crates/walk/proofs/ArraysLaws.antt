@@ -1,5 +1,5 @@
--- The loop's invariant of the walk, and what each way through the loop's body makes of it: trees (`Progress`), the arrays that hold their
--- operands and first records (`Arrays`), and the tables so far.
+-- The loop's invariant of the walk, and what each way through the loop's body makes of it: trees (`Progress`), the
+-- arrays that hold their operands and first records (`Arrays`), and the tables so far.
 use Prim.Native.Nat.{ℕ, zero, suc, _+_, _-_, _≤_, _<_}
 use mathlib.Core.Path.{_≡_, refl, sym, ap, ap₂, subst, _∙_}
 use mathlib.Core.List.{List, [], _∷_, map}

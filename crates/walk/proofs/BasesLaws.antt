@@ -1,4 +1,5 @@
--- The first record of each entry of the stack: the stack after the records before it is what lies below the entry. Assumes nothing.
+-- The first record of each entry of the stack: the stack after the records before it is what lies below the entry.
+-- Assumes nothing.
 use Prim.Native.Nat.{ℕ, zero, suc, _+_, _-_, _≤_, _<_}
 use mathlib.Core.Path.{_≡_, refl, sym, ap, _∙_}
 use mathlib.Core.List.{List, [], _∷_}

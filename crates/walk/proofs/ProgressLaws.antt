@@ -1,4 +1,5 @@
--- How far the walk has come on a page, in terms of trees: the records passed made this stack, and what is left decides the outcome.
+-- How far the walk has come on a page, in terms of trees: the records passed made this stack, and what is left decides
+-- the outcome.
 use Prim.Native.Nat.{ℕ, suc, _+_, _-_, _≤_, _<_}
 use mathlib.Core.Path.{_≡_, refl, sym, ap, subst, _∙_}
 use mathlib.Core.List.{List, [], _∷_}

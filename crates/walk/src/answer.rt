@@ -28,8 +28,8 @@ pub fn field_refusal(fault: Fault) -> Refusal
     }
 }
 
-// Any byte string is accepted with its kind, or refused with a number of document 01's table and the index of a record. The outcome is the
-// definition's, and demand 3 holds of it.
+// Any byte string is accepted with its kind, or refused with a number of document 01's table and the index of a record.
+// The outcome is the definition's, and demand 3 holds of it.
 pub fn check(page: &[u8]) -> Outcome
     ensures { λ r. ⌜ CheckContract (now (page .entry)) (outcomeMeant r) ⌝ }
 {

@@ -1,6 +1,6 @@
--- What the documents ask of a record's operands, and the kind that a record gives (document 01, 'Working a page out', quoted below;
--- Prometheus 2.42, 'Operators', 'Functions'; limitk and limit_ratio are 3.5's). This crate depends on `page` and `records` alone:
--- nothing here uses the tree, its kinds or the checker's tests.
+-- What the documents ask of a record's operands, and the kind that a record gives (document 01, 'Working a page out',
+-- quoted below; Prometheus 2.42, 'Operators', 'Functions'; limitk and limit_ratio are 3.5's). This crate depends on
+-- `page` and `records` alone: nothing here uses the tree, its kinds or the checker's tests.
 use Prim.Native.Nat.{ℕ, suc, _-_, min}
 use mathlib.Core.Bool.{Bool, true, false, _&&_, _||_, not}
 use mathlib.Core.List.{List, [], _∷_}
@@ -62,8 +62,8 @@ isNumeric k = isScalar k || isVector k
 abbrev pub areScalars : Kind → Kind → Bool
 areScalars l r = isScalar l && isScalar r
 
--- "Arithmetic (atan2 too) and comparison ask scalars or vectors, but two scalars compared need bool; set operators ask two vectors";
--- `bool` tells whether the modifier has it
+-- "Arithmetic (atan2 too) and comparison ask scalars or vectors, but two scalars compared need bool; set operators ask
+-- two vectors"; `bool` tells whether the modifier has it
 abbrev pub sidesAllowed : Group → Bool → Kind → Kind → Bool
 sidesAllowed arithmetic bool l r = isNumeric l && isNumeric r
 sidesAllowed comparison bool l r = isNumeric l && isNumeric r && (bool || not (areScalars l r))
@@ -105,8 +105,8 @@ abbrev pub areDeclared : List Kind → ℕ → List Kind → Bool
 areDeclared declared i [] = true
 areDeclared declared i (a ∷ more) = equalKind (declaredKind declared i) a && areDeclared declared (suc i) more
 
--- "paren, @ and offset keep the kind. These ask nothing. Unary asks a scalar or vector and keeps its kind. Subquery asks a vector and
--- gives a matrix"; a range asks nothing and gives a matrix
+-- "paren, @ and offset keep the kind. These ask nothing. Unary asks a scalar or vector and keeps its kind. Subquery
+-- asks a vector and gives a matrix"; a range asks nothing and gives a matrix
 abbrev pub wrapperAllowed : Wrapper → Kind → Bool
 wrapperAllowed (range n) k = true
 wrapperAllowed (subquery r s) k = isVector k

@@ -1,5 +1,5 @@
--- The client's demand 3, its words above each line. What is set aside and which refusals are for kinds are parameters: a later
--- request changes both.
+-- The client's demand 3, its words above each line. What is set aside and which refusals are for kinds are parameters:
+-- a later request changes both.
 use Prim.Native.Nat.{ℕ}
 use mathlib.Core.Path.{_≡_}
 use mathlib.Core.Bool.{Bool, not}
@@ -50,13 +50,14 @@ module _ {C : Type 0} (forKinds : List ℕ) where
   -- "Where check refuses a page for kinds, and the same two things are true of the records before the one named, .."
   Says w (refusal n i) = T (any (eqb n) forKinds) → T (nothingSetAside (take i (w .steps))) → MeetsFirst i (w .steps)
 
--- what is set aside, which refusals are for kinds, and one sequence of contents, of any type. Hypothesis and conclusion speak of the
--- same working-out
+-- what is set aside, which refusals are for kinds, and one sequence of contents, of any type. Hypothesis and conclusion
+-- speak of the same working-out
 module _ {C : Type 0} (aside : Record → List Kind → List (Option Literal) → Bool) (forKinds : List ℕ) (contents : ℕ → C) where
   abbrev pub KindsRightWith : List ℕ → Outcome → Type 0
   KindsRightWith page outcome = Says forKinds (workPage aside contents (readPage page)) outcome
 
--- "Take any byte string as a page and work it out .., whatever contents its values have". (A claim over every TYPE of contents would
--- be in Type 1, and could not stand in a contract; the law `kindsRightWith` of crate `agreement` has every type.)
+-- "Take any byte string as a page and work it out .., whatever contents its values have". (A claim over every TYPE of
+-- contents would be in Type 1, and could not stand in a contract; the law `kindsRightWith` of crate `agreement` has
+-- every type.)
 abbrev pub Demand3 : List ℕ → Outcome → Type 0
 Demand3 page outcome = (contents : ℕ → List ℕ) → KindsRightWith isSetAside kindRefusals contents page outcome

@@ -1,5 +1,5 @@
--- The working-out of chosen pages, computed: a statement cannot be weakened by changing what the working-out sees. Each row has the
--- PromQL of its page, what is seen of each record, and the kinds of the values left, the last one first.
+-- The working-out of chosen pages, computed: a statement cannot be weakened by changing what the working-out sees. Each
+-- row has the PromQL of its page, what is seen of each record, and the kinds of the values left, the last one first.
 use Prim.Native.Nat.{ℕ}
 use mathlib.Core.Bool.{Bool, true, false, _&&_}
 use mathlib.Core.List.{List, [], _∷_, _++_, map}

@@ -1,5 +1,5 @@
--- Working a page out (document 01, 'Working a page out'): a stack of values, each a kind and any content. The literal exception is
--- shared with the checker, as document 01 says ("as under Checking").
+-- Working a page out (document 01, 'Working a page out'): a stack of values, each a kind and any content. The literal
+-- exception is shared with the checker, as document 01 says ("as under Checking").
 use Prim.Native.Nat.{ℕ, suc}
 use mathlib.Core.Bool.{Bool, true, false, _&&_, not}
 use mathlib.Core.List.{List, [], _∷_, map}
@@ -47,8 +47,9 @@ bareNumber (call f n) bare = none
 
 -- ## The two things that demand 3 sets aside
 
--- a limitk or limit_ratio whose first argument is no scalar (without arguments there is none: not counted, and 14 refuses it), and a
--- call under the exp or logarithm literal exception. Kinds and bare numbers are those of the operands
+-- a limitk or limit_ratio whose first argument is no scalar (without arguments there is none: not counted, and 14
+-- refuses it), and a call under the exp or logarithm literal exception. Kinds and bare numbers are those of the
+-- operands
 abbrev pub isSetAside : Record → List Kind → List (Option Literal) → Bool
 isSetAside (leaf l) ks bare = false
 isSetAside (wrapper w) ks bare = false
@@ -91,7 +92,8 @@ module _ {C : Type 0} where
   finishAt end stack = left stack
   finishAt (unreadable f) stack = ended
 
-  -- a record in its place is a step before the others. Out of place it is the last: it may be set aside, and asks nothing
+  -- a record in its place is a step before the others. Out of place it is the last: it may be set aside, and asks
+  -- nothing
   abbrev pub stepOf : Bool → Bool → Bool → WorkedOut C → WorkedOut C
   stepOf true aside asked more = record { steps = record { notSetAside = not aside; asAsked = asked } ∷ more .steps; finish = more .finish }
   stepOf false aside asked more = record { steps = record { notSetAside = not aside; asAsked = true } ∷ []; finish = ended }

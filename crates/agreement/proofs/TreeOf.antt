@@ -1,5 +1,6 @@
--- The node of a record (constructor and `checkAst`) as a function of its operands, and what a node says of the working-out: where the
--- record is not set aside it is in place and as asked, a refusal for kinds is in place and not as asked (`NodeClaim`).
+-- The tree of a record (constructor and `checkAst`) as a function of its operands, and what a tree says of the
+-- working-out: where the record is not set aside it is in place and as asked, a refusal for kinds is in place and not
+-- as asked (`TreeClaim`).
 use Prim.Native.Nat.{ℕ, suc}
 use mathlib.Core.Path.{_≡_, refl, sym, ap}
 use mathlib.Core.Bool.{Bool, true, not}
@@ -22,7 +23,7 @@ use Rattle.ast.specs.CheckAst.{checkAst}
 use Rattle.ast.specs.CheckPage.{leafExpr, wrap, apply}
 use Rattle.agreement.proofs.Faults.{isKindRefusal, FaultClaim}
 
--- ## The node of a record
+-- ## The tree of a record
 
 -- from a list of operands, the first operand first. With another count of operands, which `apply` rules out, 2
 abbrev one : (Expr → Result Expr) → List Expr → Result Expr
@@ -43,8 +44,8 @@ construct (binary c m) es = two (λ l r. ok (Binary c m l r)) es
 construct (aggregate c m n) es = newAggregate c m es
 construct (call f n) es = ok (Call f (argsOf es))
 
-abbrev pub operandOf : Record → List Expr → Result Expr
-operandOf r es = andThen (construct r es) checkAst
+abbrev pub treeOf : Record → List Expr → Result Expr
+treeOf r es = andThen (construct r es) checkAst
 
 -- every record takes its operands alike
 enough : {A : Type 0} (b : Bool) (x y : A) → b ≡ true → x ≡ pick b x y
@@ -53,7 +54,7 @@ enough b x y e = ap (λ (c : Bool). pick c x y) (sym e)
 pub apply-operands : (r : Record) (stack : List Expr)
     → apply r stack
     ≡ pick (leb (operands r) (length stack))
-    (andThen (operandOf r (operandsOf (operands r) stack)) (λ e. ok (e ∷ drop (operands r) stack))) (refused 2)
+    (andThen (treeOf r (operandsOf (operands r) stack)) (λ e. ok (e ∷ drop (operands r) stack))) (refused 2)
 unfolding apply
 apply-operands (leaf l) stack = enough (leb 0 (length stack)) _ _ (le-leb 0 (length stack) (omega arith))
 apply-operands (wrapper w) [] = refl
@@ -78,11 +79,12 @@ isFormed (VectorSelector s t) = true
 isFormed (MatrixSelector s t r) = true
 isFormed (Call f es) = true
 
--- what the result of a record says, where it is ordinary, in place and allowed, and gives this kind and this bare number
-abbrev pub NodeClaim : Bool → Bool → Bool → Kind → Option Literal → Result Expr → Type 0
-NodeClaim ordinary inPlace allowed k l (refused x) = T (isKindRefusal x) → T inPlace × T (not allowed)
-NodeClaim ordinary inPlace allowed k l (ok e) = (T ordinary → T inPlace × T allowed) × (k ≡ valueType e) × (l ≡ scalarValue e) × T (isFormed e)
+-- what the result of a record says, where it is ordinary, in place and allowed, and gives this kind and this bare
+-- number
+abbrev pub TreeClaim : Bool → Bool → Bool → Kind → Option Literal → Result Expr → Type 0
+TreeClaim ordinary inPlace allowed k l (refused x) = T (isKindRefusal x) → T inPlace × T (not allowed)
+TreeClaim ordinary inPlace allowed k l (ok e) = (T ordinary → T inPlace × T allowed) × (k ≡ valueType e) × (l ≡ scalarValue e) × T (isFormed e)
 
-pub fromFault : (f : Option ℕ) (o p a : Bool) (e : Expr) → FaultClaim o p a f → T (isFormed e) → NodeClaim o p a (valueType e) (scalarValue e) (unless f e)
+pub fromFault : (f : Option ℕ) (o p a : Bool) (e : Expr) → FaultClaim o p a f → T (isFormed e) → TreeClaim o p a (valueType e) (scalarValue e) (unless f e)
 fromFault none o p a e h g = (h .claim, refl, refl, g)
 fromFault (some x) o p a e h g = h .claim

@@ -1,5 +1,5 @@
--- Every record: its node against what the working-out sees of it. Binary, aggregate and call records by the claims of `Faults`, the others by
--- `WrapperOperands`.
+-- Every record: its tree against what the working-out sees of it. Binary, aggregate and call records by the claims of
+-- `Faults`, the others by `WrapperTrees`.
 use Prim.Native.Nat.{ℕ}
 use mathlib.Core.Path.{_≡_, refl, sym, ap, subst}
 use mathlib.Core.Bool.{Bool, true, false, _&&_, _||_, not}
@@ -24,19 +24,19 @@ use Rattle.records.specs.LiteralException.{isExempt}
 use Rattle.working_out.specs.Asked.{areAsAsked, areDeclared, kindGiven, isInPlace}
 use Rattle.working_out.specs.WorkingOut.{bareNumber, isSetAside}
 use Rattle.agreement.proofs.Faults.{FaultClaim, fine, binaryClaim, aggregateClaim, aggregateParamClaim, callClaim}
-use Rattle.agreement.proofs.OperandOf.{operandOf, isFormed, NodeClaim, fromFault}
-use Rattle.agreement.proofs.WrapperOperands.{selectorOperand, rangeOne, subqueryOperand, atOne, offsetOne, unaryOne}
+use Rattle.agreement.proofs.TreeOf.{treeOf, isFormed, TreeClaim, fromFault}
+use Rattle.agreement.proofs.WrapperTrees.{selectorTree, rangeOne, subqueryTree, atOne, offsetOne, unaryOne}
 
 -- ## Binary expressions, aggregates, calls
 
-abbrev pub Operand : Record → List Expr → Type 0
-Operand r es =
-    NodeClaim (not (isSetAside r (map valueType es) (map scalarValue es))) (isInPlace r) (areAsAsked r (map valueType es))
-    (kindGiven r (map valueType es)) (bareNumber r (map scalarValue es)) (operandOf r es)
+abbrev pub RecordClaim : Record → List Expr → Type 0
+RecordClaim r es =
+    TreeClaim (not (isSetAside r (map valueType es) (map scalarValue es))) (isInPlace r) (areAsAsked r (map valueType es))
+    (kindGiven r (map valueType es)) (bareNumber r (map scalarValue es)) (treeOf r es)
 
-binaryNode : (c : ℕ) (m : Option BinModifier) (l r : Expr) → Operand (binary c m) (l ∷ r ∷ [])
+binaryTree : (c : ℕ) (m : Option BinModifier) (l r : Expr) → RecordClaim (binary c m) (l ∷ r ∷ [])
 unfolding checkAst
-binaryNode c m l r = fromFault _ _ _ _ (Binary c (checkedModifier c m) l r) (binaryClaim c m (valueType l) (valueType r)) tt
+binaryTree c m l r = fromFault _ _ _ _ (Binary c (checkedModifier c m) l r) (binaryClaim c m (valueType l) (valueType r)) tt
 
 -- an aggregate of at least one argument is in place by its code
 widen : {o p a : Bool} {f : Option ℕ} → FaultClaim o p a f → FaultClaim o (p && true) a f
@@ -49,18 +49,18 @@ ordinary : (o : Bool) {p a : Bool} {f : Option ℕ} → FaultClaim true p a f �
 ordinary o {p} {a} {f = none} h = fine (λ g. h .claim tt)
 ordinary o {p} {a} {f = some x} h = record { claim = h .claim }
 
-aggregateNode : (has : Bool) (c : ℕ) → hasParameter c ≡ has → (m : Option LabelModifier) (es : List Expr)
-    → NodeClaim (not (isSetAside (aggregate c m (length es)) (map valueType es) (map scalarValue es))) (isInPlace (aggregate c m (length es)))
+aggregateTree : (has : Bool) (c : ℕ) → hasParameter c ≡ has → (m : Option LabelModifier) (es : List Expr)
+    → TreeClaim (not (isSetAside (aggregate c m (length es)) (map valueType es) (map scalarValue es))) (isInPlace (aggregate c m (length es)))
     (areAsAsked (aggregate c m (length es)) (map valueType es)) vector none (andThen (newAggregateOf has c m es) checkAst)
 unfolding checkAst
-aggregateNode has c q m [] = λ k. absurd k
-aggregateNode true c q m (p ∷ []) = λ k. absurd k
-aggregateNode true c q m (p ∷ e ∷ []) =
+aggregateTree has c q m [] = λ k. absurd k
+aggregateTree true c q m (p ∷ []) = λ k. absurd k
+aggregateTree true c q m (p ∷ e ∷ []) =
     fromFault _ _ _ _ (AggregateParam c m p e) (widen (aggregateParamClaim c (valueType p) (valueType e))) tt
-aggregateNode true c q m (p ∷ e ∷ x ∷ es) = λ k. absurd k
-aggregateNode false c q m (e ∷ []) =
+aggregateTree true c q m (p ∷ e ∷ x ∷ es) = λ k. absurd k
+aggregateTree false c q m (e ∷ []) =
     fromFault _ _ _ _ (Aggregate c m e) (ordinary _ (widen (aggregateClaim c (subst (λ (b : Bool). T (not b)) (sym q) tt) (valueType e)))) tt
-aggregateNode false c q m (e ∷ x ∷ es) = λ k. absurd k
+aggregateTree false c q m (e ∷ x ∷ es) = λ k. absurd k
 
 kinds-args : (es : List Expr) → kindsOf (argsOf es) ≡ map valueType es
 kinds-args [] = refl
@@ -70,9 +70,9 @@ first-args : (es : List Expr) → firstLiteral (argsOf es) ≡ getD (map scalarV
 first-args [] = refl
 first-args (e ∷ es) = refl
 
-callNode : (f : Function) (es : List Expr) → Operand (call f (length es)) es
+callTree : (f : Function) (es : List Expr) → RecordClaim (call f (length es)) es
 unfolding checkAst
-callNode f es =
+callTree f es =
     fromFault (firstFault (callRows f (firstLiteral (argsOf es)) (kindsOf (argsOf es)))) _ _ _ (Call f (argsOf es)) claimed tt
   where
     o : Bool
@@ -101,29 +101,29 @@ callNode f es =
 
 -- ## Every record
 
-leafNode : (l : Leaf) → Operand (leaf l) []
+leafTree : (l : Leaf) → RecordClaim (leaf l) []
 unfolding checkAst
-leafNode (number l) = ((λ o. (tt, tt)), refl, refl, tt)
-leafNode (stringLeaf t) = ((λ o. (tt, tt)), refl, refl, tt)
-leafNode (selector s) = selectorOperand s noTimes
+leafTree (number l) = ((λ o. (tt, tt)), refl, refl, tt)
+leafTree (stringLeaf t) = ((λ o. (tt, tt)), refl, refl, tt)
+leafTree (selector s) = selectorTree s noTimes
 
-wrapperNode : (w : Wrapper) (e : Expr) → T (isFormed e) → Operand (wrapper w) (e ∷ [])
+wrapperTree : (w : Wrapper) (e : Expr) → T (isFormed e) → RecordClaim (wrapper w) (e ∷ [])
 unfolding checkAst
-wrapperNode (range m) e h = rangeOne m e
-wrapperNode (subquery r s) e h = subqueryOperand (isVector (valueType e)) (Subquery e r s noTimes) refl refl (λ g. g)
-wrapperNode (at a) e h = atOne a e h
-wrapperNode (offset o) e h = offsetOne o e h
-wrapperNode unary e h = unaryOne e
-wrapperNode paren e h = ((λ o. (tt, tt)), refl, refl, tt)
+wrapperTree (range m) e h = rangeOne m e
+wrapperTree (subquery r s) e h = subqueryTree (isVector (valueType e)) (Subquery e r s noTimes) refl refl (λ g. g)
+wrapperTree (at a) e h = atOne a e h
+wrapperTree (offset o) e h = offsetOne o e h
+wrapperTree unary e h = unaryOne e
+wrapperTree paren e h = ((λ o. (tt, tt)), refl, refl, tt)
 
-pub operand : (r : Record) (es : List Expr) → length es ≡ operands r → T (all isFormed es) → Operand r es
-operand (leaf l) es n h = leafNode l
-operand (wrapper w) [] n h = λ k. absurd k
-operand (wrapper w) (e ∷ []) n h = wrapperNode w e (left-of (isFormed e) true h)
-operand (wrapper w) (e ∷ x ∷ es) n h = λ k. absurd k
-operand (binary c m) [] n h = λ k. absurd k
-operand (binary c m) (l ∷ []) n h = λ k. absurd k
-operand (binary c m) (l ∷ r ∷ []) n h = binaryNode c m l r
-operand (binary c m) (l ∷ r ∷ x ∷ es) n h = λ k. absurd k
-operand (aggregate c m i) es n h = subst (λ (j : ℕ). Operand (aggregate c m j) es) n (aggregateNode (hasParameter c) c refl m es)
-operand (call f i) es n h = subst (λ (j : ℕ). Operand (call f j) es) n (callNode f es)
+pub record-claim : (r : Record) (es : List Expr) → length es ≡ operands r → T (all isFormed es) → RecordClaim r es
+record-claim (leaf l) es n h = leafTree l
+record-claim (wrapper w) [] n h = λ k. absurd k
+record-claim (wrapper w) (e ∷ []) n h = wrapperTree w e (left-of (isFormed e) true h)
+record-claim (wrapper w) (e ∷ x ∷ es) n h = λ k. absurd k
+record-claim (binary c m) [] n h = λ k. absurd k
+record-claim (binary c m) (l ∷ []) n h = λ k. absurd k
+record-claim (binary c m) (l ∷ r ∷ []) n h = binaryTree c m l r
+record-claim (binary c m) (l ∷ r ∷ x ∷ es) n h = λ k. absurd k
+record-claim (aggregate c m i) es n h = subst (λ (j : ℕ). RecordClaim (aggregate c m j) es) n (aggregateTree (hasParameter c) c refl m es)
+record-claim (call f i) es n h = subst (λ (j : ℕ). RecordClaim (call f j) es) n (callTree f es)
