@@ -1,8 +1,8 @@
--- Tests on texts a byte at a time, as the loops of `name` and `text` go. Assumes nothing.
+-- Tests on texts a byte at a time, as the loops of `name`, `ascii` and `text` go. Assumes nothing.
 use Prim.Native.Nat.{ℕ, suc, _+_, _-_, _≤_, _<_}
 use mathlib.Core.Path.{_≡_, refl, sym, ap, _∙_}
 use mathlib.Core.Bool.{Bool, true, false, not, _&&_}
-use mathlib.Core.List.{List, [], _∷_}
+use mathlib.Core.List.{List, [], _∷_, _++_}
 use native.Mathlib.Numerals.{add-one}
 use native.Mathlib.Omega.{arith}
 use lib.ListN.{length, take, drop, getD, drop-of-length-le}
@@ -21,12 +21,21 @@ module _ (p : ℕ → Bool) (l : List ℕ) (i : ℕ) where
   pub all-end : length l ≤ i → all p (drop i l) ≡ true
   all-end h = rw (drop-of-length-le l h)
 
-  -- r is the test of the byte at i
-  pub all-stop : (r : Bool) → i < length l → r ≡ p (getD l i 0) → not r ≡ true → all p l ≡ all p (drop i l) → false ≡ all p l
-  all-stop r h is no· inv = sym (inv ∙ all-step h ∙ rw (← is, not-true r no·))
+  -- x is the answer that is due, r the test of the byte at i
+  pub all-stop : (x r : Bool) → i < length l → r ≡ p (getD l i 0) → not r ≡ true → x ≡ all p (drop i l) → false ≡ x
+  all-stop x r h is no· inv = sym (inv ∙ all-step h ∙ rw (← is, not-true r no·))
 
-  pub all-go : (r : Bool) → i < length l → r ≡ p (getD l i 0) → not r ≡ false → all p l ≡ all p (drop i l) → all p l ≡ all p (drop (i + 1) l)
-  all-go r h is yes· inv = inv ∙ all-step h ∙ rw (← is, not-false r yes·)
+  pub all-go : (x r : Bool) → i < length l → r ≡ p (getD l i 0) → not r ≡ false → x ≡ all p (drop i l) → x ≡ all p (drop (i + 1) l)
+  all-go x r h is yes· inv = inv ∙ all-step h ∙ rw (← is, not-false r yes·)
+
+module _ (p : ℕ → Bool) where
+  pub all-append : (a b : List ℕ) → all p (a ++ b) ≡ all p a && all p b
+  all-append [] b = refl
+  all-append (c ∷ a) b = by-first (p c) (all-append a b)
+    where
+      by-first : (t : Bool) → all p (a ++ b) ≡ all p a && all p b → t && all p (a ++ b) ≡ (t && all p a) && all p b
+      by-first true e = e
+      by-first false e = refl
 
 -- ## isName
 

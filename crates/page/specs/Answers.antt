@@ -4,7 +4,7 @@ use mathlib.Core.Bool.{Bool, _||_}
 use mathlib.Core.List.{List}
 use mathlib.Core.Path.{_≡_}
 use lib.ListN.{length, take, drop}
-use lib.Dec.{leb, ltb, eqb}
+use lib.Dec.{leb, eqb}
 use Rattle.page.specs.Limits.{textLimit, functionNameLimit}
 use Rattle.page.specs.Read.{FieldFault, badField, pastLimit, badText, Read, refused, got, Reader, _>>=_, ensure}
 use Rattle.page.specs.Number.{readGroups}
@@ -18,7 +18,7 @@ use Rattle.page.specs.declared.number.Number.the-variants as number-answ
 use Rattle.page.specs.declared.number.Count.{Count}
 use Rattle.page.specs.declared.number.Count.the-variants as count-answer
 use Rattle.page.specs.declared.name.ByteClass.{ByteClass}
-use Rattle.page.specs.declared.name.ByteClass.the-variants.{Ascii, Letter, LetterColon, Word, WordColon}
+use Rattle.page.specs.declared.name.ByteClass.the-variants.{Alpha, AlphaColon, AlphaNumeric, AlphaNumericColon}
 use Rattle.page.specs.declared.text.Span.{Span}
 use Rattle.page.specs.declared.text.TextClass.{TextClass}
 use Rattle.page.specs.declared.text.TextClass.the-variants.{Any, MetricName, FunctionName}
@@ -55,11 +55,10 @@ countAt page (count-answer.Bad f) = refused (faultOf f)
 -- ## Texts
 
 abbrev pub inClass : ByteClass → ℕ → Bool
-inClass Ascii c = ltb c 128
-inClass Letter c = isAlpha c
-inClass LetterColon c = isAlpha c || eqb c 58
-inClass Word c = isAlphaNumeric c
-inClass WordColon c = isAlphaNumeric c || eqb c 58
+inClass Alpha c = isAlpha c
+inClass AlphaColon c = isAlpha c || eqb c 58
+inClass AlphaNumeric c = isAlphaNumeric c
+inClass AlphaNumericColon c = isAlphaNumeric c || eqb c 58
 
 abbrev pub limitOf : TextClass → ℕ
 limitOf Any = textLimit

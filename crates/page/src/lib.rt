@@ -1,5 +1,6 @@
 // The fields of a page (document 01, 'The page', house format): numbers, counts and texts, read at a position; bytes
 // written into a buffer.
+pub mod ascii;
 pub mod fault;
 pub mod limit;
 pub mod list;
@@ -8,6 +9,8 @@ pub mod number;
 pub mod text;
 pub mod write;
 
+pub use ascii::ascii_from;
+pub use ascii::is_ascii;
 pub use fault::Fault;
 pub use limit::COUNT_LIMIT;
 pub use limit::FUNCTION_NAME_LIMIT;

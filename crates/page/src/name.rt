@@ -1,16 +1,16 @@
 // Tests on the bytes of a text (lex.rs, `is_alpha`, `is_alpha_numeric`, `is_label`; document 01, 'The page').
+use crate::ascii::is_ascii;
 ghost use mathlib.Core.Path.{_≡_};
 ghost use Rattle.page.specs.Bytes.{all};
 ghost use Rattle.page.specs.Text.{isDigit, isAlpha, isName, isLabel, isMetricName, isText};
 ghost use Rattle.page.specs.Answers.{inClass};
 
-// The sets of bytes that the tests go by.
+// The sets of bytes that the tests of names go by.
 pub enum ByteClass {
-    Ascii,
-    Letter,
-    LetterColon,
-    Word,
-    WordColon,
+    Alpha,
+    AlphaColon,
+    AlphaNumeric,
+    AlphaNumericColon,
 }
 
 fn is_digit(b: u8) -> bool
@@ -29,11 +29,10 @@ pub fn byte_is(class: ByteClass, b: u8) -> bool
     ensures { λ r. ⌜ r ≡ inClass class b ⌝ }
 {
     match class {
-        ByteClass::Ascii => b < 128,
-        ByteClass::Letter => is_alpha(b),
-        ByteClass::LetterColon => is_alpha(b) | (b == b':'),
-        ByteClass::Word => is_alpha(b) | is_digit(b),
-        ByteClass::WordColon => is_alpha(b) | is_digit(b) | (b == b':'),
+        ByteClass::Alpha => is_alpha(b),
+        ByteClass::AlphaColon => is_alpha(b) | (b == b':'),
+        ByteClass::AlphaNumeric => is_alpha(b) | is_digit(b),
+        ByteClass::AlphaNumericColon => is_alpha(b) | is_digit(b) | (b == b':'),
     }
 }
 
@@ -55,7 +54,7 @@ pub fn all_in(text: &[u8], class: ByteClass) -> bool
 pub fn is_text(text: &[u8]) -> bool
     ensures { λ r. ⌜ r ≡ isText (now (text .entry)) ⌝ }
 {
-    all_in(text, ByteClass::Ascii)
+    is_ascii(text)
 }
 
 // Whether there is a first byte, in one class, and all others are in another.
@@ -74,12 +73,12 @@ pub fn is_name_of(text: &[u8], first: ByteClass, other: ByteClass) -> bool
 pub fn is_metric_name(text: &[u8]) -> bool
     ensures { λ r. ⌜ r ≡ isMetricName (now (text .entry)) ⌝ }
 {
-    is_name_of(text, ByteClass::LetterColon, ByteClass::WordColon)
+    is_name_of(text, ByteClass::AlphaColon, ByteClass::AlphaNumericColon)
 }
 
 // Labels that print bare, and function names.
 pub fn is_label(text: &[u8]) -> bool
     ensures { λ r. ⌜ r ≡ isLabel (now (text .entry)) ⌝ }
 {
-    is_name_of(text, ByteClass::Letter, ByteClass::Word)
+    is_name_of(text, ByteClass::Alpha, ByteClass::AlphaNumeric)
 }

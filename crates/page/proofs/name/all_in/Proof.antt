@@ -28,7 +28,8 @@ returns : tie.Need-returns Inv-loop μ-loop
 returns c =
     let at-loop-test = c .before .before .before in
     let at-loop = at-loop-test .before in
-    all-stop _ _ _ _ (at-loop-test .loop-test .taken) (c .before .byte-is .ensures) (c .if1 .taken) (at-loop .loop .inv)
+    all-stop _ _ _ _ _ (at-loop-test .loop-test .taken) (c .before .byte-is .ensures) (c .if1 .taken)
+    (at-loop .loop .inv)
 
 add-i : tie.Need-add-i Inv-loop μ-loop
 add-i c = search needs
@@ -40,7 +41,7 @@ loop-again : tie.Need-loop-again Inv-loop μ-loop
 loop-again c =
     let at-loop-test = c .before .before .before in
     let at-loop = at-loop-test .before in
-    all-go _ _ _ _ (at-loop-test .loop-test .taken) (c .before .byte-is .ensures) (c .if1 .left) (at-loop .loop .inv)
+    all-go _ _ _ _ _ (at-loop-test .loop-test .taken) (c .before .byte-is .ensures) (c .if1 .left) (at-loop .loop .inv)
 
 returns-2 : tie.Need-returns-2 Inv-loop μ-loop
 returns-2 c = sym (c .before .loop .inv ∙ all-end _ _ _ (c .loop-test .left))

@@ -6,20 +6,17 @@ use Rattle.page.proofs.name.byte_is.Tie as tie
 enum-told : tie.Need-enum-told
 enum-told c = search needs
 
-enum-told-2 : tie.Need-enum-told-2
-enum-told-2 c = search needs
-
 is-alpha-requires : tie.Need-is-alpha-requires
 is-alpha-requires c κs = search needs
 
-enum-told-3 : tie.Need-enum-told-3
-enum-told-3 c = search needs
+enum-told-2 : tie.Need-enum-told-2
+enum-told-2 c = search needs
 
 is-alpha-requires-2 : tie.Need-is-alpha-requires-2
 is-alpha-requires-2 c κs = search needs
 
-enum-told-4 : tie.Need-enum-told-4
-enum-told-4 c = search needs
+enum-told-3 : tie.Need-enum-told-3
+enum-told-3 c = search needs
 
 is-alpha-requires-3 : tie.Need-is-alpha-requires-3
 is-alpha-requires-3 c κs = search needs
@@ -27,8 +24,8 @@ is-alpha-requires-3 c κs = search needs
 is-digit-requires : tie.Need-is-digit-requires
 is-digit-requires c κs = search needs
 
-enum-told-5 : tie.Need-enum-told-5
-enum-told-5 c = search needs
+enum-told-4 : tie.Need-enum-told-4
+enum-told-4 c = search needs
 
 is-alpha-requires-4 : tie.Need-is-alpha-requires-4
 is-alpha-requires-4 c κs = search needs
@@ -48,26 +45,21 @@ returns-3 c = cc
 returns-4 : tie.Need-returns-4
 returns-4 c = cc
 
-returns-5 : tie.Need-returns-5
-returns-5 c = cc
-
 pub byte-is-spec : {M : Type 1} → statement M
 byte-is-spec =
     tie.close
     (tie.spec
     enum-told
-    enum-told-2
     is-alpha-requires
-    enum-told-3
+    enum-told-2
     is-alpha-requires-2
-    enum-told-4
+    enum-told-3
     is-alpha-requires-3
     is-digit-requires
-    enum-told-5
+    enum-told-4
     is-alpha-requires-4
     is-digit-requires-2
     returns
     returns-2
     returns-3
-    returns-4
-    returns-5)
+    returns-4)

@@ -1,0 +1,22 @@
+// The test of texts for a program that runs it by itself, at every start and length, and times it. No part of the
+// library: `rt staticlib text_test` makes an archive of it.
+use page::ascii_from;
+use page::is_text;
+ghost use mathlib.Core.Path.{_≡_};
+ghost use lib.ListN.{drop};
+ghost use Rattle.page.specs.Text.{isAscii, isText};
+
+#[no_mangle]
+pub extern "C" fn sandzguli_is_text(text: &[u8]) -> bool
+    ensures { λ r. ⌜ r ≡ isText (now (text .entry)) ⌝ }
+{
+    is_text(text)
+}
+
+// One byte at a time, from a position on.
+#[no_mangle]
+pub extern "C" fn sandzguli_ascii_from(text: &[u8], from: usize) -> bool
+    ensures { λ r. ⌜ r ≡ isAscii (drop from (now (text .entry))) ⌝ }
+{
+    ascii_from(text, from)
+}
