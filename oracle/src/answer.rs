@@ -6,6 +6,7 @@ use crate::page::record::{Kind, Record};
 use crate::page::{write, MAX_PAGE_BYTES, MAX_RECORDS};
 use crate::tree::{self, Pattern, Stop};
 use promql_parser::parser::Expr;
+use std::ops::Range;
 
 /// A kind, or a refusal number and the index of its record.
 #[derive(Debug, Clone, Copy, PartialEq, Eq)]
@@ -51,6 +52,7 @@ pub enum Domain {
 /// A page worked through the Rust, record by record.
 #[derive(Debug)]
 pub struct Worked<'a> {
+    pub page: &'a [u8],
     pub outcome: Outcome,
     pub label: Option<Part>,
     pub domain: Domain,
@@ -58,6 +60,8 @@ pub struct Worked<'a> {
     pub message: Option<String>,
     /// The records read, the refused one included if it was readable.
     pub records: Vec<Record<'a>>,
+    /// The bytes of the last text that is no name: where 4 is due to such a text, this one.
+    pub text: Range<usize>,
     /// The checked tree and the records of its copy, for an accepted page.
     pub checked: Option<(Expr, Vec<Record<'a>>)>,
 }
@@ -119,11 +123,13 @@ pub fn work(page: &[u8]) -> Result<Worked<'_>, Failure> {
         Outcome::Refused { .. } => None,
     };
     Ok(Worked {
+        page,
         outcome,
         label,
         domain: domain(&walk.records),
         message,
         records: walk.records,
+        text: walk.text,
         checked,
     })
 }
@@ -134,6 +140,7 @@ struct Walk<'a> {
     records: Vec<Record<'a>>,
     copied: Vec<Record<'a>>,
     accepted: usize,
+    text: Range<usize>,
 }
 
 /// A refusal by document 01, about which the Rust has nothing to say.
@@ -154,7 +161,9 @@ impl<'a> Walk<'a> {
             if self.accepted == MAX_RECORDS {
                 return Err(refused(3));
             }
-            self.records.push(reader.record().map_err(refused)?);
+            let read = reader.record();
+            self.text = reader.text.clone();
+            self.records.push(read.map_err(refused)?);
             self.apply_last()?;
             self.accepted += 1;
         }

@@ -2,7 +2,7 @@
 
 use crate::answer::{self, Answer, Domain, Failure, Outcome};
 use crate::generate::stream::{self, Sample};
-use crate::generate::{bytes, damaged, fault, good};
+use crate::generate::{bytes, damaged, fault, good, long_texts};
 use crate::random::Random;
 use std::collections::HashSet;
 
@@ -42,6 +42,7 @@ fn generated(random: &mut Random) -> Vec<Vec<u8>> {
         .collect();
     pages.extend(broken);
     pages.extend((0..100).map(|_| bytes(random)));
+    pages.extend((0..100).map(|_| long_texts::random(random).page));
     pages
 }
 

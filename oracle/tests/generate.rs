@@ -1,7 +1,7 @@
 //! Generated pages have the outcome that they were made for.
 
 use oracle::answer::{self, Outcome};
-use oracle::generate::{self, fault, limits, nesting};
+use oracle::generate::{self, fault, limits, long_texts, nesting};
 use oracle::hex;
 use oracle::page::record::Kind;
 use oracle::random::Random;
@@ -51,6 +51,20 @@ fn planted_faults_are_found() {
 fn limits_hold() {
     for limit in limits::limits() {
         assert_eq!(outcome(&limit.page), limit.expected, "{}", limit.words);
+    }
+}
+
+#[test]
+fn long_texts_are_refused_by_one_byte() {
+    let random = &mut Random::new(4);
+    let made = (0..3000).map(|_| long_texts::random(random));
+    for text in long_texts::fixed().chain(made) {
+        assert_eq!(
+            outcome(&text.page),
+            text.expected,
+            "{}",
+            hex::text(&text.page)
+        );
     }
 }
 

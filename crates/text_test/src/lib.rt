@@ -1,5 +1,5 @@
 // The test of texts for a program that runs it by itself, at every start and length, and times it. No part of the
-// library: `rt staticlib text_test` makes an archive of it.
+// library: `rt staticlib text_test` makes an archive of its own.
 use page::ascii_from;
 use page::is_text;
 ghost use mathlib.Core.Path.{_≡_};
@@ -13,7 +13,15 @@ pub extern "C" fn sandzguli_is_text(text: &[u8]) -> bool
     is_text(text)
 }
 
-// One byte at a time, from a position on.
+// The same, one byte at a time: what words are timed beside.
+#[no_mangle]
+pub extern "C" fn sandzguli_is_text_by_bytes(text: &[u8]) -> bool
+    ensures { λ r. ⌜ r ≡ isText (now (text .entry)) ⌝ }
+{
+    ascii_from(text, 0)
+}
+
+// The bytes from a position on.
 #[no_mangle]
 pub extern "C" fn sandzguli_ascii_from(text: &[u8], from: usize) -> bool
     ensures { λ r. ⌜ r ≡ isAscii (drop from (now (text .entry))) ⌝ }

@@ -19,14 +19,14 @@ use oracle::tree::Ready;
 use promql_parser::parser::Expr;
 use std::hint::black_box;
 
-const ROUNDS: usize = 60;
+pub(crate) const ROUNDS: usize = 60;
 const SEED: u64 = 1;
 
 /// A round of the library goes over its pages as often as takes about this long.
 const ROUND_NANOSECONDS: f64 = 2e6;
 
 /// Records of a page, and how many pages of that size.
-const SIZES: [(&str, usize, usize); 3] =
+pub(crate) const SIZES: [(&str, usize, usize); 3] =
     [("small", 5, 800), ("medium", 40, 100), ("large", 250, 16)];
 
 /// Room for every text.
@@ -37,8 +37,7 @@ pub fn print(library: &Library) {
     println!("nanoseconds of CPU time a page, the least of {ROUNDS} alternating rounds");
     println!("                              library        Rust   ratio");
     for (words, records, count) in SIZES {
-        let random = &mut Random::new(SEED);
-        let pages: Vec<_> = (0..count).map(|_| everyday(random, records)).collect();
+        let pages = everyday_pages(records, count);
         let subject = Subject::new(&pages);
         let bytes: usize = pages.iter().map(Vec::len).sum();
         println!("{words}: {records} records, {} bytes", bytes / count);
@@ -46,6 +45,12 @@ pub fn print(library: &Library) {
     }
     print_nested("canonical", library.canonical);
     print_nested("split", library.split);
+}
+
+/// Pages of so many records.
+pub(crate) fn everyday_pages(records: usize, count: usize) -> Vec<Vec<u8>> {
+    let random = &mut Random::new(SEED);
+    (0..count).map(|_| everyday(random, records)).collect()
 }
 
 fn print_calls(library: &Library, subject: &Subject) {
@@ -106,13 +111,13 @@ fn print_nested(name: &str, call: Writes) {
 }
 
 /// Pages, and what the Rust made of them.
-struct Subject<'a> {
+pub(crate) struct Subject<'a> {
     pages: &'a [Vec<u8>],
     worked: Vec<Worked<'a>>,
 }
 
 impl<'a> Subject<'a> {
-    fn new(pages: &'a [Vec<u8>]) -> Self {
+    pub(crate) fn new(pages: &'a [Vec<u8>]) -> Self {
         let work = |page: &'a Vec<u8>| answer::work(page).expect("the Rust is foreseen");
         Self {
             pages,
@@ -127,12 +132,12 @@ impl<'a> Subject<'a> {
         })
     }
 
-    /// The least nanoseconds a page of the library and of the Rust, in alternating rounds.
-    fn beside(&self, library: impl Fn() -> f64, rust: impl Fn() -> f64) -> (f64, f64) {
+    /// The least nanoseconds a page of the library and of what is beside it, in alternating rounds.
+    pub(crate) fn beside(&self, library: impl Fn() -> f64, other: impl Fn() -> f64) -> (f64, f64) {
         let mut least = (f64::INFINITY, f64::INFINITY);
         for _ in 0..ROUNDS {
             least.0 = least.0.min(library());
-            least.1 = least.1.min(rust());
+            least.1 = least.1.min(other());
         }
         let pages = self.pages.len() as f64;
         (least.0 / pages, least.1 / pages)
@@ -153,7 +158,7 @@ impl<'a> Subject<'a> {
         })
     }
 
-    fn asked(&self, call: Asks) -> f64 {
+    pub(crate) fn asked(&self, call: Asks) -> f64 {
         self.repeated(|| {
             for page in self.pages {
                 // SAFETY: the page is a slice.
@@ -162,7 +167,7 @@ impl<'a> Subject<'a> {
         })
     }
 
-    fn written(&self, call: Writes) -> f64 {
+    pub(crate) fn written(&self, call: Writes) -> f64 {
         let mut buffer = vec![0u8; BUFFER_BYTES];
         self.repeated(|| {
             for page in self.pages {

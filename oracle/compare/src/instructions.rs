@@ -2,10 +2,9 @@
 //! archive has the same counts in every run.
 
 use crate::callgrind::{self, Profile};
+use oracle::generate::long_texts;
 use oracle::hex;
 use std::path::Path;
-
-const CALLS: [&str; 4] = ["check", "copy", "canonical", "split"];
 
 /// Pages of so many records, a line each.
 const PAGES: [(&str, &str); 3] = [
@@ -14,51 +13,80 @@ const PAGES: [(&str, &str); 3] = [
     ("250", include_str!("../pages/250")),
 ];
 
-/// The tables of docs/SPEED.md: the title of the first column, and the figure of a column.
-type Table = (&'static str, fn(&Profile) -> u64);
-const TABLES: [Table; 3] = [
-    ("Instructions", |profile| profile.instructions),
-    ("Calls of `memcpy` and `memset`", |profile| profile.calls),
-    ("Bytes that these write", |profile| profile.bytes),
+/// A table of docs/SPEED.md: the title of the first column, and the figure of a column.
+pub type Table = (&'static str, fn(&Profile) -> u64);
+
+/// Tables with the same columns: the calls, and the pages that each is asked with.
+pub struct Set {
+    pub calls: &'static [&'static str],
+    pub pages: &'static [&'static str],
+    pub tables: &'static [Table],
+}
+
+/// All calls on pages of so many records; check on selectors with so many values of so many bytes.
+pub const SETS: [Set; 2] = [
+    Set {
+        calls: &["check", "copy", "canonical", "split"],
+        pages: &["5", "40", "250"],
+        tables: &[
+            ("Instructions", |profile| profile.instructions),
+            ("Calls of `memcpy` and `memset`", |profile| profile.calls),
+            ("Bytes that these write", |profile| profile.bytes),
+        ],
+    },
+    Set {
+        calls: &["check"],
+        pages: &[
+            "1 of 1",
+            "1 of 128",
+            "1 of 255",
+            "16 of 1",
+            "16 of 8",
+            "16 of 255",
+        ],
+        tables: &[("Instructions, values", |profile| profile.instructions)],
+    },
 ];
 
-/// The pages of so many records.
-pub fn pages(records: &str) -> Option<Vec<Vec<u8>>> {
-    let (_, lines) = PAGES.iter().find(|(size, _)| *size == records)?;
+/// The pages of a column: of so many records, or the one with so many values.
+pub fn pages(name: &str) -> Option<Vec<Vec<u8>>> {
+    if let Some((count, length)) = name.split_once(" of ") {
+        let page = long_texts::values(count.parse().ok()?, length.parse().ok()?);
+        return Some(vec![page]);
+    }
+    let (_, lines) = PAGES.iter().find(|(records, _)| *records == name)?;
     Some(lines.lines().map(hex::bytes).collect())
 }
 
-/// The columns of the tables, call by call and size by size, with what was counted.
+/// The columns of a set's tables, call by call and size by size, with what was counted.
 pub type Columns = Vec<(String, Profile)>;
 
-/// Runs the program twice for each column, with the call and the size as its words.
-pub fn count(program: &Path) -> Result<Columns, String> {
+/// Runs the program twice for each column, with the call and the pages as its words.
+pub fn count(set: &Set, program: &Path) -> Result<Columns, String> {
     let mut columns = Columns::new();
-    for call in CALLS {
-        for (records, _) in PAGES {
+    for call in set.calls {
+        for pages in set.pages {
             let function = format!("sandzguli_{call}");
-            let first = callgrind::count(&function, program, &[call, records])?;
-            let second = callgrind::count(&function, program, &[call, records])?;
+            let first = callgrind::count(&function, program, &[call, pages])?;
+            let second = callgrind::count(&function, program, &[call, pages])?;
             if first != second {
-                return Err(format!(
-                    "{call}, {records} records: {first:?}, then {second:?}"
-                ));
+                return Err(format!("{call}, {pages}: {first:?}, then {second:?}"));
             }
-            columns.push((format!("{call}, {records}"), first));
+            columns.push((format!("{call}, {pages}"), first));
         }
     }
     Ok(columns)
 }
 
-/// The tables with these counts as their only row.
-pub fn tables(columns: &Columns) -> String {
-    let table = |(title, figure): Table| {
+/// The tables of a set with these counts as their only row.
+pub fn tables(set: &Set, columns: &Columns) -> String {
+    let table = |(title, figure): &Table| {
         let figures = columns.iter().map(|(_, profile)| grouped(figure(profile)));
         let row = line("this archive", figures);
         let rule = "|---".repeat(1 + columns.len());
         format!("{}\n{rule}|\n{row}\n\n", header(title, columns))
     };
-    TABLES.map(table).concat()
+    set.tables.iter().map(table).collect()
 }
 
 fn header(title: &str, columns: &Columns) -> String {
@@ -79,9 +107,9 @@ fn grouped(number: u64) -> String {
 }
 
 /// A line for each figure that is more than one percent above the newest row of its table in the document.
-pub fn excesses(columns: &Columns, document: &str) -> Result<Vec<String>, String> {
+pub fn excesses(set: &Set, columns: &Columns, document: &str) -> Result<Vec<String>, String> {
     let mut excesses = Vec::new();
-    for (title, figure) in TABLES {
+    for (title, figure) in set.tables {
         let row = newest_row(document, &header(title, columns));
         let row = row.filter(|row| row.len() == columns.len());
         let row = row.ok_or(format!("docs/SPEED.md: no row of figures for '{title}'"))?;
@@ -90,7 +118,7 @@ pub fn excesses(columns: &Columns, document: &str) -> Result<Vec<String>, String
             if 100 * figure > 101 * newest {
                 let (figure, newest) = (grouped(figure), grouped(newest));
                 excesses.push(format!(
-                    "{title}, {name} records: {figure}, more than 1 % above {newest}"
+                    "{title}, {name}: {figure}, more than 1 % above {newest}"
                 ));
             }
         }

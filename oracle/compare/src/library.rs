@@ -39,3 +39,26 @@ impl Library {
         }
     }
 }
+
+#[cfg(feature = "before")]
+extern "C" {
+    fn before_check(page: *const u8, page_len: usize) -> u64;
+    fn before_joint_label(page: *const u8, page_len: usize) -> u64;
+    fn before_copy(page: *const u8, page_len: usize, out: *mut u8, out_len: usize) -> u64;
+    fn before_canonical(page: *const u8, page_len: usize, out: *mut u8, out_len: usize) -> u64;
+    fn before_split(page: *const u8, page_len: usize, out: *mut u8, out_len: usize) -> u64;
+}
+
+#[cfg(feature = "before")]
+impl Library {
+    /// The calls of the earlier archive that this program was built with.
+    pub fn before() -> Self {
+        Self {
+            check: before_check,
+            joint_label: before_joint_label,
+            copy: before_copy,
+            canonical: before_canonical,
+            split: before_split,
+        }
+    }
+}

@@ -4,6 +4,7 @@
 use compare::callgrind::{parse, Profile};
 use compare::instructions::{self, Columns};
 use oracle::answer::{self, Outcome};
+use oracle::page::record::{Matcher, Record};
 
 /// In callgrind's form: 16 calls of a function that calls another and `memcpy`; the other calls `memset` and one that
 /// recurses.
@@ -111,18 +112,19 @@ fn columns(figures: [u64; 2]) -> Columns {
 
 #[test]
 fn figures_above_the_newest_row_are_found() {
-    let document = instructions::tables(&columns([1_000, 2_000_000]));
+    let [set, _] = &instructions::SETS;
+    let document = instructions::tables(set, &columns([1_000, 2_000_000]));
     let newer = document.replace(
         "| 2,000,000 |",
         "| 2,000,000 |\n| newer | 1,000 | 3,000,000 |",
     );
-    let found = |figures, document: &str| instructions::excesses(&columns(figures), document);
+    let found = |figures, document: &str| instructions::excesses(set, &columns(figures), document);
     assert_eq!(found([1_010, 2_020_000], &document), Ok(vec![]));
     assert_eq!(
         found([1_011, 2_020_001], &document).map(|lines| lines.len()),
         Ok(2)
     );
-    let line = "Instructions, split, 250 records: 3,030,001, more than 1 % above 3,000,000";
+    let line = "Instructions, split, 250: 3,030,001, more than 1 % above 3,000,000";
     assert_eq!(found([900, 3_030_001], &newer), Ok(vec![line.to_string()]));
     assert!(found([1, 1], &document.replace("split, 250", "split, 40")).is_err());
     assert!(found([1, 1], &document.replace("1,000", "many")).is_err());
@@ -139,4 +141,25 @@ fn pages_have_their_records() {
             assert_eq!(answer.records, records);
         }
     }
+}
+
+#[test]
+fn pages_have_their_values() {
+    let [_, set] = &instructions::SETS;
+    for name in set.pages {
+        let pages = instructions::pages(name).expect("a page with these values");
+        let (count, length) = name.split_once(" of ").expect("a count and a length");
+        let length: usize = length.parse().expect("a length");
+        for page in pages {
+            let worked = answer::work(&page).expect("the Rust is foreseen");
+            assert!(matches!(worked.outcome, Outcome::Accepted(_)));
+            let [Record::Selector { matchers, .. }] = worked.records.as_slice() else {
+                panic!("{name}: one selector");
+            };
+            assert_eq!(matchers.len().to_string(), count);
+            let is_long = |matcher: &Matcher| matcher.value.text.len() == length;
+            assert!(matchers.iter().all(is_long), "{name}");
+        }
+    }
+    assert!(instructions::pages("7").is_none());
 }

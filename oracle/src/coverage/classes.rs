@@ -53,6 +53,13 @@ const SPLITS: &[&str] = &[
     "split: 100 bytes stay", "split: 101 bytes split", "split: three levels",
 ];
 
+#[rustfmt::skip]
+const WORDS: &[&str] = &[
+    "words: no byte", "words: less than a word", "words: whole words", "words: words and a tail", "words: 255 bytes",
+    "words: a byte above 127 after the text", "words: refused in the first word", "words: refused in a later word",
+    "words: refused in the tail",
+];
+
 pub fn all() -> Vec<String> {
     let mut classes: Vec<String> = Vec::new();
     classes.extend((1..=34).map(|number| format!("refusal {number:02}")));
@@ -70,7 +77,12 @@ pub fn all() -> Vec<String> {
         classes.push(format!("binary code {code:02}"));
         classes.push(format!("aggregate code {code:02}"));
     }
-    let named = [PARTS, TEXTS, SPLITS].concat();
+    for place in 0..8 {
+        classes.push(format!("words: text from place {place}"));
+        classes.push(format!("words: refused at place {place} of a word"));
+    }
+    classes.extend((0..7).map(|place| format!("words: refused at place {place} of the tail")));
+    let named = [PARTS, TEXTS, SPLITS, WORDS].concat();
     classes.extend(named.into_iter().map(String::from));
     classes
 }

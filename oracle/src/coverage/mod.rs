@@ -1,9 +1,11 @@
-//! Which classes of document 01 a run of pages reached: refusals, kinds, the parts of records, the rules of both texts.
+//! Which classes of document 01 a run of pages reached: refusals, kinds, the parts of records, the rules of both texts;
+//! and of document 02, No. 4, texts by words.
 
 mod classes;
 mod records;
 mod split;
 mod texts;
+mod words;
 
 use crate::answer::{Answer, Outcome, Worked};
 use std::collections::BTreeMap;
@@ -46,6 +48,7 @@ impl Coverage {
         for record in &worked.records {
             self.record(record);
         }
+        self.words(worked);
         match worked.outcome {
             Outcome::Refused { number, .. } => self.hit(format!("refusal {number:02}")),
             Outcome::Accepted(kind) => {

@@ -1,4 +1,5 @@
-//! Pages from a seed: good ones, planted faults, damaged copies, sizes at the limits, deep nesting, short and random bytes.
+//! Pages from a seed: good ones, planted faults, damaged copies, sizes at the limits, long texts, deep nesting, short
+//! and random bytes.
 
 mod call;
 pub mod codes;
@@ -6,6 +7,7 @@ mod damage;
 mod expression;
 pub mod fault;
 pub mod limits;
+pub mod long_texts;
 pub mod nesting;
 mod parts;
 pub mod stream;

@@ -1,7 +1,8 @@
 //! Counts the instructions of the library's calls with valgrind.
 //!
 //!     instructions               prints the tables, and fails where a figure is more than 1 % above docs/SPEED.md
-//!     instructions CALL RECORDS  what valgrind runs: the call on each page of so many records, once
+//!     instructions CALL PAGES    what valgrind runs: the call on each page of so many records, or on one with so many
+//!                                values (`5`, `16 of 255`), once
 
 use compare::instructions;
 use compare::library::Library;
@@ -10,7 +11,7 @@ use std::process::ExitCode;
 use std::{env, fs};
 
 const DOCUMENT: &str = concat!(env!("CARGO_MANIFEST_DIR"), "/../../docs/SPEED.md");
-const USAGE: &str = "usage: instructions [CALL RECORDS]";
+const USAGE: &str = "usage: instructions [CALL PAGES]";
 
 /// Room for every text of the pages.
 const BUFFER_BYTES: usize = 1 << 16;
@@ -43,7 +44,7 @@ fn main() -> ExitCode {
     let words: Vec<&str> = arguments.iter().map(String::as_str).collect();
     let result = match words.as_slice() {
         [] => compare(),
-        [call, records] => run(call, records),
+        [call, pages] => run(call, pages),
         _ => Err(USAGE.into()),
     };
     match result {
@@ -57,10 +58,13 @@ fn main() -> ExitCode {
 
 fn compare() -> Result<(), String> {
     let program = env::current_exe().map_err(|error| error.to_string())?;
-    let columns = instructions::count(&program)?;
-    print!("{}", instructions::tables(&columns));
     let document = fs::read_to_string(DOCUMENT).map_err(|error| format!("{DOCUMENT}: {error}"))?;
-    let excesses = instructions::excesses(&columns, &document)?;
+    let mut excesses = Vec::new();
+    for set in &instructions::SETS {
+        let columns = instructions::count(set, &program)?;
+        print!("{}", instructions::tables(set, &columns));
+        excesses.extend(instructions::excesses(set, &columns, &document)?);
+    }
     if !excesses.is_empty() {
         return Err(excesses.join("\n"));
     }
@@ -68,10 +72,10 @@ fn compare() -> Result<(), String> {
     Ok(())
 }
 
-fn run(call: &str, records: &str) -> Result<(), String> {
+fn run(call: &str, pages: &str) -> Result<(), String> {
     let library = Library::linked();
     let mut buffer = vec![0; BUFFER_BYTES];
-    for page in instructions::pages(records).ok_or(USAGE)? {
+    for page in instructions::pages(pages).ok_or(USAGE)? {
         let (start, length) = (page.as_ptr(), page.len());
         let (out, room) = (buffer.as_mut_ptr(), buffer.len());
         // SAFETY: the page is a slice, and so is the buffer.
@@ -85,7 +89,7 @@ fn run(call: &str, records: &str) -> Result<(), String> {
             }
         };
         if word >> 63 == 1 {
-            return Err(format!("{call}, {records} records: a page is refused"));
+            return Err(format!("{call}, {pages}: a page is refused"));
         }
     }
     Ok(())

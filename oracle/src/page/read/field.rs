@@ -3,6 +3,7 @@
 use super::super::record::Text;
 use super::super::{MAX_LIST, MAX_NUMBER, MAX_TEXT_BYTES};
 use std::borrow::Cow;
+use std::ops::Range;
 
 /// The refusal number of a field: 1 (cut short, bad number or code), 3 (limit passed) or 4 (text not allowed).
 pub type Fault = u8;
@@ -16,11 +17,17 @@ const TEXT: Fault = 4;
 pub struct Reader<'a> {
     page: &'a [u8],
     at: usize,
+    /// The bytes of the last text that is no name, allowed or not.
+    pub text: Range<usize>,
 }
 
 impl<'a> Reader<'a> {
     pub fn new(page: &'a [u8]) -> Self {
-        Self { page, at: 0 }
+        Self {
+            page,
+            at: 0,
+            text: 0..0,
+        }
     }
 
     /// Where the next field begins.
@@ -67,8 +74,8 @@ impl<'a> Reader<'a> {
         Ok(count as usize)
     }
 
-    /// A text of at most `limit` bytes that passes `is_allowed`.
-    pub fn text_within(&mut self, limit: u64, is_allowed: fn(&str) -> bool) -> Read<Text<'a>> {
+    /// The bytes of a text of at most `limit` bytes.
+    fn text_bytes(&mut self, limit: u64) -> Read<Range<usize>> {
         let length = self.number()?;
         let start = self.at;
         if length > (self.page.len() - start) as u64 {
@@ -78,8 +85,13 @@ impl<'a> Reader<'a> {
             return Err(LIMIT);
         }
         self.at += length as usize;
-        let bytes = &self.page[start..self.at];
-        let text = std::str::from_utf8(bytes).map_err(|_| TEXT)?;
+        Ok(start..self.at)
+    }
+
+    /// The text of these bytes, if it passes `is_allowed`.
+    fn allowed(&self, bytes: Range<usize>, is_allowed: fn(&str) -> bool) -> Read<Text<'a>> {
+        let start = bytes.start;
+        let text = std::str::from_utf8(&self.page[bytes]).map_err(|_| TEXT)?;
         if !text.is_ascii() || !is_allowed(text) {
             return Err(TEXT);
         }
@@ -89,8 +101,15 @@ impl<'a> Reader<'a> {
         })
     }
 
+    /// A name of at most `limit` bytes that passes `is_allowed`.
+    pub fn name(&mut self, limit: u64, is_allowed: fn(&str) -> bool) -> Read<Text<'a>> {
+        let bytes = self.text_bytes(limit)?;
+        self.allowed(bytes, is_allowed)
+    }
+
     pub fn text(&mut self) -> Read<Text<'a>> {
-        self.text_within(MAX_TEXT_BYTES, |_| true)
+        self.text = self.text_bytes(MAX_TEXT_BYTES)?;
+        self.allowed(self.text.clone(), |_| true)
     }
 
     pub fn list<T>(&mut self, element: fn(&mut Self) -> Read<T>) -> Read<Vec<T>> {

@@ -46,7 +46,7 @@ impl<'a> Reader<'a> {
 
     fn selector(&mut self) -> Read<Record<'a>> {
         Ok(Record::Selector {
-            name: self.text_within(MAX_TEXT_BYTES, is_metric_name_or_empty)?,
+            name: self.name(MAX_TEXT_BYTES, is_metric_name_or_empty)?,
             matchers: self.list(Self::matcher)?,
         })
     }
@@ -169,7 +169,7 @@ impl<'a> Reader<'a> {
 
     fn call(&mut self) -> Read<Record<'a>> {
         let signature = Signature {
-            name: self.text_within(MAX_FUNCTION_NAME_BYTES, is_function_name)?,
+            name: self.name(MAX_FUNCTION_NAME_BYTES, is_function_name)?,
             kinds: self.list(Self::kind)?,
             extra: self.extra()?,
             result: self.kind()?,

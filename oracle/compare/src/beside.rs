@@ -1,0 +1,47 @@
+//! Two archives of the library timed in one run, on the same pages, in alternating rounds: CPU time, the least of the
+//! rounds.
+
+use crate::bench::{everyday_pages, Subject, ROUNDS, SIZES};
+use crate::instructions;
+use crate::library::{Library, Writes};
+
+/// Prints nanoseconds a page: all calls on pages of three sizes, then check on selectors with long values.
+pub fn print(before: &Library, after: &Library) {
+    println!("nanoseconds of CPU time a page, the least of {ROUNDS} alternating rounds");
+    println!("                           before       after   ratio");
+    for (_, records, count) in SIZES {
+        let pages = everyday_pages(records, count);
+        let subject = Subject::new(&pages);
+        println!("{records} records");
+        print_check("check", &subject, before, after);
+        print_writes("copy", &subject, before.copy, after.copy);
+        print_writes("canonical", &subject, before.canonical, after.canonical);
+        print_writes("split", &subject, before.split, after.split);
+    }
+    let [_, values] = &instructions::SETS;
+    println!("check, values of so many bytes");
+    for name in values.pages {
+        let pages = instructions::pages(name).expect("a page with these values");
+        print_check(name, &Subject::new(&pages), before, after);
+    }
+}
+
+fn print_check(words: &str, subject: &Subject, before: &Library, after: &Library) {
+    let times = subject.beside(
+        || subject.asked(before.check),
+        || subject.asked(after.check),
+    );
+    print_row(words, times);
+}
+
+fn print_writes(words: &str, subject: &Subject, before: Writes, after: Writes) {
+    let times = subject.beside(|| subject.written(before), || subject.written(after));
+    print_row(words, times);
+}
+
+fn print_row(words: &str, (before, after): (f64, f64)) {
+    println!(
+        "    {words:<18} {before:>10.0}  {after:>10.0}  {:>6.2}",
+        before / after
+    );
+}
