@@ -25,7 +25,8 @@ module _ (p : ℕ → Bool) (l : List ℕ) (i : ℕ) where
   pub all-stop : (x r : Bool) → i < length l → r ≡ p (getD l i 0) → not r ≡ true → x ≡ all p (drop i l) → false ≡ x
   all-stop x r h is no· inv = sym (inv ∙ all-step h ∙ rw (← is, not-true r no·))
 
-  pub all-go : (x r : Bool) → i < length l → r ≡ p (getD l i 0) → not r ≡ false → x ≡ all p (drop i l) → x ≡ all p (drop (i + 1) l)
+  pub all-go : (x r : Bool) → i < length l → r ≡ p (getD l i 0) → not r ≡ false → x ≡ all p (drop i l)
+      → x ≡ all p (drop (i + 1) l)
   all-go x r h is yes· inv = inv ∙ all-step h ∙ rw (← is, not-false r yes·)
 
 module _ (p : ℕ → Bool) where

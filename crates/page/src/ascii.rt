@@ -16,9 +16,9 @@ fn wide(b: u8) -> u64
 fn word(b0: u8, b1: u8, b2: u8, b3: u8, b4: u8, b5: u8, b6: u8, b7: u8) -> u64
     ensures { λ r. ⌜ r ≡ wordOf (b0 ∷ b1 ∷ b2 ∷ b3 ∷ b4 ∷ b5 ∷ b6 ∷ b7 ∷ []) ⌝ }
 {
-    let low = wide(b0) + wide(b1) * 256 + wide(b2) * 65536 + wide(b3) * 16777216;
-    let high = wide(b4) + wide(b5) * 256 + wide(b6) * 65536 + wide(b7) * 16777216;
-    low + high * 4294967296
+    let low = wide(b0) + wide(b1) * 0x100 + wide(b2) * 0x1_0000 + wide(b3) * 0x100_0000;
+    let high = wide(b4) + wide(b5) * 0x100 + wide(b6) * 0x1_0000 + wide(b7) * 0x100_0000;
+    low + high * 0x1_0000_0000
 }
 
 // A word passes exactly when its eight bytes do: none of them has its highest bit set.
@@ -28,8 +28,8 @@ pub fn word_passes(b0: u8, b1: u8, b2: u8, b3: u8, b4: u8, b5: u8, b6: u8, b7: u
     word(b0, b1, b2, b3, b4, b5, b6, b7) & 0x8080_8080_8080_8080 == 0
 }
 
-// The bytes from a position on, one at a time; none where it lies past the text's end. The loop asks with `!=` whether the
-// end is reached, which takes two instructions a byte less than `<`.
+// The bytes from a position on, one at a time; there are none past the text's end. The loop asks with `!=` whether it is
+// at the end, which takes two instructions a byte less than `<`.
 pub fn ascii_from(text: &[u8], from: usize) -> bool
     ensures { λ r. ⌜ r ≡ isAscii (drop from (now (text .entry))) ⌝ }
 {
