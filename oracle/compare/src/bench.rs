@@ -1,12 +1,13 @@
 //! The library timed beside the Rust: the same pages, alternating rounds, CPU time, the least of the rounds.
 //!
-//! The library is timed whole, from the bytes of the page: reading, checking, writing into a buffer. The Rust gets a ready
-//! page, in three ways. 'constructors': records read and their parts made (matchers with compiled patterns, label lists,
-//! signatures); only `Expr::new_*` and `check_ast` are timed, trees are dropped outside the time. 'from records': the parts
-//! are made and the tree is dropped within the time, but each pattern was compiled before and is taken from a cache.
-//! 'compiling': the same with `Matcher::new_matcher`, which compiles its pattern each time; the library has the page's flag
-//! instead and compiles nothing. `Display` and `prettify` are timed on ready trees. 'ends of records' is no call of the
-//! library: a loop that finds where records end and tests nothing, beside the 'constructors', as a floor for every check.
+//! The library is timed whole, from the bytes of the page: reading, checking, writing into a buffer. The Rust gets a
+//! ready page, in three ways. 'constructors': records read and their parts made (matchers with compiled patterns, label
+//! lists, signatures); only `Expr::new_*` and `check_ast` are timed, trees are dropped outside the time. 'from
+//! records': the parts are made and the tree is dropped within the time, but each pattern was compiled before and is
+//! taken from a cache. 'compiling': the same with `Matcher::new_matcher`, which compiles its pattern each time; the
+//! library has the page's flag instead and compiles nothing. `Display` and `prettify` are timed on ready trees. 'ends
+//! of records' is no call of the library: a loop that finds where records end and tests nothing, beside the
+//! 'constructors', as a floor for every check.
 
 use crate::clock::nanoseconds;
 use crate::ends;

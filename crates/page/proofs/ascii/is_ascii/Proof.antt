@@ -1,6 +1,5 @@
--- `page::ascii::is_ascii` meets its contract. The loop's
--- invariant: the position lies in the text, and what is left from
--- there decides. Assumes nothing.
+-- `page::ascii::is_ascii` meets its contract. The loop's invariant: the position lies in the text, and what is left
+-- from there decides. Assumes nothing.
 use Rattle.page.proofs.AsciiLaws.{word-stop, word-go}
 use Rattle.page.specs.Text.{isAscii}
 use lib.ListN.{length, drop}

@@ -1,7 +1,7 @@
 -- `page::ascii::word_passes` meets its contract: the mask is the highest bits of eight bytes, and the law of words is
 -- for any number of them. Assumes nothing.
 use Rattle.page.proofs.AsciiLaws.{word-passes}
-use mathlib.Core.Path.{_≡_, ap, _∙_}
+use mathlib.Core.Path.{ap, _∙_}
 use mathlib.Core.List.{[], _∷_}
 use Prim.Native.Nat.{ℕ}
 use lib.Dec.{eqb}
