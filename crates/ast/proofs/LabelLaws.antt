@@ -1,7 +1,7 @@
 -- A page that the check refuses with 19 has its label at the part that `labelPart` answers: the record named is a
 -- binary record with a label in both lists (`apply-refuses`), and `readJoint` at that record finds the first one, with
 -- its place (`readJoint-written`). Assumes nothing.
-use Prim.Native.Nat.{ℕ, _+_, _-_, _≤_}
+use Prim.Native.Nat.{ℕ, zero, suc, _+_, _-_, _≤_}
 use mathlib.Core.Path.{_≡_, refl, sym, ap, ap₂, _∙_, subst}
 use mathlib.Core.Bool.{Bool, true, false, not}
 use mathlib.Core.List.{List, [], _∷_, _++_, append-assoc}
@@ -14,13 +14,16 @@ use lib.Dec.{T}
 use Rattle.page.specs.Bytes.{pick, all, any}
 use Rattle.page.specs.Read.{badField, pastLimit, badText, got}
 use Rattle.page.specs.Number.{writeNumber}
-use Rattle.page.specs.Text.{Text, writeText, writeAll}
+use Rattle.page.specs.Text.{Text, isText, writeText, writeAll}
+use Rattle.page.specs.Allowed.{Each}
 use Rattle.page.proofs.NumberLaws.{left-of, right-of, isByte}
 use Rattle.records.specs.Literal.{writeLiteral}
 use Rattle.records.specs.Field.{Labels, writeFlag, writeOption}
 use Rattle.records.specs.Modifier.{BinModifier, Cardinality, oneToOne, manyToMany, manyToOne, oneToMany, writeLabelModifier, writeCardinality}
 use Rattle.records.specs.Record.{Record, leaf, wrapper, binary, aggregate, call, readRecord, writeRecord, Ending, end, unreadable, readPage}
 use Rattle.records.specs.Outcome.{Outcome, refusal}
+use Rattle.records.specs.Allowed.{IsAnyText, IsCardinality, IsAllowed}
+use Rattle.records.proofs.PageLaws.{readPage-allowed}
 use Rattle.ast.specs.Refusal.{Result}
 use Rattle.ast.specs.Expr.{Expr}
 use Rattle.ast.specs.CheckAst.{hasLabel, onLabels, groupLabels, checkAst}
@@ -261,3 +264,29 @@ unfolding readRecord readPage checkAst apply checkPage labelPart
 label-of-on h =
     let same : _≡_ {A = ℕ} 19 23 = ap (λ (p : Part). p .start) (label-unique h (labelPart-joint jointPage tt 2 refl)) in
     omega arith
+
+-- ## The label is well-formed UTF-8
+
+each-at : (i : ℕ) (rs : List Record) (r : Record) (later : List Record) → Each IsAllowed rs → drop i rs ≡ r ∷ later
+    → IsAllowed r
+each-at zero [] r later a e = absurd (let z : _≡_ {A = ℕ} 0 1 = cc in omega arith)
+each-at zero (x ∷ rs) r later a e = let same : x ≡ r = cc in subst IsAllowed same (a .0)
+each-at (suc i) [] r later a e = absurd (let z : _≡_ {A = ℕ} 0 1 = cc in omega arith)
+each-at (suc i) (x ∷ rs) r later a e = each-at i rs r later (a .1) e
+
+each-among : (earlier : Labels) (label : Text) (more : Labels) → Each IsAnyText (earlier ++ (label ∷ more))
+    → IsAnyText label
+each-among [] label more a = a .0
+each-among (l ∷ earlier) label more a = each-among earlier label more (a .1)
+
+group-allowed : (c : Cardinality) → IsCardinality c → Each IsAnyText (groupLabels c)
+group-allowed oneToOne a = tt
+group-allowed manyToMany a = tt
+group-allowed (manyToOne ls) a = a .1
+group-allowed (oneToMany ls) a = a .1
+
+pub label-utf8 : {page : List ℕ} {i : ℕ} {part : Part} → HoldsJointLabel page i part → T (isText (partOf page part))
+label-utf8 {page} {i} h =
+    let allowed = each-at i (readPage page .records) _ (h .later) (readPage-allowed page) (h .isRecord) in
+    let group = subst (Each IsAnyText) (h .isGroup) (group-allowed (h .modifier .card) (allowed .1 .1)) in
+    rw (h .holds) (each-among (h .earlier) (h .label) (h .more) group .1)

@@ -1,16 +1,14 @@
 -- What a call that writes a text asks: an accepted page has a record, and the length, measured up to one byte more than
 -- the room, says whether the text fits. And 65,536 bytes hold every canonical text. Assumes nothing.
 use Prim.Native.Nat.{ℕ, suc, _+_, _-_, _≤_, _<_, min}
-use mathlib.Core.Path.{_≡_, refl, ap, subst, _∙_}
+use mathlib.Core.Path.{_≡_, refl, ap, subst}
 use mathlib.Core.Bool.{true, false}
 use mathlib.Core.List.{List, [], _∷_}
 use native.Mathlib.Omega.{arith}
 use borrow.Author.Tests.{le-leb, lt-leb}
 use lib.ListN.{length}
-use lib.Seq.{take-all}
 use lib.Dec.{T, leb}
 use Rattle.page.specs.Bytes.{all}
-use Rattle.page.specs.Limits.{recordLimit}
 use Rattle.page.proofs.NumberLaws.{isByte}
 use Rattle.records.specs.Kind.{Kind}
 use Rattle.records.specs.Outcome.{answer, refusal}
@@ -19,14 +17,15 @@ use Rattle.ast.specs.Expr.{Expr, valueType}
 use Rattle.ast.specs.Walk.{Walked, stack, stopped, Checked, accepted, refusedAt, atEnd, finished, walk}
 use Rattle.ast.specs.CheckPage.{apply, checkPage}
 use Rattle.ast.specs.Table.{isOfCheck}
-use Rattle.ast.specs.Tables.{entries, newest, stackAt, treeAt, Tables}
-use Rattle.ast.proofs.WalkLaws.{CheckedIn, checkPage-in, page-limit}
+use Rattle.ast.specs.Tables.{Tables}
+use Rattle.ast.proofs.WalkLaws.{CheckedIn, checkPage-in}
 use Rattle.walk.specs.Answers.{Accepts}
 use Rattle.text.specs.Display.{display}
 use Rattle.text.proofs.RoomLaws.{display-room}
 use Rattle.copy.proofs.CopyLaws.{accepted-walks}
 use Rattle.copy.proofs.StartsLaws.{readPage-reads}
 use Rattle.outcomes.specs.Calls.{tooShort, writing, canonicalText}
+use Rattle.outcomes.proofs.WellFormedLaws.{last-tree}
 
 -- ## An accepted page has a record
 
@@ -73,13 +72,6 @@ pub room-fits : (text room size : ℕ) → size ≡ min text (room + 1) → size
 room-fits text room size e h = omega arith
 
 -- ## Room for every canonical text
-
--- after 256 records, or all that there are, stands the accepted tree alone
-last-tree : (page : List ℕ) {e : Expr} {n : ℕ} → checkPage page ≡ accepted e n → treeAt page 255 ≡ e
-unfolding checkPage treeAt stackAt
-last-tree page {e} {n} h =
-    ap (λ (w : Walked Expr). newest (entries w))
-    (ap (walk apply 0 []) (take-all recordLimit (readPage page .records) (page-limit page)) ∙ accepted-walks (readPage page) e n h .1)
 
 pub canonical-room : (page : List ℕ) {e : Expr} {n : ℕ} → T (all isByte page) → checkPage page ≡ accepted e n → length (display e) ≤ 65536
 unfolding checkPage

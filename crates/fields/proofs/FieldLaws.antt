@@ -27,7 +27,7 @@ use Rattle.float.specs.Exact.{ModifierExact}
 use Rattle.ast.specs.Expr.{scalarValue}
 use Rattle.ast.specs.Tables.{treeAt}
 use Rattle.text.specs.LaidOut.{Reads}
-use Rattle.text.proofs.SoundLaws.{allowed}
+use Rattle.text.proofs.EntryLaws.{allowed}
 use Rattle.fields.specs.Fields.{CallAt, HasCode, AggregateAt}
 use Rattle.view.specs.View.{Starts, FootAt, NodeAt}
 use Rattle.view.specs.declared.Foot.{Foot}

@@ -7,3 +7,4 @@ pub mod SortLaws
 pub mod CollectLaws
 pub mod JoinLaws
 pub mod LengthLaws
+pub mod WellFormedLaws

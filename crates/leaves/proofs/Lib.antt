@@ -5,3 +5,4 @@ pub mod PartLaws
 pub mod NumeralLaws
 pub mod TimeLaws
 pub mod LengthLaws
+pub mod WellFormedLaws

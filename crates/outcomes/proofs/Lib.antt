@@ -1,2 +1,3 @@
 pub mod CallsLaws
 pub mod CopyAgainLaws
+pub mod WellFormedLaws

@@ -2,3 +2,4 @@ pub mod Calls
 pub mod Demand1
 pub mod Output
 pub mod Examples
+pub mod Utf8Pages

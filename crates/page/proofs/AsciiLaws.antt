@@ -7,8 +7,8 @@ use mathlib.Core.List.{List, [], _∷_, _++_}
 use native.Mathlib.Omega.{arith}
 use native.Mathlib.Nat.{lt-of-not-le}
 use native.Mathlib.Decide.{decLe}
-use lib.ListN.{length, drop, getD}
-use lib.Seq.{drop-cons}
+use lib.ListN.{length, take, drop, getD, take-append-drop}
+use lib.Seq.{drop-cons, drop-drop}
 use lib.Dec.{eqb, ltb, lit<}
 use lib.Bits.{bitAnd, and-block, and-comm, and-shifted}
 use borrow.Author.Tests.{not-true, not-false, ne-eqb, eq-eqb, lt-ltb, le-ltb}
@@ -59,14 +59,11 @@ word-passes (b ∷ bs) (h, hs) =
 
 -- ## A word of a text
 
--- the eight bytes from i on
-abbrev eight : List ℕ → ℕ → List ℕ
-eight l i =
-    getD l i 0 ∷ getD l (i + 1) 0 ∷ getD l (i + 2) 0 ∷ getD l (i + 3) 0 ∷ getD l (i + 4) 0 ∷ getD l (i + 5) 0
+-- the eight bytes from i on, one by one
+pub take-eight : (l : List ℕ) (i : ℕ) → 8 ≤ length l - i → take 8 (drop i l)
+    ≡ getD l i 0 ∷ getD l (i + 1) 0 ∷ getD l (i + 2) 0 ∷ getD l (i + 3) 0 ∷ getD l (i + 4) 0 ∷ getD l (i + 5) 0
     ∷ getD l (i + 6) 0 ∷ getD l (i + 7) 0 ∷ []
-
-drop-eight : (l : List ℕ) (i : ℕ) → 8 ≤ length l - i → drop i l ≡ eight l i ++ drop (i + 8) l
-drop-eight l i h =
+take-eight l i h =
     rw (
       next i (i + 1) (omega arith) (omega arith),
       next (i + 1) (i + 2) (omega arith) (omega arith),
@@ -81,12 +78,16 @@ drop-eight l i h =
     next : (j k : ℕ) → suc j ≡ k → j < length l → drop j l ≡ getD l j 0 ∷ drop k l
     next j k e h = drop-cons l j 0 h ∙ ap (λ (n : ℕ). getD l j 0 ∷ drop n l) e
 
+-- a word, and what stands after it
+pub word-apart : (l : List ℕ) (i : ℕ) → drop i l ≡ take 8 (drop i l) ++ drop (i + 8) l
+word-apart l i =
+    sym (take-append-drop 8 (drop i l)) ∙ ap (λ (t : List ℕ). take 8 (drop i l) ++ t) (drop-drop 8 i l)
+
 -- x is the answer that is due, r the test of the word at i
-module _ (l : List ℕ) (i : ℕ) (x r : Bool) (inv : x ≡ isAscii (drop i l)) (h : 8 ≤ length l - i)
-    (is : r ≡ isAscii (eight l i)) where
+module _ (l : List ℕ) (i : ℕ) (x r : Bool) (inv : x ≡ isAscii (drop i l)) (is : r ≡ isAscii (take 8 (drop i l))) where
   word-step : x ≡ r && isAscii (drop (i + 8) l)
   word-step =
-      inv ∙ ap isAscii (drop-eight l i h) ∙ all-append (λ c. ltb c 128) (eight l i) (drop (i + 8) l)
+      inv ∙ ap isAscii (word-apart l i) ∙ all-append (λ c. ltb c 128) (take 8 (drop i l)) (drop (i + 8) l)
       ∙ ap (λ (t : Bool). t && isAscii (drop (i + 8) l)) (sym is)
 
   pub word-stop : not r ≡ true → false ≡ x

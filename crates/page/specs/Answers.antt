@@ -1,13 +1,13 @@
 -- What the answers of the reading functions mean on a page: a position stands for the bytes from there on.
-use Prim.Native.Nat.{ℕ, _-_, _≤_}
+use Prim.Native.Nat.{ℕ, zero, suc, _-_, _≤_, _<_}
 use mathlib.Core.Bool.{Bool, _||_}
 use mathlib.Core.List.{List}
 use mathlib.Core.Path.{_≡_}
-use lib.ListN.{length, take, drop}
+use lib.ListN.{length, take, drop, getD}
 use lib.Dec.{leb, eqb}
 use Rattle.page.specs.Limits.{textLimit, functionNameLimit}
 use Rattle.page.specs.Read.{FieldFault, badField, pastLimit, badText, Read, refused, got, Reader, _>>=_, ensure}
-use Rattle.page.specs.Number.{readGroups}
+use Rattle.page.specs.Number.{readGroups, readNumber}
 use Rattle.page.specs.Text.{isAlpha, isAlphaNumeric, isText, isSelectorName, isLabel, readText}
 use Rattle.page.specs.Text as text
 use Rattle.page.specs.Listed.{listed, AllRead}
@@ -90,6 +90,19 @@ textAt page (text-answer.Bad f) = refused (faultOf f)
 abbrev pub textLies : List ℕ → Text → Type 0
 textLies page (text-answer.Got s) = Lies page s
 textLies page (text-answer.Bad f) = Unit {0}
+
+-- the length of a text at `at` ends before r, and its first byte is the text's size; 0 says nothing
+abbrev pub SizeEnds : List ℕ → ℕ → ℕ → Type 0
+SizeEnds page at zero = Unit {0}
+SizeEnds page at (suc r) =
+    (at < length page) × (suc r ≤ length page) × (got (getD page at 0) (drop (suc r) page) ≡ readNumber (drop at page))
+
+-- the bytes of the text at `at` stand from start to r; 0 says nothing
+abbrev pub TextEnds : List ℕ → ℕ → ℕ → ℕ → Type 0
+TextEnds page at start zero = Unit {0}
+TextEnds page at start (suc r) =
+    (start ≤ suc r) × (suc r ≤ length page)
+    × (got (take (suc r - start) (drop start page)) (drop (suc r) page) ≡ text.readAnyText (drop at page))
 
 -- a position on the page that stands for the same bytes as another
 pub record Within (page : List ℕ) (at r : ℕ) : Type 0 where

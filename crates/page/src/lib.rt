@@ -7,6 +7,7 @@ pub mod list;
 pub mod name;
 pub mod number;
 pub mod text;
+pub mod utf8;
 pub mod write;
 
 pub use ascii::ascii_from;

@@ -1,5 +1,6 @@
 // Tests on the bytes of a text (lex.rs, `is_alpha`, `is_alpha_numeric`, `is_label`; document 01, 'The page').
 use crate::ascii::is_ascii;
+use crate::utf8::is_utf8;
 ghost use mathlib.Core.Path.{_≡_};
 ghost use Rattle.page.specs.Bytes.{all};
 ghost use Rattle.page.specs.Text.{isDigit, isAlpha, isName, isLabel, isMetricName, isText};
@@ -50,11 +51,14 @@ pub fn all_in(text: &[u8], class: ByteClass) -> bool
     true
 }
 
-// The one test of texts that are no names: bytes below 128.
+// The one test of texts that are no names. Most of them are ASCII, and are tested by words alone.
 pub fn is_text(text: &[u8]) -> bool
     ensures { λ r. ⌜ r ≡ isText (now (text .entry)) ⌝ }
 {
-    is_ascii(text)
+    if is_ascii(text) {
+        return true;
+    }
+    is_utf8(text)
 }
 
 // Whether there is a first byte, in one class, and all others are in another.

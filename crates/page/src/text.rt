@@ -1,4 +1,5 @@
 // Texts: a length and bytes, one field. Cut short is a bad field, then too long, then not allowed.
+use crate::ascii::is_ascii;
 use crate::fault::Fault;
 use crate::limit::FUNCTION_NAME_LIMIT;
 use crate::limit::TEXT_LIMIT;
@@ -13,7 +14,8 @@ ghost use Rattle.page.specs.Bytes.{equal};
 ghost use Rattle.page.specs.Read.{got};
 ghost use Rattle.page.specs.Text.{isSelectorName, readAnyText};
 ghost use Rattle.page.specs.Listed.{Readable};
-ghost use Rattle.page.specs.Answers.{limitOf, allowedBy, readTextOf, spanOn, Lies, textAt, textLies, Within};
+ghost use Rattle.page.specs.Answers.{limitOf, allowedBy, readTextOf, spanOn, Lies, textAt, textLies, SizeEnds};
+ghost use Rattle.page.specs.Answers.{TextEnds, Within};
 
 // A part of the page, from its first byte to the position after its last.
 pub struct Span {
@@ -74,7 +76,8 @@ pub enum Text {
     Bad(Fault),
 }
 
-pub fn read_text(page: &[u8], at: usize, class: TextClass) -> Text
+// Any text, by its class: its length, that it is whole, its limit, its test.
+fn read_by_class(page: &[u8], at: usize, class: TextClass) -> Text
     ensures reads { λ r. ⌜ textAt (now (page .entry)) r ≡ readTextOf class (drop at (now (page .entry))) ⌝ }
     ensures lies { λ r. ⌜ textLies (now (page .entry)) r ⌝ }
 {
@@ -101,6 +104,68 @@ pub fn read_text(page: &[u8], at: usize, class: TextClass) -> Text
             }
         }
         Number::Bad => Text::Bad(Fault::BadField),
+    }
+}
+
+// Where the bytes of a text start whose length has one byte, or two with 1 for the second: the first byte is then its
+// size. 0 where its length is another, or none.
+fn size_end(page: &[u8], at: usize) -> usize
+    ensures { λ r. ⌜ SizeEnds (now (page .entry)) at r ⌝ }
+{
+    if page.len() <= at {
+        return 0;
+    }
+    if page[at] < 128 {
+        return at + 1;
+    }
+    if page.len() <= at + 1 {
+        return 0;
+    }
+    if page[at + 1] == 1 {
+        return at + 2;
+    }
+    0
+}
+
+// The end of such a text where it is whole and ASCII, else 0.
+fn ascii_end(page: &[u8], at: usize, start: usize) -> usize
+    requires { ⌜ SizeEnds (now page) at start ⌝ }
+    ensures { λ r. ⌜ TextEnds (now (page .entry)) at start r ⌝ }
+{
+    if start == 0 {
+        return 0;
+    }
+    let size = page[at] as usize;
+    if page.len() - start < size {
+        return 0;
+    }
+    let end = start + size;
+    if is_ascii(&page[start..end]) {
+        return end;
+    }
+    0
+}
+
+// Texts that are no names are ASCII and at most 255 bytes long every day: this part is small enough for the compiler to
+// put it into each reader. All else goes the long way.
+pub fn read_text(page: &[u8], at: usize, class: TextClass) -> Text
+    ensures reads { λ r. ⌜ textAt (now (page .entry)) r ≡ readTextOf class (drop at (now (page .entry))) ⌝ }
+    ensures lies { λ r. ⌜ textLies (now (page .entry)) r ⌝ }
+{
+    match class {
+        TextClass::Any => {
+            let start = size_end(page, at);
+            let end = ascii_end(page, at, start);
+            if end == 0 {
+                return read_by_class(page, at, class);
+            }
+            Text::Got(Span {
+                start: start,
+                end: end,
+            })
+        }
+        TextClass::MetricName => read_by_class(page, at, class),
+        TextClass::FunctionName => read_by_class(page, at, class),
     }
 }
 

@@ -12,7 +12,10 @@ use Rattle.base.proofs.Cases.{by-flag}
 use Rattle.page.specs.Limits.{pageLimit}
 use Rattle.page.specs.Read.{got}
 use Rattle.records.specs.Literal.{Literal, negate}
-use Rattle.records.specs.Record.{Leaf, number, string, selector, Wrapper, unary, Record, leaf, wrapper, operands, readPage}
+use Rattle.records.specs.Record.{Leaf, number, string, selector, Wrapper, unary, Record, leaf, wrapper, operands}
+use Rattle.records.specs.Record.{readRecord, readPage}
+use Rattle.records.specs.Allowed.{IsAllowed}
+use Rattle.records.proofs.AllowedLaws.{readRecord-gives}
 use Rattle.ast.specs.Refusal.{ok}
 use Rattle.ast.specs.Expr.{Expr, Aggregate, AggregateParam, Unary, Binary, Paren, Subquery, NumberLiteral}
 use Rattle.ast.specs.Expr.{StringLiteral, VectorSelector, MatrixSelector, Call, scalarValue}
@@ -28,7 +31,10 @@ unfolding stackAt readPage
 long-empty page zero f = refl
 long-empty page (suc k) f = rw f
 
--- ## What was made of a record
+-- ## What was read and made of a record
+
+pub allowed : (bytes· : List ℕ) {item : Record} {rest : List ℕ} → got item rest ≡ readRecord bytes· → IsAllowed item
+allowed bytes· h = rw (← h) at (readRecord-gives .gives bytes·)
 
 pub tree-of : (page : List ℕ) (j : ℕ) {e : Expr} {below : List Expr} → PushedNode (ok e) below (stackAt page (suc j)) → treeAt page j ≡ checkedExpr e
 unfolding treeAt

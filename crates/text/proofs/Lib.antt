@@ -7,7 +7,10 @@ pub mod EntryLaws
 pub mod LaidOutLaws
 pub mod ChainLaws
 pub mod ValueLaws
+pub mod KeptLaws
 pub mod SoundLaws
+pub mod OwnTextLaws
+pub mod WellFormedLaws
 pub mod NodeLaws
 pub mod CappedLaws
 pub mod LengthLaws

@@ -1,14 +1,13 @@
 -- The text of the tree that a record ends, from its layout and its operands on the stack: what the recursive functions
 -- go by.
-use Prim.Native.Nat.{ℕ, suc, _≤_, _<_}
-use native.Mathlib.Omega.{arith}
+use Prim.Native.Nat.{ℕ, _≤_, _<_}
 use mathlib.Core.Path.{_≡_, ap₂, _∙_}
 use mathlib.Core.Bool.{Bool, true}
 use mathlib.Core.List.{List, _++_}
 use lib.ListN.{length}
 use Rattle.records.specs.Stack.{operandsOf}
 use Rattle.ast.specs.Expr.{Expr}
-use Rattle.ast.specs.Tables.{stackAt, treeAt, Tables}
+use Rattle.ast.specs.Tables.{stackAt, treeAt}
 use Rattle.text.specs.Display.{display}
 use Rattle.text.specs.Pretty.{maxCharactersPerLine}
 use Rattle.text.specs.Layout.{Layout, front, between, rear, indentIf, frontAt, betweenAt, rearAt, innerIndents, innerLevel, prettyIndented, joined}
@@ -24,14 +23,13 @@ module _ {page : List ℕ} {i : ℕ} {own : Layout} {end count : ℕ} (s : LaidO
       ∙ ap₂ (λ (o : Layout) (es : List Expr). front o ++ (joined (between o) display display es ++ rear o)) (s .layout) (s .operands)
 
   -- a node longer than a line
-  pub prettyIndented-pieces : {starts firsts : List ℕ} → Tables page starts firsts (suc i)
-      → (indents : Bool) (level : ℕ) → maxCharactersPerLine < length (display (treeAt page i))
+  pub prettyIndented-pieces : (indents : Bool) (level : ℕ) → maxCharactersPerLine < length (display (treeAt page i))
       → prettyIndented indents level (treeAt page i)
       ≡ frontAt indents level own
       ++ (joined (betweenAt level own) (prettyIndented (innerIndents indents own) (innerLevel level own))
       (prettyIndented true (innerLevel level own)) (operandsOf count (stackAt page end)) ++ rearAt level own)
-  prettyIndented-pieces t indents level h =
-      long (treeAt page i) (tree-sound t i (omega arith)) level h indents
+  prettyIndented-pieces indents level h =
+      long (treeAt page i) (tree-sound page i) level h indents
       ∙ ap₂
       (λ (o : Layout) (es : List Expr).
       frontAt indents level o
@@ -41,6 +39,6 @@ module _ {page : List ℕ} {i : ℕ} {own : Layout} {end count : ℕ} (s : LaidO
       (s .operands)
 
 -- one that fits a line
-pub prettyIndented-line : {page starts firsts : List ℕ} {i : ℕ} → Tables page starts firsts (suc i) → (indents : Bool) (level : ℕ)
+pub prettyIndented-line : (page : List ℕ) (i : ℕ) (indents : Bool) (level : ℕ)
     → length (display (treeAt page i)) ≤ maxCharactersPerLine → prettyIndented indents level (treeAt page i) ≡ indentIf indents level ++ display (treeAt page i)
-prettyIndented-line {page} {i = i} t indents level h = short (treeAt page i) (tree-sound t i (omega arith)) level h indents
+prettyIndented-line page i indents level h = short (treeAt page i) (tree-sound page i) level h indents

@@ -17,7 +17,7 @@ use Rattle.records.specs.Allowed.{IsAllowed}
 use Rattle.records.proofs.RecordLaws.{WrittenAs, page-law}
 use Rattle.records.proofs.PageLaws.{readPage-allowed}
 use Rattle.leaves.specs.Numeral.{displayNumber, displayLiteral}
-use Rattle.ast.specs.Refusal.{Result, refused, ok}
+use Rattle.ast.specs.Refusal.{Result, ok}
 use Rattle.ast.specs.Expr.{Expr}
 use Rattle.ast.specs.CheckPage.{apply}
 use Rattle.ast.specs.Walk.{Walked, stack, stopped, walk}
@@ -25,6 +25,7 @@ use Rattle.ast.specs.Tables.{entries, newest, stackAt, treeAt}
 use Rattle.ast.proofs.WalkLaws.{walk-first}
 use Rattle.text.specs.Display.{display}
 use Rattle.text.proofs.TreeLaws.{checkedExpr, PushedNode, leaf-ok, wrapper-ok, binary-ok, aggregate-ok, call-ok}
+use Rattle.text.proofs.KeptLaws.{refused-never, each-take}
 use Rattle.text.proofs.ShortLaws.{displayAggregator-short}
 use Rattle.text.proofs.GrowthLaws.{total, total-operands, wrap-short, leaf-short, binary-short, aggregate-short, call-short, aggregate-written}
 
@@ -34,9 +35,6 @@ pushed-total : {made : Result Expr} {below after : List Expr} (p : PushedNode ma
     → total after ≡ 2 + length (display (checkedExpr (p .node))) + total below
 unfolding total
 pushed-total p = ap total (p .stack)
-
-refused-never : {B : Type 0} {after : List Expr} → refused 2 ≡ ok after → B
-refused-never e = absurd (let z : _≡_ {A = ℕ} 0 1 = cc in omega arith)
 
 -- a record adds at most four bytes for each of its own and 128
 apply-room : (r : Record) (s after : List Expr) → IsAllowed r → apply r s ≡ ok after → total after ≤ total s + 4 * length (writeRecord r) + 128
@@ -85,11 +83,6 @@ written-within (suc k) (r ∷ rs) s e (t, is, more) =
       written-within k rs t e more,
     )
 
-each-take : (k : ℕ) (rs : List Record) → Each IsAllowed rs → Each IsAllowed (take k rs)
-each-take zero rs a = tt
-each-take (suc k) [] a = tt
-each-take (suc k) (r ∷ rs) a = (a .0, each-take k rs (a .1))
-
 stack-room : (page : List ℕ) (k : ℕ) → T (all isByte page) → total (stackAt page k) ≤ 4 * length page + 128 * k
 unfolding stackAt total
 stack-room page k h = by (walk apply 0 [] (take k (readPage page .records))) refl
@@ -99,7 +92,7 @@ stack-room page k h = by (walk apply 0 [] (take k (readPage page .records))) ref
     by (stack s) e =
         omega (
           arith,
-          walk-room (take k (readPage page .records)) 0 [] s (each-take k (readPage page .records) (readPage-allowed page)) e,
+          walk-room (take k (readPage page .records)) 0 [] s (each-take IsAllowed k (readPage page .records) (readPage-allowed page)) e,
           written-within k (readPage page .records) page (readPage page .ending) (page-law page h),
           length-take k (readPage page .records),
         )

@@ -1,12 +1,12 @@
 -- `trim_start` under a unary expression takes away the operand's indentation and nothing else, since no node's own text
 -- begins with a white character: a number, a quote, a name, a brace, a bracket, a minus or a token stands first, all
--- above the space.
-use Prim.Native.Nat.{ℕ, zero, suc, _+_, _/_, _%_, _<_}
+-- above the space and below 128.
+use Prim.Native.Nat.{ℕ, zero, suc, _+_, _/_, _%_, _≤_, _<_}
 use native.Mathlib.Omega.{arith}
 use mathlib.Core.Path.{_≡_, refl}
 use mathlib.Core.Bool.{Bool, true, false}
 use mathlib.Core.List.{List, [], _∷_, _++_}
-use borrow.Author.Tests.{ne-eqb}
+use borrow.Author.Tests.{ne-eqb, ltb-true}
 use lib.Dec.{eqb, ltb}
 use Rattle.page.specs.Bytes.{pick, any}
 use Rattle.records.specs.Code.{token}
@@ -20,14 +20,14 @@ use Rattle.text.specs.Pretty.{indent, whiteCharacters, trimStart}
 
 -- ## Texts that begin with no white character
 
--- with one above the space, the highest of them
+-- with one above the space, the highest of those below 128; and below 128, since the Rust has white characters above
 pub data Begins : List ℕ → Type 0 where
-  begins : (c : ℕ) (t : List ℕ) → 32 < c → Begins (c ∷ t)
+  begins : (c : ℕ) (t : List ℕ) → (32 < c) × (c < 128) → Begins (c ∷ t)
 
 pub begins-append : {t : List ℕ} (u : List ℕ) → Begins t → Begins (t ++ u)
 begins-append u (begins c t n) = begins c (t ++ u) n
 
-not-white : (c : ℕ) → 32 < c → any (eqb c) whiteCharacters ≡ false
+pub not-white : (c : ℕ) → 32 < c → any (eqb c) whiteCharacters ≡ false
 not-white c n =
     simp (
       other 9 (omega arith),
@@ -42,7 +42,7 @@ not-white c n =
     other w l = ne-eqb c w (λ e. omega arith)
 
 pub trim-none : {t : List ℕ} → Begins t → trimStart t ≡ t
-trim-none (begins c t n) = rw (not-white c n)
+trim-none (begins c t n) = rw (not-white c (n .0))
 
 -- the indentation goes, and nothing else
 pub trim-indent : (level : ℕ) {t : List ℕ} → Begins t → trimStart (indent level ++ t) ≡ t
@@ -77,18 +77,19 @@ Sound (VectorSelector s t) = Begins (displaySelector s)
 Sound (MatrixSelector s t r) = Begins (displaySelector s)
 Sound (Call f es) = Begins (f .name)
 
-digits-begin : (k n : ℕ) → Begins (digits k n)
+digits-begin : (k n : ℕ) → n ≤ k → Begins (digits k n)
 unfolding digits
-digits-begin zero n = begins (48 + n) [] (omega arith)
-digits-begin (suc k) n = by (ltb n 10) (digits-begin k (n / 10))
+digits-begin zero n h = begins (48 + n) [] (omega arith)
+digits-begin (suc k) n h = by (ltb n 10) refl (digits-begin k (n / 10) (omega arith))
   where
-    by : (b : Bool) → Begins (digits k (n / 10)) → Begins (pick b ((48 + n) ∷ []) (digits k (n / 10) ++ ((48 + n % 10) ∷ [])))
-    by true d = begins (48 + n) [] (omega arith)
-    by false d = begins-append _ d
+    by : (b : Bool) → ltb n 10 ≡ b → Begins (digits k (n / 10))
+        → Begins (pick b ((48 + n) ∷ []) (digits k (n / 10) ++ ((48 + n % 10) ∷ [])))
+    by true e d = begins (48 + n) [] (omega (arith, ltb-true n 10 e))
+    by false e d = begins-append _ d
 
 literal-begins : (l : Literal) → Begins (displayLiteral l)
 unfolding decimal displayLiteral displayNumber
-literal-begins (plus (whole n)) = digits-begin n n
+literal-begins (plus (whole n)) = digits-begin n n (omega arith)
 literal-begins (plus infinite) = begins 73 _ (omega arith)
 literal-begins (minus m) = begins 45 _ (omega arith)
 literal-begins nan = begins 78 _ (omega arith)

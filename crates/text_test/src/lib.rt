@@ -13,10 +13,10 @@ pub extern "C" fn sandzguli_is_text(text: &[u8]) -> bool
     is_text(text)
 }
 
-// The same, one byte at a time: what words are timed beside.
+// Bytes below 128, one byte at a time: what words are timed beside.
 #[no_mangle]
-pub extern "C" fn sandzguli_is_text_by_bytes(text: &[u8]) -> bool
-    ensures { λ r. ⌜ r ≡ isText (now (text .entry)) ⌝ }
+pub extern "C" fn sandzguli_is_ascii_by_bytes(text: &[u8]) -> bool
+    ensures { λ r. ⌜ r ≡ isAscii (now (text .entry)) ⌝ }
 {
     ascii_from(text, 0)
 }

@@ -2,7 +2,7 @@
 -- nothing.
 use mathlib.Core.Path.{refl}
 use Rattle.text.proofs.EntryLaws.{page-short}
-use Rattle.text.proofs.SoundLaws.{allowed}
+use Rattle.text.proofs.EntryLaws.{allowed}
 use Rattle.fields.proofs.FieldLaws.{base-inside, selector-reads, name-there, matchers-there}
 use borrow.Author.Needs.{needs}
 use Rattle.fields.proofs.selector_of.Statement.{statement}

@@ -23,61 +23,15 @@ loop-holds c = (omega arith, refl)
 sub-loop : tie.Need-sub-loop Inv-loop μ-loop
 sub-loop c = search needs
 
-shared-slice-read-word-passes : tie.Need-shared-slice-read-word-passes Inv-loop μ-loop
-shared-slice-read-word-passes c = search needs
-
-add-word-passes : tie.Need-add-word-passes Inv-loop μ-loop
-add-word-passes c = search needs
-
-shared-slice-read-word-passes-2 : tie.Need-shared-slice-read-word-passes-2 Inv-loop μ-loop
-shared-slice-read-word-passes-2 c = search needs
-
-add-word-passes-2 : tie.Need-add-word-passes-2 Inv-loop μ-loop
-add-word-passes-2 c = search needs
-
-shared-slice-read-word-passes-3 : tie.Need-shared-slice-read-word-passes-3 Inv-loop μ-loop
-shared-slice-read-word-passes-3 c = search needs
-
-add-word-passes-3 : tie.Need-add-word-passes-3 Inv-loop μ-loop
-add-word-passes-3 c = search needs
-
-shared-slice-read-word-passes-4 : tie.Need-shared-slice-read-word-passes-4 Inv-loop μ-loop
-shared-slice-read-word-passes-4 c = search needs
-
-add-word-passes-4 : tie.Need-add-word-passes-4 Inv-loop μ-loop
-add-word-passes-4 c = search needs
-
-shared-slice-read-word-passes-5 : tie.Need-shared-slice-read-word-passes-5 Inv-loop μ-loop
-shared-slice-read-word-passes-5 c = search needs
-
-add-word-passes-5 : tie.Need-add-word-passes-5 Inv-loop μ-loop
-add-word-passes-5 c = search needs
-
-shared-slice-read-word-passes-6 : tie.Need-shared-slice-read-word-passes-6 Inv-loop μ-loop
-shared-slice-read-word-passes-6 c = search needs
-
-add-word-passes-6 : tie.Need-add-word-passes-6 Inv-loop μ-loop
-add-word-passes-6 c = search needs
-
-shared-slice-read-word-passes-7 : tie.Need-shared-slice-read-word-passes-7 Inv-loop μ-loop
-shared-slice-read-word-passes-7 c = search needs
-
-add-word-passes-7 : tie.Need-add-word-passes-7 Inv-loop μ-loop
-add-word-passes-7 c = search needs
-
-shared-slice-read-word-passes-8 : tie.Need-shared-slice-read-word-passes-8 Inv-loop μ-loop
-shared-slice-read-word-passes-8 c = search needs
-
-word-passes-requires : tie.Need-word-passes-requires Inv-loop μ-loop
-word-passes-requires c κs = search needs
+word-passes-at-requires : tie.Need-word-passes-at-requires Inv-loop μ-loop
+word-passes-at-requires c κs = search needs
 
 returns : tie.Need-returns Inv-loop μ-loop
 returns c =
-    let at-loop-test = c .before .before .before .before .before .before .before .before .before .before in
-    let at-loop = at-loop-test .before in
+    let at-loop = c .before .before .before in
     let at-start = at-loop .before .before in
     word-stop (now (at-start .args .text)) (at-loop .loop .i) _ _ (at-loop .loop .inv .1)
-    (at-loop-test .loop-test .taken) (c .before .word-passes .ensures) (c .if1 .taken)
+    (c .before .word-passes-at .ensures) (c .if1 .taken)
 
 add-i : tie.Need-add-i Inv-loop μ-loop
 add-i c = search needs
@@ -87,12 +41,11 @@ loop-less c = search needs
 
 loop-again : tie.Need-loop-again Inv-loop μ-loop
 loop-again c =
-    let at-loop-test = c .before .before .before .before .before .before .before .before .before .before in
-    let at-loop = at-loop-test .before in
+    let at-loop = c .before .before .before in
     let at-start = at-loop .before .before in (
       omega arith,
       word-go (now (at-start .args .text)) (at-loop .loop .i) _ _ (at-loop .loop .inv .1)
-          (at-loop-test .loop-test .taken) (c .before .word-passes .ensures) (c .if1 .left),
+          (c .before .word-passes-at .ensures) (c .if1 .left),
     )
 
 ascii-from-requires : tie.Need-ascii-from-requires Inv-loop μ-loop
@@ -109,22 +62,7 @@ is-ascii-spec =
     μ-loop
     loop-holds
     sub-loop
-    shared-slice-read-word-passes
-    add-word-passes
-    shared-slice-read-word-passes-2
-    add-word-passes-2
-    shared-slice-read-word-passes-3
-    add-word-passes-3
-    shared-slice-read-word-passes-4
-    add-word-passes-4
-    shared-slice-read-word-passes-5
-    add-word-passes-5
-    shared-slice-read-word-passes-6
-    add-word-passes-6
-    shared-slice-read-word-passes-7
-    add-word-passes-7
-    shared-slice-read-word-passes-8
-    word-passes-requires
+    word-passes-at-requires
     returns
     add-i
     loop-less

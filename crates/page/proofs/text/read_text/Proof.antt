@@ -1,118 +1,67 @@
--- `page::text::read_text` meets its contract: a test for each fault, in their order. Assumes nothing.
-use native.Mathlib.Omega.{arith}
-use native.Mathlib.Nat.{add-sub-cancel-left}
-use lib.Seq.{drop-drop}
-use lib.ListN.{length-drop}
-use borrow.Author.Tests.{le-leb, lt-leb}
+-- `page::text::read_text` meets its contract: an everyday text goes by its first byte, all else by its class. Assumes
+-- nothing.
+use Rattle.page.proofs.EverydayLaws.{text-known}
+use denote.Ref.{now}
 use borrow.Author.Needs.{needs}
 use Rattle.page.proofs.text.read_text.Statement.{statement}
 use Rattle.page.proofs.text.read_text.Tie as tie
 
-read-number-requires : tie.Need-read-number-requires
-read-number-requires c κs = search needs
-
-enum-known-n : tie.Need-enum-known-n
-enum-known-n c = search needs
-
-sub-if1 : tie.Need-sub-if1
-sub-if1 c =
-    let at-read-number = c .before .before .before in
-    rw (c .before .n .given .1) at (at-read-number .read-number .ensures .1)
-
-returns : tie.Need-returns
-returns c =
-    let at-read-number = c .before .before .before .before in
-    let e = rw (c .before .before .n .given .1) at (at-read-number .read-number .ensures .0) in
-    (simp (← e, length-drop, lt-leb _ _ (c .if1 .taken)), tt)
-
-text-limit-requires : tie.Need-text-limit-requires
-text-limit-requires c κs = search needs
-
-returns-2 : tie.Need-returns-2
-returns-2 c =
-    let at-n = c .before .before .before .before in
-    let at-read-number = at-n .before .before in
-    let e = rw (at-n .n .given .1) at (at-read-number .read-number .ensures .0) in
-    let long = rw (c .before .text-limit .ensures) at (c .if2 .taken) in
-    (simp (← e, length-drop, le-leb _ _ (c .before .before .if1 .left), lt-leb _ _ long), tt)
-
-add-end : tie.Need-add-end
-add-end c = search needs
-
-sub-text-allowed : tie.Need-sub-text-allowed
-sub-text-allowed c = search needs
-
-part-text-allowed-start : tie.Need-part-text-allowed-start
-part-text-allowed-start c = search needs
-
-part-text-allowed-end : tie.Need-part-text-allowed-end
-part-text-allowed-end c =
-    let at-n = c .before .before .before .before in
-    let at-read-number = at-n .before .before in
-    let h = rw (at-n .n .given .1) at (at-read-number .read-number .ensures .1) in omega arith
-
-text-allowed-requires : tie.Need-text-allowed-requires
-text-allowed-requires c κs = search needs
-
 enum-told : tie.Need-enum-told
 enum-told c = search needs
 
+size-end-requires : tie.Need-size-end-requires
+size-end-requires c κs = search needs
+
+ascii-end-requires : tie.Need-ascii-end-requires
+ascii-end-requires c κs = search needs
+
+read-by-class-requires : tie.Need-read-by-class-requires
+read-by-class-requires c κs = search needs
+
+returns : tie.Need-returns
+returns c = search needs
+
+enum-told-2 : tie.Need-enum-told-2
+enum-told-2 c = search needs
+
+read-by-class-requires-2 : tie.Need-read-by-class-requires-2
+read-by-class-requires-2 c κs = search needs
+
+enum-told-3 : tie.Need-enum-told-3
+enum-told-3 c = search needs
+
+read-by-class-requires-3 : tie.Need-read-by-class-requires-3
+read-by-class-requires-3 c κs = search needs
+
+returns-2 : tie.Need-returns-2
+returns-2 c =
+    let at-told = c .before .before .before in
+    let at-start = at-told .before .before .before in
+    let begin = at-start .args in
+    let known =
+    text-known (now (begin .page)) (begin .at) (c .before .before .size-end .result) (c .before .ascii-end .result)
+    (c .before .ascii-end .ensures) (c .if1 .left) in
+    (rw (at-told .enum-told .given .1) (known .2), record { ordered = known .0; inside = known .1 })
+
 returns-3 : tie.Need-returns-3
-returns-3 c =
-    let at-second-if = c .before .before .before in
-    let at-text-limit = at-second-if .before in
-    let at-first-if = at-text-limit .before in
-    let at-n = at-first-if .before .before in
-    let at-read-number = at-n .before .before in
-    let e = rw (at-n .n .given .1) at (at-read-number .read-number .ensures .0) in
-    let h = rw (at-n .n .given .1) at (at-read-number .read-number .ensures .1) in
-    let short = rw (at-text-limit .text-limit .ensures) at (at-second-if .if2 .left) in
-    let allowed = rw add-sub-cancel-left at (c .before .text-allowed .ensures) in (
-      simp (
-        ← e,
-        length-drop,
-        add-sub-cancel-left,
-        le-leb _ _ (at-first-if .if1 .left),
-        le-leb _ _ short,
-        ← allowed,
-        c .if3 .taken,
-        drop-drop,
-      ),
-      record { ordered = omega arith; inside = omega arith },
-    )
+returns-3 c = search needs
 
 returns-4 : tie.Need-returns-4
-returns-4 c =
-    let at-second-if = c .before .before .before in
-    let at-text-limit = at-second-if .before in
-    let at-first-if = at-text-limit .before in
-    let at-n = at-first-if .before .before in
-    let at-read-number = at-n .before .before in
-    let e = rw (at-n .n .given .1) at (at-read-number .read-number .ensures .0) in
-    let short = rw (at-text-limit .text-limit .ensures) at (at-second-if .if2 .left) in
-    let allowed = rw add-sub-cancel-left at (c .before .text-allowed .ensures) in
-    (simp (← e, length-drop, le-leb _ _ (at-first-if .if1 .left), le-leb _ _ short, ← allowed, c .if3 .left), tt)
-
-returns-5 : tie.Need-returns-5
-returns-5 c =
-    let e = rw (c .enum-told .given .1) at (c .before .before .read-number .ensures .0) in (simp (← e), tt)
+returns-4 c = search needs
 
 pub read-text-spec : {M : Type 1} → statement M
 read-text-spec =
     tie.close
     (tie.spec
-    read-number-requires
-    enum-known-n
-    sub-if1
-    returns
-    text-limit-requires
-    returns-2
-    add-end
-    sub-text-allowed
-    part-text-allowed-start
-    part-text-allowed-end
-    text-allowed-requires
     enum-told
+    size-end-requires
+    ascii-end-requires
+    read-by-class-requires
+    returns
+    enum-told-2
+    read-by-class-requires-2
+    enum-told-3
+    read-by-class-requires-3
+    returns-2
     returns-3
-    returns-4
-    returns-5)
+    returns-4)

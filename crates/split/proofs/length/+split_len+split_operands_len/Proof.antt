@@ -124,7 +124,8 @@ split-len-returns-2 : (t : ℕ) → split-len-lts.Need-returns-2 (split-len-clai
 split-len-returns-2 t c =
     let at-width = c .before .before .before in
     let at-start = at-width .before .before .before .before .before .before in
-    len-line (at-start .pre .1 .0) _ _ (fits-line _ _ (at-width .width .ensures) (c .before .before .if2 .taken)) _
+    len-line (at-start .args .page .now) (at-start .args .i) _ _
+    (fits-line _ _ (at-width .width .ensures) (c .before .before .if2 .taken)) _
     _ _ _ (at-width .width .ensures) (c .before .indent-len .ensures) (c .capped-add .ensures)
 
 split-len-view-at-requires : (t : ℕ)
@@ -236,8 +237,7 @@ split-len-returns-3 t c =
     let at-view-at = at-front-at-len .before in
     let at-second-if = at-view-at .before in
     let at-width = at-second-if .before in
-    let at-start = at-width .before .before .before .before .before .before in
-    len-split (at-start .pre .1 .0) (at-view-at .view-at .ensures .laidOut) _ _
+    len-split (at-view-at .view-at .ensures .laidOut) _ _
     (over-line _ _ (at-width .width .ensures) (at-second-if .if2 .left)) _ _ _ _ _
     (at-front-at-len .front-at-len .ensures) (at-between-at-len .between-at-len .ensures)
     (rw (

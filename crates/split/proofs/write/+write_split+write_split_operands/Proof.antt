@@ -117,7 +117,7 @@ write-split-put-indent-requires : (t : ℕ)
     → write-split-lts.Need-put-indent-requires (write-split-claims t) (write-split-at t) write-split.Post
 write-split-put-indent-requires t c κs =
     let at-start = c .before .before .before .before .before .before .before .before in
-    fits (run-line (at-start .pre .1 .0) _ _
+    fits (run-line (at-start .args .page .now) (at-start .args .i) _ _
     (fits-line _ _ (c .before .before .width .ensures) (c .before .if1 .taken)) (at-start .args .out .now)
     (at-start .args .at) (at-start .pre .1 .1 .1 .1 .1))
 
@@ -131,7 +131,7 @@ write-split-write-text-requires t c κs =
       at-start .pre .1 .0,
       (
         at-start .pre .1 .1 .1 .0,
-        fits (next (run-line (at-start .pre .1 .0) _ _
+        fits (next (run-line (at-start .args .page .now) (at-start .args .i) _ _
             (fits-line _ _ (at-width .width .ensures) (at-first-if .if1 .taken)) (at-start .args .out .now)
             (at-start .args .at) (at-start .pre .1 .1 .1 .1 .1)) (at-put-indent .put-indent .ensures)),
       ),
@@ -149,7 +149,7 @@ write-split-returns t c =
     let at-first-if = at-put-indent .before .before in
     let at-width = at-first-if .before in
     let at-start = at-width .before .before .before .before .before .before in
-    end (next (next (run-line (at-start .pre .1 .0) _ _
+    end (next (next (run-line (at-start .args .page .now) (at-start .args .i) _ _
     (fits-line _ _ (at-width .width .ensures) (at-first-if .if1 .taken)) (at-start .args .out .now)
     (at-start .args .at) (at-start .pre .1 .1 .1 .1 .1)) (at-put-indent .put-indent .ensures))
     (c .before .before .write-text .ensures))
@@ -176,7 +176,7 @@ write-split-put-front-at-requires t c κs =
     let at-width = at-first-if .before in
     let at-start = at-width .before .before .before .before .before .before in (
       at-view-at .view-at .ensures .stands,
-      fits (run-split (at-start .pre .1 .0) (at-view-at .view-at .ensures .laidOut) _ _
+      fits (run-split (at-view-at .view-at .ensures .laidOut) _ _
           (over-line _ _ (at-width .width .ensures) (at-first-if .if1 .left)) (at-start .args .out .now)
           (at-start .args .at) (at-start .pre .1 .1 .1 .1 .1)),
     )
@@ -193,7 +193,7 @@ write-split-write-split-operands-requires t c κs =
     let at-start = at-width .before .before .before .before .before .before in
     let laidOut = at-view-at .view-at .ensures .laidOut in
     let run = next
-    (run-split (at-start .pre .1 .0) laidOut _ _
+    (run-split laidOut _ _
     (over-line _ _ (at-width .width .ensures) (at-first-if .if1 .left)) (at-start .args .out .now)
     (at-start .args .at) (at-start .pre .1 .1 .1 .1 .1)) (at-put-front-at .put-front-at .ensures) in (
       omega (arith, laidOut .low, at-start .pre .0),
@@ -226,7 +226,7 @@ write-split-put-rear-at-requires t c κs =
     let at-width = at-first-if .before in
     let at-start = at-width .before .before .before .before .before .before in (
       at-view-at .view-at .ensures .stands,
-      fits (next (next (run-split (at-start .pre .1 .0) (at-view-at .view-at .ensures .laidOut) _ _
+      fits (next (next (run-split (at-view-at .view-at .ensures .laidOut) _ _
           (over-line _ _ (at-width .width .ensures) (at-first-if .if1 .left)) (at-start .args .out .now)
           (at-start .args .at) (at-start .pre .1 .1 .1 .1 .1)) (at-put-front-at .put-front-at .ensures))
           (rw (at-with-numberless .with-numberless .ensures) at
@@ -252,7 +252,7 @@ write-split-returns-2 t c =
     let at-first-if = at-view-at .before in
     let at-width = at-first-if .before in
     let at-start = at-width .before .before .before .before .before .before in
-    end (next (next (next (run-split (at-start .pre .1 .0) (at-view-at .view-at .ensures .laidOut) _ _
+    end (next (next (next (run-split (at-view-at .view-at .ensures .laidOut) _ _
     (over-line _ _ (at-width .width .ensures) (at-first-if .if1 .left)) (at-start .args .out .now)
     (at-start .args .at) (at-start .pre .1 .1 .1 .1 .1)) (at-put-front-at .put-front-at .ensures))
     (rw (at-with-numberless .with-numberless .ensures) at
