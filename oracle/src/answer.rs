@@ -1,12 +1,11 @@
 //! What document 01 answers to a page: outcome, label part of 19, copy, canonical text, split text.
 
 use crate::copy;
-use crate::page::read::Reader;
+use crate::page::read::{Reader, TextField};
 use crate::page::record::{Kind, Record};
 use crate::page::{write, MAX_PAGE_BYTES, MAX_RECORDS};
 use crate::tree::{self, Pattern, Stop};
 use promql_parser::parser::Expr;
-use std::ops::Range;
 
 /// A kind, or a refusal number and the index of its record.
 #[derive(Debug, Clone, Copy, PartialEq, Eq)]
@@ -60,8 +59,8 @@ pub struct Worked<'a> {
     pub message: Option<String>,
     /// The records read, the refused one included if it was readable.
     pub records: Vec<Record<'a>>,
-    /// The bytes of the last text that is no name: where 4 is due to such a text, this one.
-    pub text: Range<usize>,
+    /// The last text whose length was read: where a text is the reason of 1, 3 or 4, this one.
+    pub text: Option<TextField>,
     /// The checked tree and the records of its copy, for an accepted page.
     pub checked: Option<(Expr, Vec<Record<'a>>)>,
 }
@@ -140,7 +139,7 @@ struct Walk<'a> {
     records: Vec<Record<'a>>,
     copied: Vec<Record<'a>>,
     accepted: usize,
-    text: Range<usize>,
+    text: Option<TextField>,
 }
 
 /// A refusal by document 01, about which the Rust has nothing to say.
@@ -162,7 +161,7 @@ impl<'a> Walk<'a> {
                 return Err(refused(3));
             }
             let read = reader.record();
-            self.text = reader.text.clone();
+            self.text = reader.text;
             self.records.push(read.map_err(refused)?);
             self.apply_last()?;
             self.accepted += 1;

@@ -2,7 +2,9 @@
 
 use crate::answer::{self, Answer, Domain, Failure, Outcome};
 use crate::generate::stream::{self, Sample};
-use crate::generate::{bytes, damaged, fault, good, long_texts};
+use crate::generate::{
+    bytes, counted_bytes, damaged, fault, good, ill_formed, long_texts, well_formed, Alphabet,
+};
 use crate::random::Random;
 use std::collections::HashSet;
 
@@ -23,27 +25,59 @@ fn pages() -> impl Iterator<Item = Vec<u8>> {
         .filter(move |page| seen.insert(page.clone()))
 }
 
-/// Many short pages, some of 40 records, a few of 250.
+/// Pages of ASCII first, then pages with characters beyond it.
 fn generated(random: &mut Random) -> Vec<Vec<u8>> {
+    let mut pages = ascii(random);
+    pages.extend(beyond_ascii(random));
+    pages
+}
+
+/// Many short pages, some of 40 records, a few of 250; damaged copies, random bytes, long texts.
+fn ascii(random: &mut Random) -> Vec<Vec<u8>> {
     let mut pages = Vec::new();
     for round in 0..25 {
-        pages.extend(fault::numbers().map(|number| fault::planted(random, number).page));
-        let sizes = (0..40).map(|size| 1 + size % 10).chain([20, 40]);
-        pages.extend(sizes.map(|size| good(random, size).0).collect::<Vec<_>>());
+        pages.extend(whole(random, Alphabet::Ascii));
         if round % 5 == 0 {
-            pages.push(good(random, 250).0);
+            pages.push(good(random, Alphabet::Ascii, 250).0);
         }
     }
-    let broken: Vec<_> = pages
-        .iter()
-        .filter(|page| page.len() < 200)
-        .step_by(2)
-        .map(|page| damaged(random, page))
-        .collect();
+    let broken = broken(random, &pages);
     pages.extend(broken);
     pages.extend((0..100).map(|_| bytes(random)));
-    pages.extend((0..100).map(|_| long_texts::random(random).page));
+    pages.extend((0..100).map(|_| long_texts::random(random, Alphabet::Ascii).page));
     pages
+}
+
+/// Fewer of these; and ill-formed texts, texts at their limits, names that are none.
+fn beyond_ascii(random: &mut Random) -> Vec<Vec<u8>> {
+    let mut pages = Vec::new();
+    for _ in 0..3 {
+        pages.extend(whole(random, Alphabet::Utf8));
+    }
+    let broken = broken(random, &pages);
+    pages.extend(broken);
+    pages.extend((0..60).map(|_| long_texts::random(random, Alphabet::Utf8).page));
+    pages.extend((0..120).map(|_| ill_formed::random(random).page));
+    pages.extend((0..30).map(|_| counted_bytes::random(random).page));
+    let sums = (90..110).map(|bytes| counted_bytes::random_sum(random, bytes).page);
+    pages.extend(sums);
+    pages.extend((0..20).map(|_| well_formed::random_name(random).page));
+    pages
+}
+
+/// Each refusal once, good pages of 1 to 10, 20 and 40 records.
+fn whole(random: &mut Random, alphabet: Alphabet) -> Vec<Vec<u8>> {
+    let planted = fault::numbers().map(|number| fault::planted(random, alphabet, number).page);
+    let mut pages: Vec<_> = planted.collect();
+    let sizes = (0..40).map(|size| 1 + size % 10).chain([20, 40]);
+    pages.extend(sizes.map(|size| good(random, alphabet, size).0));
+    pages
+}
+
+/// Damaged copies of every other short page.
+fn broken(random: &mut Random, pages: &[Vec<u8>]) -> Vec<Vec<u8>> {
+    let short = pages.iter().filter(|page| page.len() < 200);
+    short.step_by(2).map(|page| damaged(random, page)).collect()
 }
 
 /// A page of the list and its answer.

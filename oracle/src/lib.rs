@@ -1,8 +1,9 @@
 //! The Rust crate promql-parser as the judge of pages.
 //!
-//! A page is read as document 01 says (`page`), driven record by record through the Rust's constructors and `check_ast`
-//! (`tree`), and answered (`answer`). Pages come from a seed (`generate`) or from chosen rows (`chosen`); `coverage` tells
-//! which classes of document 01 they reached, `kept` writes the list that other programs replay.
+//! A page is read as document 01 says (`page`), driven record by record through the Rust's constructors and
+//! `check_ast` (`tree`), and answered (`answer`). Pages come from a seed (`generate`) or from chosen rows (`chosen`);
+//! `coverage` tells which classes of documents 01 and 02 they reached, `kept` writes the list that other programs
+//! replay.
 
 pub mod answer;
 pub mod chosen;
@@ -11,6 +12,7 @@ pub mod coverage;
 pub mod failing;
 pub mod generate;
 pub mod hex;
+pub mod ill_formed;
 pub mod kept;
 pub mod page;
 pub mod program;

@@ -5,7 +5,8 @@ use oracle::{chosen, hex};
 
 #[test]
 fn every_chosen_page_has_its_answer() {
-    let differences: Vec<String> = chosen::rows().filter_map(|row| row.difference()).collect();
+    let rows = chosen::rows().chain(chosen::outside());
+    let differences: Vec<String> = rows.filter_map(|row| row.difference()).collect();
     assert!(differences.is_empty(), "{}", differences.join("\n"));
 }
 
@@ -14,6 +15,14 @@ fn every_chosen_page_is_inside_the_domain() {
     for row in chosen::rows() {
         let domain = answer(&row.bytes()).expect("the Rust is foreseen").domain;
         assert_eq!(domain, Domain::Inside, "{}", row.words);
+    }
+}
+
+#[test]
+fn pages_outside_the_domain_have_an_untrue_flag() {
+    for row in chosen::outside() {
+        let domain = answer(&row.bytes()).expect("the Rust is foreseen").domain;
+        assert_eq!(domain, Domain::FlagUntrue, "{}", row.words);
     }
 }
 

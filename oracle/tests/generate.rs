@@ -1,7 +1,7 @@
 //! Generated pages have the outcome that they were made for.
 
 use oracle::answer::{self, Outcome};
-use oracle::generate::{self, fault, limits, long_texts, nesting};
+use oracle::generate::{self, fault, limits, long_texts, nesting, Alphabet, Made};
 use oracle::hex;
 use oracle::page::record::Kind;
 use oracle::random::Random;
@@ -10,16 +10,23 @@ fn outcome(page: &[u8]) -> Outcome {
     answer::answer(page).expect("the Rust is foreseen").outcome
 }
 
+const ALPHABETS: [Alphabet; 2] = [Alphabet::Ascii, Alphabet::Utf8];
+
+fn assert_made(made: &Made) {
+    let page = &made.page;
+    assert_eq!(outcome(page), made.expected, "{}", hex::text(page));
+}
+
 #[test]
 fn good_pages_pass() {
     let random = &mut Random::new(1);
-    for round in 0..3000 {
+    for round in 0..6000 {
         let size = match round % 100 {
             0 => 250,
             1..=5 => 40,
             size => 1 + size % 12,
         };
-        let (page, kind) = generate::good(random, size);
+        let (page, kind) = generate::good(random, ALPHABETS[round % 2], size);
         let answer = answer::answer(&page).expect("the Rust is foreseen");
         assert_eq!(
             answer.outcome,
@@ -34,15 +41,9 @@ fn good_pages_pass() {
 #[test]
 fn planted_faults_are_found() {
     let random = &mut Random::new(2);
-    for _ in 0..300 {
+    for round in 0..600 {
         for number in fault::numbers() {
-            let planted = fault::planted(random, number);
-            assert_eq!(
-                outcome(&planted.page),
-                planted.expected,
-                "{}",
-                hex::text(&planted.page)
-            );
+            assert_made(&fault::planted(random, ALPHABETS[round % 2], number));
         }
     }
 }
@@ -57,14 +58,9 @@ fn limits_hold() {
 #[test]
 fn long_texts_are_refused_by_one_byte() {
     let random = &mut Random::new(4);
-    let made = (0..3000).map(|_| long_texts::random(random));
+    let made = (0..6000).map(|round| long_texts::random(random, ALPHABETS[round % 2]));
     for text in long_texts::fixed().chain(made) {
-        assert_eq!(
-            outcome(&text.page),
-            text.expected,
-            "{}",
-            hex::text(&text.page)
-        );
+        assert_made(&text);
     }
 }
 

@@ -2,7 +2,9 @@
 
 use oracle::answer;
 use oracle::coverage::Coverage;
+use oracle::generate::{counted_bytes, ill_formed, well_formed};
 use oracle::kept;
+use std::collections::HashSet;
 
 #[test]
 fn the_list_is_the_oracles() {
@@ -21,4 +23,16 @@ fn the_list_reaches_every_class() {
         coverage.observe(&worked, &answer::of_worked(&worked));
     }
     assert_eq!(coverage.missing(), Vec::<&str>::new());
+}
+
+/// Towns, whole and ill-formed, are on the list, and so among the pages that fuzzing starts from.
+#[test]
+fn the_list_has_the_towns() {
+    let entries = kept::entries().expect("the Rust is foreseen");
+    let kept: HashSet<_> = entries.into_iter().map(|(page, _)| page).collect();
+    let made = well_formed::fixed()
+        .chain(counted_bytes::fixed())
+        .chain(ill_formed::fixed());
+    let pages: Vec<_> = made.map(|made| made.page).collect();
+    assert!(pages.len() > 500 && pages.iter().all(|page| kept.contains(page)));
 }

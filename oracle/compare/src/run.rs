@@ -1,4 +1,5 @@
-//! Runs over generated pages, in threads. A seed gives one round of pages, so that a range of seeds can be split and resumed.
+//! Runs over generated pages, in threads. A seed gives one round of pages, so that a range of seeds can be split and
+//! resumed.
 
 use crate::judge::Judge;
 use crate::library::Library;
@@ -11,7 +12,7 @@ use std::ops::RangeInclusive;
 use std::sync::atomic::{AtomicBool, AtomicU64, Ordering};
 use std::thread;
 
-/// What was compared without a difference, and the classes of document 01 that it reached.
+/// What was compared without a difference, and the classes of documents 01 and 02 that it reached.
 #[derive(Default)]
 pub struct Tally {
     pub calls: u64,

@@ -1,6 +1,8 @@
-//! Chosen pages with the answers that document 01 gives them: the refusal table, the bench examples, the readings taken.
+//! Chosen pages with the answers that document 01 gives them: the refusal table, the bench examples, the readings
+//! taken; and the pages of document 02.
 
 mod bench;
+mod characters;
 mod long;
 mod printed;
 mod readings;
@@ -63,9 +65,15 @@ pub fn rows() -> impl Iterator<Item = &'static Row> {
         printed::ROWS,
         splitting::ROWS,
         long::ROWS,
+        characters::ROWS,
     ]
     .into_iter()
     .flatten()
+}
+
+/// Rows outside document 01's domain: the page's flag decides what the pattern says about empty text.
+pub fn outside() -> impl Iterator<Item = &'static Row> {
+    characters::OUTSIDE.iter()
 }
 
 /// The rows of the refusal table, No. 1 to 34.

@@ -1,5 +1,7 @@
 //! The classes that a run must reach.
 
+use super::{characters, ill_formed, words};
+
 /// The record kinds, by their number on the page.
 pub const RECORDS: [&str; 12] = [
     "number",
@@ -50,14 +52,8 @@ const SPLITS: &[&str] = &[
     "split: binary", "split: aggregate", "split: aggregate with parameter", "split: call", "split: call of several",
     "split: paren", "split: unary over a split operand", "split: subquery over a split operand",
     "split: long unary with a short operand", "split: long subquery with a short operand", "split: long leaf stays",
-    "split: 100 bytes stay", "split: 101 bytes split", "split: three levels",
-];
-
-#[rustfmt::skip]
-const WORDS: &[&str] = &[
-    "words: no byte", "words: less than a word", "words: whole words", "words: words and a tail", "words: 255 bytes",
-    "words: a byte above 127 after the text", "words: refused in the first word", "words: refused in a later word",
-    "words: refused in the tail",
+    "split: 100 bytes stay", "split: 101 bytes split", "split: 100 bytes of fewer characters stay",
+    "split: 101 bytes of at most 100 characters split", "split: three levels",
 ];
 
 pub fn all() -> Vec<String> {
@@ -77,12 +73,10 @@ pub fn all() -> Vec<String> {
         classes.push(format!("binary code {code:02}"));
         classes.push(format!("aggregate code {code:02}"));
     }
-    for place in 0..8 {
-        classes.push(format!("words: text from place {place}"));
-        classes.push(format!("words: refused at place {place} of a word"));
-    }
-    classes.extend((0..7).map(|place| format!("words: refused at place {place} of the tail")));
-    let named = [PARTS, TEXTS, SPLITS, WORDS].concat();
+    let named = [PARTS, TEXTS, SPLITS].concat();
     classes.extend(named.into_iter().map(String::from));
+    classes.extend(words::classes());
+    classes.extend(characters::classes());
+    classes.extend(ill_formed::classes());
     classes
 }

@@ -1,7 +1,9 @@
 //! Which classes of document 01 a run of pages reached: refusals, kinds, the parts of records, the rules of both texts;
-//! and of document 02, No. 4, texts by words.
+//! and of document 02 texts by words (No. 4), characters beyond ASCII and ill-formed texts (No. 10).
 
+mod characters;
 mod classes;
+mod ill_formed;
 mod records;
 mod split;
 mod texts;
@@ -49,6 +51,8 @@ impl Coverage {
             self.record(record);
         }
         self.words(worked);
+        self.characters(worked);
+        self.unread_text(worked);
         match worked.outcome {
             Outcome::Refused { number, .. } => self.hit(format!("refusal {number:02}")),
             Outcome::Accepted(kind) => {

@@ -8,7 +8,8 @@ const MAX: usize = 100;
 impl Coverage {
     /// Follows `prettify`: a node that splits asks its operands one level down, unary and subquery on the same level.
     pub(super) fn split(&mut self, tree: &Expr, level: usize) {
-        let size = tree.to_string().len();
+        let text = tree.to_string();
+        let (size, characters) = (text.len(), text.chars().count());
         match tree {
             Expr::Unary(unary) => {
                 let class = "split: long unary with a short operand";
@@ -33,10 +34,16 @@ impl Coverage {
             _ if is_leaf(tree) => self.hit_if(size > MAX, "split: long leaf stays"),
             _ if size > MAX => {
                 self.hit_if(size == MAX + 1, "split: 101 bytes split");
+                let is_short = size == MAX + 1 && characters <= MAX;
+                self.hit_if(is_short, "split: 101 bytes of at most 100 characters split");
                 self.hit_if(level == 2, "split: three levels");
                 self.split_node(tree, level + 1);
             }
-            _ => self.hit_if(size == MAX, "split: 100 bytes stay"),
+            _ => {
+                self.hit_if(size == MAX, "split: 100 bytes stay");
+                let is_shorter = size == MAX && characters < MAX;
+                self.hit_if(is_shorter, "split: 100 bytes of fewer characters stay");
+            }
         }
     }
 

@@ -77,8 +77,8 @@ const ROWS: &[(&str, &str, Expected)] = &[
     ("offset 2^53 + 1", "0202757000 0601 #9007199254740993;", Refused(1, 1)),
     ("fills 2^53", "(0202757000)*2; 090101000000 0100 #9007199254740992; 0101 #9007199254740992;", Passes(Kind::Vector)),
     ("fill 2^53 + 1", "(0202757000)*2; 090101000000 0100 #9007199254740993; 00", Refused(1, 2)),
-    ("text byte 127", "01017f", Passes(Kind::String)),
-    ("text byte 128", "010180", Refused(4, 0)),
+    ("the last character of one byte", "01017f", Passes(Kind::String)),
+    ("its byte and one more, no character", "010180", Refused(4, 0)),
 ];
 
 pub fn limits() -> impl Iterator<Item = Limit> {

@@ -1,18 +1,15 @@
-//! Texts around whole words of eight bytes (document 02, No. 4): of every length up to 255, all bytes below 128, or one
-//! of them above 127 at any place.
+//! Texts around whole words of eight bytes (document 02, No. 4): of every length up to 255, all of ASCII, with a longer
+//! character at any place (No. 10), or with one byte at any place that makes the text ill-formed.
 
-use super::{Generator, Records};
+use super::alphabet::LONGER;
+use super::{Alphabet, Generator, Made, Records};
 use crate::answer::Outcome;
 use crate::page::read::Reader;
 use crate::page::record::{Grouping, Kind, Matcher, Operation, Record, Text};
 use crate::page::write;
 use crate::random::Random;
 
-pub struct LongText {
-    pub page: Vec<u8>,
-    pub expected: Outcome,
-}
-
+const ACCEPTED: Outcome = Outcome::Accepted(Kind::Vector);
 const REFUSED: Outcome = Outcome::Refused {
     number: 4,
     record: 0,
@@ -42,7 +39,8 @@ fn value(length: usize, place: usize, byte: u8) -> Vec<u8> {
     value
 }
 
-/// Where a byte above 127 stands: the texts of the request, then the first and the last eight places of long values.
+/// Where a byte above 127 stands among letters, which is ill-formed: the texts of the request, then the first and the
+/// last eight places of long values.
 fn spoiled() -> impl Iterator<Item = (usize, usize, u8)> {
     let request = [
         (7, 6, 0x80),
@@ -60,33 +58,53 @@ fn spoiled() -> impl Iterator<Item = (usize, usize, u8)> {
     request.into_iter().chain(long)
 }
 
-/// Chosen values: good ones at the edges of words, then those with a byte above 127.
-pub fn fixed() -> impl Iterator<Item = LongText> {
-    let lengths = (0..=17).chain(247..=255);
-    let good = lengths.map(|length| LongText {
-        page: selector([vec![0x7f; length].as_slice()].into_iter()),
-        expected: Outcome::Accepted(Kind::Vector),
-    });
-    let spoiled = spoiled().map(|(length, place, byte)| LongText {
-        page: selector([value(length, place, byte).as_slice()].into_iter()),
-        expected: REFUSED,
-    });
-    good.chain(spoiled)
+/// A selector with this value.
+fn one_value(value: &[u8], expected: Outcome) -> Made {
+    Made::new(selector([value].into_iter()), expected)
 }
 
-/// A string, a selector with matchers or an aggregate with labels; in half of them one text has a byte above 127.
-pub fn random(random: &mut Random) -> LongText {
-    let mut generator = Generator::new(random, 255);
+/// A longer character at the first and the last places of a value among letters; the same with a letter for its last
+/// byte.
+fn with_character(length: usize, character: char) -> impl Iterator<Item = Made> {
+    let last = length - character.len_utf8();
+    let places = (0..8).chain(last - 7..=last);
+    places.flat_map(move |place| {
+        let mut value = vec![b'v'; length];
+        let end = place + character.len_utf8();
+        value[place..end].copy_from_slice(character.to_string().as_bytes());
+        let whole = one_value(&value, ACCEPTED);
+        value[end - 1] = b'v';
+        [whole, one_value(&value, REFUSED)]
+    })
+}
+
+/// Chosen values: good ones at the edges of words, those with a byte above 127, those with a longer character.
+pub fn fixed() -> impl Iterator<Item = Made> {
+    let lengths = (0..=17).chain(247..=255);
+    let good = lengths.map(|length| one_value(&vec![0x7f; length], ACCEPTED));
+    let spoiled =
+        spoiled().map(|(length, place, byte)| one_value(&value(length, place, byte), REFUSED));
+    let longer = [17, 24, 255].into_iter().flat_map(|length| {
+        let with_character = move |character| with_character(length, character);
+        LONGER.into_iter().flat_map(with_character)
+    });
+    good.chain(spoiled).chain(longer)
+}
+
+/// A string, a selector with matchers or an aggregate with labels. In half of them a byte of one text has its highest
+/// bit turned, which makes every well-formed text ill-formed.
+pub fn random(random: &mut Random, alphabet: Alphabet) -> Made {
+    let mut generator = Generator::new(random, 255, alphabet);
     let (records, kind) = generator.with_long_texts();
     let mut page = write::page(&records);
     let mut expected = Outcome::Accepted(kind);
     if random.chance(50) {
         if let Some((place, record)) = tested_byte(random, &page) {
-            page[place] |= 0x80;
+            page[place] ^= 0x80;
             expected = Outcome::Refused { number: 4, record };
         }
     }
-    LongText { page, expected }
+    Made::new(page, expected)
 }
 
 /// The place of a byte of some text that is no name, and the record that has it; nothing where all are empty.
@@ -96,8 +114,11 @@ fn tested_byte(random: &mut Random, page: &[u8]) -> Option<(usize, usize)> {
     let mut index = 0;
     while !reader.is_at_end() {
         let record = reader.record().ok()?;
-        let parts = record.texts().into_iter();
-        texts.extend(parts.map(|text| (text.start, text.text.len(), index)));
+        let parts = record
+            .texts()
+            .into_iter()
+            .filter(|(kind, _)| !kind.is_name());
+        texts.extend(parts.map(|(_, text)| (text.start, text.text.len(), index)));
         index += 1;
     }
     texts.retain(|(_, length, _)| *length > 0);
@@ -117,7 +138,7 @@ impl Generator<'_> {
         }
     }
 
-    /// Any bytes below 128: a few, some words and a byte more or less, nearly 255, or any count.
+    /// Any characters: a few bytes, some words and a byte more or less, nearly 255, or any count.
     fn long_text(&mut self, most: usize) -> Text<'static> {
         let length = match self.random.below(4) {
             0 => self.random.between(0, 17),
@@ -126,6 +147,9 @@ impl Generator<'_> {
             _ => self.random.between(0, 255),
         };
         let length = length.min(most);
+        if self.alphabet == Alphabet::Utf8 {
+            return Text::from(self.characters(length).as_str());
+        }
         let text: String = (0..length)
             .map(|_| char::from(self.random.byte() & 0x7f))
             .collect();

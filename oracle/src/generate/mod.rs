@@ -1,40 +1,65 @@
-//! Pages from a seed: good ones, planted faults, damaged copies, sizes at the limits, long texts, deep nesting, short
-//! and random bytes.
+//! Pages from a seed: good ones, planted faults, damaged copies, sizes at the limits, long texts, characters beyond
+//! ASCII and ill-formed ones, deep nesting, short and random bytes.
 
+pub mod alphabet;
 mod call;
+pub mod carriers;
 pub mod codes;
+pub mod counted_bytes;
 mod damage;
 mod expression;
 pub mod fault;
+mod holders;
+pub mod ill_formed;
 pub mod limits;
 pub mod long_texts;
 pub mod nesting;
 mod parts;
 pub mod stream;
 mod texts;
+pub mod well_formed;
 
+pub use alphabet::Alphabet;
 pub use damage::damaged;
 
+use crate::answer::Outcome;
 use crate::page::record::{Kind, Record};
 use crate::page::{write, MAX_PAGE_BYTES, MAX_RECORDS};
 use crate::random::Random;
+
+/// A page, and the outcome that it was made for.
+pub struct Made {
+    pub page: Vec<u8>,
+    pub expected: Outcome,
+}
+
+impl Made {
+    fn new(page: Vec<u8>, expected: Outcome) -> Self {
+        Self { page, expected }
+    }
+}
 
 /// Records under construction; `room` bounds the length of the texts in them.
 pub struct Generator<'r> {
     pub random: &'r mut Random,
     pub room: usize,
+    pub alphabet: Alphabet,
 }
 
 pub type Records = Vec<Record<'static>>;
 
 impl<'r> Generator<'r> {
-    pub fn new(random: &'r mut Random, room: usize) -> Self {
-        Self { random, room }
+    pub fn new(random: &'r mut Random, room: usize, alphabet: Alphabet) -> Self {
+        Self {
+            random,
+            room,
+            alphabet,
+        }
     }
 }
 
 /// A good page of exactly this many records, with the kind that it has.
-pub fn good(random: &mut Random, records: usize) -> (Vec<u8>, Kind) {
+pub fn good(random: &mut Random, alphabet: Alphabet, records: usize) -> (Vec<u8>, Kind) {
     let kind = *random.pick(&[
         Kind::Vector,
         Kind::Vector,
@@ -43,10 +68,6 @@ pub fn good(random: &mut Random, records: usize) -> (Vec<u8>, Kind) {
         Kind::Matrix,
         Kind::String,
     ]);
-    good_of_kind(random, kind, records)
-}
-
-pub fn good_of_kind(random: &mut Random, kind: Kind, records: usize) -> (Vec<u8>, Kind) {
     let records = records.clamp(1, MAX_RECORDS);
     loop {
         let room = match records {
@@ -54,7 +75,8 @@ pub fn good_of_kind(random: &mut Random, kind: Kind, records: usize) -> (Vec<u8>
             0..=40 if random.chance(30) => 40,
             _ => 8,
         };
-        let page = write::page(&Generator::new(random, room).expression(kind, records));
+        let made = Generator::new(random, room, alphabet).expression(kind, records);
+        let page = write::page(&made);
         if page.len() <= MAX_PAGE_BYTES {
             return (page, kind);
         }
@@ -64,7 +86,7 @@ pub fn good_of_kind(random: &mut Random, kind: Kind, records: usize) -> (Vec<u8>
 /// A page of the size that benchmarks use: a vector of this many records with texts of everyday length.
 pub fn everyday(random: &mut Random, records: usize) -> Vec<u8> {
     loop {
-        let made = Generator::new(random, 12).expression(Kind::Vector, records);
+        let made = Generator::new(random, 12, Alphabet::Ascii).expression(Kind::Vector, records);
         let page = write::page(&made);
         if page.len() <= MAX_PAGE_BYTES {
             return page;

@@ -1,6 +1,6 @@
 //! Parts of records: literals, times, selectors, modifiers, groupings.
 
-use super::Generator;
+use super::{alphabet, Generator};
 use crate::page::code::{is_comparison, is_set_operator};
 use crate::page::record::*;
 use crate::page::{MAX_AT_MILLISECONDS, MAX_NUMBER};
@@ -183,6 +183,10 @@ impl Generator<'_> {
         let mut group = self.labels();
         if let Matching::On(on) = matching {
             group.retain(|label| on.iter().all(|each| each.text != label.text));
+            if let Some(label) = alphabet::other_spelling(on) {
+                group.truncate(15);
+                group.push(label);
+            }
         }
         match self.random.below(if is_set { 2 } else { 4 }) {
             0 => Cardinality::OneToOne,

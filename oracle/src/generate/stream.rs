@@ -1,6 +1,9 @@
 //! All pages of a run: the fixed ones, then as many rounds as asked for.
 
-use super::{bytes, codes, damaged, fault, good, limits, long_texts, nesting, shortest};
+use super::{
+    bytes, codes, counted_bytes, damaged, fault, good, ill_formed, limits, long_texts, nesting,
+};
+use super::{shortest, well_formed, Alphabet, Made};
 use crate::answer::Outcome;
 use crate::chosen;
 use crate::random::Random;
@@ -27,17 +30,28 @@ impl Sample {
     }
 }
 
-/// Chosen pages, the limits, every code and every kind of operand, deep nesting, long values.
+impl From<Made> for Sample {
+    fn from(made: Made) -> Self {
+        Self::made_for(made.page, made.expected)
+    }
+}
+
+/// Chosen pages, the limits, every code and every kind of operand, deep nesting, long values, characters beyond ASCII.
 pub fn fixed() -> impl Iterator<Item = Sample> {
-    let chosen = chosen::rows().map(|row| Sample::any(row.bytes()));
+    let rows = chosen::rows().chain(chosen::outside());
+    let chosen = rows.map(|row| Sample::any(row.bytes()));
     let limits = limits::limits().map(|limit| Sample::made_for(limit.page, limit.expected));
     let nested = nesting::DEPTHS
         .into_iter()
         .flat_map(nesting::series)
         .map(|(_, page)| Sample::any(page));
     let swept = codes::pages().chain(codes::kinds()).map(Sample::any);
-    let long = long_texts::fixed().map(|text| Sample::made_for(text.page, text.expected));
-    chosen.chain(limits).chain(swept).chain(nested).chain(long)
+    let texts = long_texts::fixed()
+        .chain(well_formed::fixed())
+        .chain(counted_bytes::fixed())
+        .chain(ill_formed::fixed())
+        .map(Sample::from);
+    chosen.chain(limits).chain(swept).chain(nested).chain(texts)
 }
 
 /// Every byte string of at most two bytes.
@@ -48,15 +62,53 @@ pub fn short() -> impl Iterator<Item = Sample> {
 /// Pages with long texts in a round.
 const LONG_TEXTS: usize = 14;
 
-/// One round: each planted fault, good pages of several sizes, damaged copies of all of them, random bytes, long texts.
+/// One round: pages of ASCII, then pages with characters beyond it.
 pub fn round(random: &mut Random) -> Vec<Sample> {
-    let mut samples: Vec<Sample> = fault::numbers()
-        .map(|number| fault::planted(random, number))
-        .map(|planted| Sample::made_for(planted.page, planted.expected))
-        .collect();
-    for _ in 0..40 {
+    let mut samples = ascii(random);
+    samples.extend(beyond_ascii(random));
+    samples
+}
+
+/// Each planted fault, good pages of several sizes, damaged copies of all of them, random bytes, long texts.
+fn ascii(random: &mut Random) -> Vec<Sample> {
+    let numbers: Vec<u8> = fault::numbers().collect();
+    let mut samples = whole_and_damaged(random, Alphabet::Ascii, &numbers, 40);
+    samples.extend((0..20).map(|_| Sample::any(bytes(random))));
+    let long = (0..LONG_TEXTS).map(|_| long_texts::random(random, Alphabet::Ascii));
+    samples.extend(long.map(Sample::from));
+    samples
+}
+
+/// Some planted faults, good pages, damaged copies of these, long texts; ill-formed texts, texts at their limits, names
+/// that are none.
+fn beyond_ascii(random: &mut Random) -> Vec<Sample> {
+    let numbers: Vec<u8> = fault::numbers().collect();
+    let numbers = [0; 8].map(|_| *random.pick(&numbers));
+    let mut samples = whole_and_damaged(random, Alphabet::Utf8, &numbers, 16);
+    let long = (0..LONG_TEXTS).map(|_| long_texts::random(random, Alphabet::Utf8));
+    samples.extend(long.map(Sample::from));
+    samples.extend((0..22).map(|_| Sample::from(ill_formed::random(random))));
+    samples.extend((0..5).map(|_| Sample::from(counted_bytes::random(random))));
+    let sums = [100, 101].map(|bytes| counted_bytes::random_sum(random, bytes));
+    samples.extend(sums.map(Sample::from));
+    samples.extend((0..4).map(|_| Sample::from(well_formed::random_name(random))));
+    samples
+}
+
+/// A page for each of these faults, so many good pages, and a damaged copy of each.
+fn whole_and_damaged(
+    random: &mut Random,
+    alphabet: Alphabet,
+    numbers: &[u8],
+    good_pages: usize,
+) -> Vec<Sample> {
+    let planted = numbers
+        .iter()
+        .map(|number| fault::planted(random, alphabet, *number));
+    let mut samples: Vec<Sample> = planted.map(Sample::from).collect();
+    for _ in 0..good_pages {
         let size = size(random);
-        let (page, kind) = good(random, size);
+        let (page, kind) = good(random, alphabet, size);
         samples.push(Sample::made_for(page, Outcome::Accepted(kind)));
     }
     let damaged: Vec<Sample> = samples
@@ -64,9 +116,6 @@ pub fn round(random: &mut Random) -> Vec<Sample> {
         .map(|sample| Sample::any(damaged(random, &sample.page)))
         .collect();
     samples.extend(damaged);
-    samples.extend((0..20).map(|_| Sample::any(bytes(random))));
-    let long = (0..LONG_TEXTS).map(|_| long_texts::random(random));
-    samples.extend(long.map(|text| Sample::made_for(text.page, text.expected)));
     samples
 }
 

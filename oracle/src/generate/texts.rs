@@ -1,5 +1,6 @@
 //! Names, labels, values and patterns.
 
+use super::alphabet::{self, Alphabet};
 use super::Generator;
 use crate::page::record::{Operation, Text};
 use crate::tree;
@@ -56,7 +57,7 @@ impl Generator<'_> {
     }
 
     /// One of a list that fits the room.
-    fn listed(&mut self, list: &[&'static str]) -> Text<'static> {
+    pub(super) fn listed(&mut self, list: &[&'static str]) -> Text<'static> {
         loop {
             let text = *self.random.pick(list);
             if text.len() <= self.room.max(8) {
@@ -74,6 +75,9 @@ impl Generator<'_> {
     }
 
     pub fn label(&mut self) -> Text<'static> {
+        if let Some(label) = self.beyond_ascii(alphabet::LABELS) {
+            return label;
+        }
         match self.random.below(10) {
             0 => self.any_text(),
             1..=3 => {
@@ -95,6 +99,9 @@ impl Generator<'_> {
     }
 
     pub fn value(&mut self) -> Text<'static> {
+        if let Some(value) = self.beyond_ascii(alphabet::LABELS) {
+            return value;
+        }
         if self.random.chance(70) {
             self.listed(VALUES)
         } else {
@@ -110,7 +117,7 @@ impl Generator<'_> {
             } else {
                 self.random.between(2, 4)
             };
-            let pattern: String = (0..pieces).map(|_| *self.random.pick(PATTERNS)).collect();
+            let pattern: String = (0..pieces).map(|_| self.piece()).collect();
             if pattern.len() > self.room.max(12) {
                 continue;
             }
@@ -118,6 +125,15 @@ impl Generator<'_> {
                 return (Text::from(pattern.as_str()), flag);
             }
         }
+    }
+
+    /// A piece of a pattern.
+    fn piece(&mut self) -> &'static str {
+        let is_longer = self.alphabet == Alphabet::Utf8 && self.random.chance(60);
+        *self.random.pick(match is_longer {
+            true => alphabet::PATTERNS,
+            false => PATTERNS,
+        })
     }
 
     /// An operation with a value that suits it.

@@ -1,8 +1,11 @@
-//! The page of document 01: its records (`record`), their codes (`code`), how they are read (`read`) and written (`write`).
+//! The page of document 01: its records (`record`), their codes (`code`) and texts (`texts`, by `text_kind`), how
+//! they are read (`read`) and written (`write`).
 
 pub mod code;
 pub mod read;
 pub mod record;
+pub mod text_kind;
+mod texts;
 pub mod write;
 
 pub const MAX_PAGE_BYTES: usize = 8192;

@@ -117,30 +117,12 @@ pub enum Matching<'a> {
     Ignoring(Labels<'a>),
 }
 
-impl<'a> Matching<'a> {
-    pub fn labels(&self) -> &[Text<'a>] {
-        match self {
-            Matching::None => &[],
-            Matching::On(labels) | Matching::Ignoring(labels) => labels,
-        }
-    }
-}
-
 #[derive(Debug, Clone, PartialEq)]
 pub enum Cardinality<'a> {
     OneToOne,
     GroupLeft(Labels<'a>),
     GroupRight(Labels<'a>),
     ManyToMany,
-}
-
-impl<'a> Cardinality<'a> {
-    pub fn labels(&self) -> &[Text<'a>] {
-        match self {
-            Cardinality::OneToOne | Cardinality::ManyToMany => &[],
-            Cardinality::GroupLeft(labels) | Cardinality::GroupRight(labels) => labels,
-        }
-    }
 }
 
 #[derive(Debug, Clone, PartialEq)]
@@ -168,15 +150,6 @@ pub enum Grouping<'a> {
     None,
     By(Labels<'a>),
     Without(Labels<'a>),
-}
-
-impl<'a> Grouping<'a> {
-    pub fn labels(&self) -> &[Text<'a>] {
-        match self {
-            Grouping::None => &[],
-            Grouping::By(labels) | Grouping::Without(labels) => labels,
-        }
-    }
 }
 
 #[derive(Debug, Clone, Copy, PartialEq, Eq)]
@@ -229,7 +202,7 @@ pub enum Record<'a> {
     },
 }
 
-impl<'a> Record<'a> {
+impl Record<'_> {
     /// The first number of the record on the page.
     pub fn kind_number(&self) -> u8 {
         match self {
@@ -245,26 +218,6 @@ impl<'a> Record<'a> {
             Record::Binary { .. } => 9,
             Record::Aggregate { .. } => 10,
             Record::Call { .. } => 11,
-        }
-    }
-
-    /// The texts that are no names, in their order: strings, labels, the names and values of matchers.
-    pub fn texts(&self) -> Vec<&Text<'a>> {
-        match self {
-            Record::String(text) => vec![text],
-            Record::Selector { matchers, .. } => matchers
-                .iter()
-                .flat_map(|matcher| [&matcher.name, &matcher.value])
-                .collect(),
-            Record::Binary {
-                modifier: Some(modifier),
-                ..
-            } => {
-                let labels = modifier.matching.labels().iter();
-                labels.chain(modifier.cardinality.labels()).collect()
-            }
-            Record::Aggregate { grouping, .. } => grouping.labels().iter().collect(),
-            _ => Vec::new(),
         }
     }
 

@@ -1,4 +1,5 @@
-//! In every row the column of the port has the oracle's answer to the row's page; the first section is true of the Rust.
+//! In every row the column of the port has the oracle's answer to the row's page; the first section is true of the
+//! Rust.
 
 use crate::document::{quoted, row, rows};
 use crate::search::worked;
@@ -10,9 +11,29 @@ use promql_parser::label::Matcher;
 use promql_parser::parser::token::T_EQL_REGEX;
 use std::collections::HashSet;
 
-/// The bytes of a text of the document, in which `<01>` stands for the byte 1.
-fn bytes(text: &str) -> Vec<u8> {
-    spelled(&text.replace("<01>", "\u{1}").replace("<0a>", "\n"))
+/// A text of the document, in which `<01>` stands for the byte 1, and `<c2ad>` for the character of these bytes.
+fn told(text: &str) -> String {
+    let mut pieces = text.split('<');
+    let mut told = pieces.next().unwrap_or_default().to_string();
+    for piece in pieces {
+        let bytes = piece
+            .split_once('>')
+            .filter(|(digits, _)| is_hexadecimal(digits));
+        match bytes {
+            Some((digits, after)) => {
+                told += &String::from_utf8(hex::bytes(digits)).expect("characters");
+                told += after;
+            }
+            None => told = told + "<" + piece,
+        }
+    }
+    told
+}
+
+/// Whole bytes in small digits.
+fn is_hexadecimal(text: &str) -> bool {
+    let is_digit = |digit: u8| matches!(digit, b'0'..=b'9' | b'a'..=b'f');
+    !text.is_empty() && text.len().is_multiple_of(2) && text.bytes().all(is_digit)
 }
 
 pub fn is_told(page: &[u8], cell: &str) -> bool {
@@ -23,9 +44,30 @@ pub fn is_told(page: &[u8], cell: &str) -> bool {
     let cell = cell.trim_start_matches("accepts, ");
     let text = quoted(cell).expect("a text between backquotes");
     if cell.starts_with("splits `") {
-        return bytes(text) == answer.split;
+        return spelled(&told(text)) == answer.split;
     }
-    cell.starts_with("prints `") && text.replace("<01>", "\u{1}").as_bytes() == answer.canonical
+    cell.starts_with("prints `") && told(text).as_bytes() == answer.canonical
+}
+
+#[test]
+fn bytes_in_hexadecimal_are_characters() {
+    assert_eq!(told("\"<01>\" <c2ad><e280a8>"), "\"\u{1}\" \u{ad}\u{2028}");
+    assert_eq!(
+        told("1 < bool 2 (?<n>a) <c2a <>"),
+        "1 < bool 2 (?<n>a) <c2a <>"
+    );
+}
+
+/// The characters of C7 and those of the rows beside `a b`: no row of the document is left to ASCII by mistake.
+#[test]
+fn rows_beyond_ascii_are_there() {
+    let rows = rows();
+    let beyond = |number: &str| {
+        let of_number = rows.iter().filter(|row| row.number == number);
+        of_number.filter(|row| !row.page.is_ascii()).count()
+    };
+    let counts = ["A11", "A12", "C7", "C12"].map(beyond);
+    assert_eq!(counts, [1, 1, 3, 1]);
 }
 
 #[test]
@@ -34,7 +76,7 @@ fn every_row_has_the_oracles_answer() {
     for row in &rows {
         assert!(is_told(&row.page, row.port), "{}: {}", row.number, row.port);
     }
-    assert!(rows.len() > 75, "{} rows", rows.len());
+    assert!(rows.len() > 80, "{} rows", rows.len());
 }
 
 #[test]

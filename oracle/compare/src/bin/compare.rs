@@ -4,14 +4,16 @@
 //!     compare seeds FIRST LAST THREADS    one round of generated pages for each seed
 //!     compare seeds FIRST LAST THREADS STATE
 //!                                         the same with progress, resumed from the file STATE if the run was stopped
+//!     compare texts                       all short texts through `check`: strings of up to three bytes, others of two
 
 use compare::library::Library;
 use compare::resume::Run;
 use compare::run::{self, Tally};
+use compare::short_texts;
 use std::path::Path;
 use std::process::ExitCode;
 
-const USAGE: &str = "usage: compare fixed | seeds FIRST LAST THREADS [STATE]";
+const USAGE: &str = "usage: compare fixed | seeds FIRST LAST THREADS [STATE] | texts";
 
 /// Seeds between two states: some ten seconds.
 const BLOCK: u64 = 1000;
@@ -21,18 +23,16 @@ fn main() -> ExitCode {
     let words: Vec<&str> = arguments.iter().map(String::as_str).collect();
     let library = Library::linked();
     let result = match words.as_slice() {
-        ["fixed"] => run::fixed(library),
-        ["seeds", first, last, threads] => seeds(library, first, last, threads, None),
+        ["fixed"] => run::fixed(library).map(report),
+        ["seeds", first, last, threads] => seeds(library, first, last, threads, None).map(report),
         ["seeds", first, last, threads, state] => {
-            seeds(library, first, last, threads, Some(Path::new(state)))
+            seeds(library, first, last, threads, Some(Path::new(state))).map(report)
         }
+        ["texts"] => short_texts::compare(library).map(report_texts),
         _ => Err(USAGE.into()),
     };
     match result {
-        Ok(tally) => {
-            report(&tally);
-            ExitCode::SUCCESS
-        }
+        Ok(()) => ExitCode::SUCCESS,
         Err(words) => {
             eprintln!("{words}");
             ExitCode::FAILURE
@@ -64,10 +64,17 @@ fn seeds(
     Ok(tally)
 }
 
-fn report(tally: &Tally) {
+fn report(tally: Tally) {
     print!("{}", tally.coverage);
     println!(
         "{} pages, {} calls, no difference",
         tally.coverage.pages, tally.calls
+    );
+}
+
+fn report_texts(tally: short_texts::Tally) {
+    println!(
+        "{} strings, {} labels, matchers and names: no difference",
+        tally.strings, tally.others
     );
 }

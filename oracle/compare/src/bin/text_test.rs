@@ -1,7 +1,9 @@
 //! The test of texts by itself.
 //!
-//!     text_test          every start, length and place of one byte, held against the Rust's `is_ascii`
-//!     text_test time     nanoseconds at several lengths, by words and by bytes
+//!     text_test          short texts, every character, every start, length and place, held against the Rust's
+//!                        `from_utf8` and `is_ascii`
+//!     text_test time     nanoseconds at several lengths, by words and by bytes; with characters beyond ASCII beside
+//!                        the Rust's `from_utf8`
 
 use compare::text_test::{self, TextTest};
 use std::process::ExitCode;
@@ -13,7 +15,7 @@ fn main() -> ExitCode {
     let words: Vec<&str> = arguments.iter().map(String::as_str).collect();
     let test = TextTest::linked();
     let result = match words.as_slice() {
-        [] => text_test::compare(&test).map(|cases| println!("{cases} cases, no difference")),
+        [] => compare(&test),
         ["time"] => {
             text_test::print_times(&test);
             Ok(())
@@ -27,4 +29,14 @@ fn main() -> ExitCode {
             ExitCode::FAILURE
         }
     }
+}
+
+fn compare(test: &TextTest) -> Result<(), String> {
+    let tally = text_test::compare(test)?;
+    for (words, count) in &tally {
+        println!("{count:>9}  {words}");
+    }
+    let cases: u64 = tally.iter().map(|(_, count)| count).sum();
+    println!("{cases} cases, no difference");
+    Ok(())
 }

@@ -3,3 +3,4 @@
 mod planted;
 mod resume;
 mod standin;
+mod texts;

@@ -1,6 +1,6 @@
 //! The comparison passes a library that answers by the oracle, and finds every planted fault.
 
-use crate::standin::{self, straying};
+use crate::standin::{self, straying, texts};
 use compare::library::Library;
 use compare::run;
 use std::env;
@@ -22,7 +22,7 @@ fn the_oracle_agrees_with_itself() {
 
 #[test]
 fn planted_faults_are_found() {
-    for (words, blamed, library) in standin::faulty() {
+    for (words, blamed, library) in standin::faulty().into_iter().chain(texts::faulty()) {
         let found = compared(library).err();
         let difference = found.unwrap_or_else(|| panic!("not found: {words}"));
         assert!(difference.contains(blamed), "{words}: {difference}");

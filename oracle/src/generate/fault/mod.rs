@@ -1,4 +1,5 @@
-//! One planted fault: good expressions on the stack, the operands of the faulty record, that record, and what follows unread.
+//! One planted fault: good expressions on the stack, the operands of the faulty record, that record, and what follows
+//! unread.
 
 mod aggregate;
 mod binary;
@@ -6,16 +7,11 @@ mod call;
 mod checks;
 mod fields;
 
-use super::{Generator, Records};
+use super::{Alphabet, Generator, Made, Records};
 use crate::answer::Outcome;
 use crate::page::record::Kind;
 use crate::page::write;
 use crate::random::Random;
-
-pub struct Planted {
-    pub page: Vec<u8>,
-    pub expected: Outcome,
-}
 
 /// The numbers that a page itself can be refused with: 5 depends on the buffer.
 pub fn numbers() -> impl Iterator<Item = u8> {
@@ -31,11 +27,11 @@ struct Fault {
 }
 
 /// A page that is refused with this number, at an index that varies.
-pub fn planted(random: &mut Random, number: u8) -> Planted {
+pub fn planted(random: &mut Random, alphabet: Alphabet, number: u8) -> Made {
+    let mut generator = Generator::new(random, 8, alphabet);
     if number == 2 {
-        return operands_missing(random);
+        return operands_missing(&mut generator);
     }
-    let mut generator = Generator::new(random, 8);
     let fault = match number {
         1 | 3 | 4 => fields::fault(&mut generator, number),
         _ => checks::fault(&mut generator, number),
@@ -47,17 +43,12 @@ pub fn planted(random: &mut Random, number: u8) -> Planted {
     if !fault.is_last {
         page.extend(unread(generator.random));
     }
-    Planted {
-        page,
-        expected: Outcome::Refused {
-            number,
-            record: records.len(),
-        },
-    }
+    let record = records.len();
+    Made::new(page, Outcome::Refused { number, record })
 }
 
 /// Up to `most` good expressions, sometimes of many records.
-fn context(generator: &mut Generator, most: usize) -> Records {
+pub(super) fn context(generator: &mut Generator, most: usize) -> Records {
     let mut records = Vec::new();
     for _ in 0..generator.random.between(0, most) {
         let size = match generator.random.below(10) {
@@ -71,14 +62,13 @@ fn context(generator: &mut Generator, most: usize) -> Records {
 }
 
 /// Bytes that no reader gets to.
-fn unread(random: &mut Random) -> Vec<u8> {
+pub(super) fn unread(random: &mut Random) -> Vec<u8> {
     let count = random.below(6);
     (0..count).map(|_| random.byte()).collect()
 }
 
 /// 2: fewer values than operands; or not one value at the end, which has the number of records as index.
-fn operands_missing(random: &mut Random) -> Planted {
-    let mut generator = Generator::new(random, 8);
+fn operands_missing(generator: &mut Generator) -> Made {
     let is_at_end = generator.random.chance(30);
     let values = if is_at_end {
         *generator.random.pick(&[0, 2, 2, 3])
@@ -93,14 +83,12 @@ fn operands_missing(random: &mut Random) -> Planted {
     }
     let mut page = write::page(&records);
     if !is_at_end {
-        write::record(&mut page, &checks::wanting(&mut generator, values));
+        write::record(&mut page, &checks::wanting(generator, values));
         page.extend(unread(generator.random));
     }
-    Planted {
-        page,
-        expected: Outcome::Refused {
-            number: 2,
-            record: records.len(),
-        },
-    }
+    let refused = Outcome::Refused {
+        number: 2,
+        record: records.len(),
+    };
+    Made::new(page, refused)
 }

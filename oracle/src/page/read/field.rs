@@ -1,11 +1,13 @@
 //! Single fields: numbers, choices, counts, texts. At one field 1 comes first, then 3, then 4; a text is one field.
 
 use super::super::record::Text;
-use super::super::{MAX_LIST, MAX_NUMBER, MAX_TEXT_BYTES};
+use super::super::text_kind::TextKind;
+use super::super::{MAX_LIST, MAX_NUMBER};
 use std::borrow::Cow;
 use std::ops::Range;
 
-/// The refusal number of a field: 1 (cut short, bad number or code), 3 (limit passed) or 4 (text not allowed).
+/// The refusal number of a field: 1 (cut short, bad number or code), 3 (limit passed) or 4 (text ill-formed, or no
+/// name).
 pub type Fault = u8;
 
 pub type Read<T> = Result<T, Fault>;
@@ -14,11 +16,27 @@ pub const BAD: Fault = 1;
 pub const LIMIT: Fault = 3;
 const TEXT: Fault = 4;
 
+/// A text as its field says: where it starts, and how many bytes it should have.
+#[derive(Debug, Clone, Copy, PartialEq, Eq)]
+pub struct TextField {
+    pub kind: TextKind,
+    pub start: usize,
+    pub length: u64,
+}
+
+impl TextField {
+    /// The bytes of it that the page has.
+    pub fn bytes<'a>(&self, page: &'a [u8]) -> &'a [u8] {
+        let rest = &page[self.start..];
+        &rest[..rest.len().min(self.length as usize)]
+    }
+}
+
 pub struct Reader<'a> {
     page: &'a [u8],
     at: usize,
-    /// The bytes of the last text that is no name, allowed or not.
-    pub text: Range<usize>,
+    /// The last text whose length was read, allowed or not.
+    pub text: Option<TextField>,
 }
 
 impl<'a> Reader<'a> {
@@ -26,7 +44,7 @@ impl<'a> Reader<'a> {
         Self {
             page,
             at: 0,
-            text: 0..0,
+            text: None,
         }
     }
 
@@ -74,45 +92,46 @@ impl<'a> Reader<'a> {
         Ok(count as usize)
     }
 
-    /// The bytes of a text of at most `limit` bytes.
-    fn text_bytes(&mut self, limit: u64) -> Read<Range<usize>> {
+    /// Where the bytes of a text lie: all there, and no more than its kind may have. A text is its own bytes alone.
+    fn text_bytes(&mut self, kind: TextKind) -> Read<Range<usize>> {
         let length = self.number()?;
         let start = self.at;
+        self.text = Some(TextField {
+            kind,
+            start,
+            length,
+        });
         if length > (self.page.len() - start) as u64 {
             return Err(BAD);
         }
-        if length > limit {
+        if length > kind.limit() {
             return Err(LIMIT);
         }
         self.at += length as usize;
         Ok(start..self.at)
     }
 
-    /// The text of these bytes, if it passes `is_allowed`.
-    fn allowed(&self, bytes: Range<usize>, is_allowed: fn(&str) -> bool) -> Read<Text<'a>> {
+    /// A text of well-formed UTF-8; the Rust's own `str` can hold no other.
+    pub fn text(&mut self, kind: TextKind) -> Read<Text<'a>> {
+        let bytes = self.text_bytes(kind)?;
         let start = bytes.start;
         let text = std::str::from_utf8(&self.page[bytes]).map_err(|_| TEXT)?;
-        if !text.is_ascii() || !is_allowed(text) {
-            return Err(TEXT);
-        }
         Ok(Text {
             start,
             text: Cow::Borrowed(text),
         })
     }
 
-    /// A name of at most `limit` bytes that passes `is_allowed`.
-    pub fn name(&mut self, limit: u64, is_allowed: fn(&str) -> bool) -> Read<Text<'a>> {
-        let bytes = self.text_bytes(limit)?;
-        self.allowed(bytes, is_allowed)
+    /// A name: a text of ASCII that passes `is_allowed`.
+    pub fn name(&mut self, kind: TextKind, is_allowed: fn(&str) -> bool) -> Read<Text<'a>> {
+        let name = self.text(kind)?;
+        if !name.text.is_ascii() || !is_allowed(&name.text) {
+            return Err(TEXT);
+        }
+        Ok(name)
     }
 
-    pub fn text(&mut self) -> Read<Text<'a>> {
-        self.text = self.text_bytes(MAX_TEXT_BYTES)?;
-        self.allowed(self.text.clone(), |_| true)
-    }
-
-    pub fn list<T>(&mut self, element: fn(&mut Self) -> Read<T>) -> Read<Vec<T>> {
+    pub fn list<T>(&mut self, element: impl Fn(&mut Self) -> Read<T>) -> Read<Vec<T>> {
         let count = self.count()?;
         (0..count).map(|_| element(self)).collect()
     }

@@ -1,16 +1,18 @@
-//! Reading of records, written from document 01 alone: the fields in order, the first faulty one decides.
+//! Reading of records, written from document 01 and No. 10 of document 02 alone: the fields in order, the first faulty
+//! one decides.
 
 mod field;
 
-pub use field::{Fault, Reader};
+pub use field::{Fault, Reader, TextField};
 
 use super::record::*;
-use super::{MAX_AT_MILLISECONDS, MAX_FUNCTION_NAME_BYTES, MAX_TEXT_BYTES, MAX_UPPER};
+use super::text_kind::TextKind;
+use super::{MAX_AT_MILLISECONDS, MAX_UPPER};
 use field::{Read, BAD, LIMIT};
 
 impl<'a> Reader<'a> {
-    fn labels(&mut self) -> Read<Labels<'a>> {
-        self.list(Self::text)
+    fn labels(&mut self, kind: TextKind) -> Read<Labels<'a>> {
+        self.list(|reader| reader.text(kind))
     }
 
     fn kind(&mut self) -> Read<Kind> {
@@ -29,8 +31,12 @@ impl<'a> Reader<'a> {
 
     fn matcher(&mut self) -> Read<Matcher<'a>> {
         let operation = self.choice(4)?;
-        let name = self.text()?;
-        let value = self.text()?;
+        let name = self.text(TextKind::MatcherName)?;
+        let value = self.text(match operation {
+            0 | 1 => TextKind::MatcherValue,
+            2 => TextKind::Regex,
+            _ => TextKind::NotRegex,
+        })?;
         let operation = match operation {
             0 => Operation::Equal,
             1 => Operation::NotEqual,
@@ -46,7 +52,7 @@ impl<'a> Reader<'a> {
 
     fn selector(&mut self) -> Read<Record<'a>> {
         Ok(Record::Selector {
-            name: self.name(MAX_TEXT_BYTES, is_metric_name_or_empty)?,
+            name: self.name(TextKind::MetricName, is_metric_name_or_empty)?,
             matchers: self.list(Self::matcher)?,
         })
     }
@@ -98,16 +104,16 @@ impl<'a> Reader<'a> {
     fn matching(&mut self) -> Read<Matching<'a>> {
         Ok(match self.choice(3)? {
             0 => Matching::None,
-            1 => Matching::On(self.labels()?),
-            _ => Matching::Ignoring(self.labels()?),
+            1 => Matching::On(self.labels(TextKind::On)?),
+            _ => Matching::Ignoring(self.labels(TextKind::Ignoring)?),
         })
     }
 
     fn cardinality(&mut self) -> Read<Cardinality<'a>> {
         Ok(match self.choice(4)? {
             0 => Cardinality::OneToOne,
-            1 => Cardinality::GroupLeft(self.labels()?),
-            2 => Cardinality::GroupRight(self.labels()?),
+            1 => Cardinality::GroupLeft(self.labels(TextKind::GroupLeft)?),
+            2 => Cardinality::GroupRight(self.labels(TextKind::GroupRight)?),
             _ => Cardinality::ManyToMany,
         })
     }
@@ -144,8 +150,8 @@ impl<'a> Reader<'a> {
         let code = self.code()?;
         let grouping = match self.choice(3)? {
             0 => Grouping::None,
-            1 => Grouping::By(self.labels()?),
-            _ => Grouping::Without(self.labels()?),
+            1 => Grouping::By(self.labels(TextKind::By)?),
+            _ => Grouping::Without(self.labels(TextKind::Without)?),
         };
         let arguments = self.count()?;
         Ok(Record::Aggregate {
@@ -169,7 +175,7 @@ impl<'a> Reader<'a> {
 
     fn call(&mut self) -> Read<Record<'a>> {
         let signature = Signature {
-            name: self.name(MAX_FUNCTION_NAME_BYTES, is_function_name)?,
+            name: self.name(TextKind::FunctionName, is_function_name)?,
             kinds: self.list(Self::kind)?,
             extra: self.extra()?,
             result: self.kind()?,
@@ -185,7 +191,7 @@ impl<'a> Reader<'a> {
     pub fn record(&mut self) -> Read<Record<'a>> {
         match self.choice(12)? {
             0 => self.literal().map(Record::Number),
-            1 => self.text().map(Record::String),
+            1 => self.text(TextKind::String).map(Record::String),
             2 => self.selector(),
             3 => self.number().map(Record::Range),
             4 => self.subquery(),

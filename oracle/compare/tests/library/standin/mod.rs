@@ -1,6 +1,7 @@
 //! A library that answers by the oracle itself, whole or with one planted fault.
 
 pub mod straying;
+pub mod texts;
 
 use compare::library::Library;
 use oracle::answer::{self, Answer, Outcome};
@@ -26,7 +27,7 @@ pub fn faulty() -> Vec<(&'static str, &'static str, Library)> {
         ("a label where there is none", "joint_label,", Library { joint_label: label_always, ..whole }),
         ("5 with room for exactly the text", "copy,", Library { copy: copy_stingy, ..whole }),
         ("5 where the page is refused", "copy,", Library { copy: copy_hasty, ..whole }),
-        ("one byte behind the text", "beside the text", Library { canonical: canonical_more, ..whole }),
+        ("one byte after the text", "beside the text", Library { canonical: canonical_more, ..whole }),
         ("a length and no text", "byte 0 of the text", Library { canonical: canonical_idle, ..whole }),
         ("the last byte another", "of the text is another", Library { split: split_wrong, ..whole }),
         ("a part of the text, then 5", "beside the text", Library { split: split_partial, ..whole }),
