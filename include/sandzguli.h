@@ -6,6 +6,12 @@
  * call finds the label of refusal 19. Names of kinds and refusals, and the version, need no page. docs/REFUSALS.md has
  * an example page for each refusal.
  *
+ * String literals, labels, and the names and values of matchers may hold UTF-8 (RFC 3629). Where they are ill-formed,
+ * as those that end inside a character, they are refused with 4; so are metric and function names that are no ASCII
+ * names. Canonical and split text are well-formed UTF-8 (proved). All lengths count bytes, not characters. A text may
+ * hold a zero byte, and is printed with it: strlen counts bytes too, but stops there, as other C string functions do.
+ * Go by the count of bytes that a call reports.
+ *
  * The page is only read. It may be at any address; NULL is allowed where its length is 0.
  *
  * The buffer `out` is lent for the call. An accepted call writes the bytes that it reports, from the start of `out`,
@@ -137,8 +143,8 @@ sandzguli_outcome sandzguli_canonical(const uint8_t *page, size_t page_len, uint
 /* The query on several lines where it is longer than 100 bytes, two spaces a level; no line feed at the end. */
 sandzguli_outcome sandzguli_split(const uint8_t *page, size_t page_len, uint8_t *out, size_t out_len);
 
-/* Where the label of refusal 19 lies in the page: the first group label that is also in the on list. 0 where the page
- * is not refused with 19. A label may be empty, so that only check tells whether there is one. */
+/* Where the label of refusal 19 lies in the page: the first group label that is also in the on list, in UTF-8. 0 where
+ * the page is not refused with 19. A label may be empty, so that only check tells whether there is one. */
 sandzguli_label sandzguli_joint_label(const uint8_t *page, size_t page_len);
 
 /* The name of a kind or of a refusal, in ASCII, for any number: `vector`, `a side is a string or a matrix`. Nothing is

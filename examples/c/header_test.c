@@ -43,6 +43,19 @@ static void test_up(void) {
     expect(memcmp(out, "upcd", 4) == 0, "the rest is as it was");
 }
 
+/* A string of a zero byte and an accent: five bytes with its quotes, where strlen stops after one. Cut inside the
+ * accent it is refused. */
+static void test_utf8(void) {
+    const uint8_t page[] = {0x01, 0x03, 0x00, 0xc3, 0xa9};
+    const uint8_t cut[] = {0x01, 0x02, 0x00, 0xc3};
+    uint8_t out[8] = {0};
+    sandzguli_outcome outcome = sandzguli_canonical(page, sizeof page, out, sizeof out);
+    expect(!sandzguli_is_refused(outcome) && sandzguli_kind_of(outcome) == SANDZGULI_STRING, "UTF-8 is a string");
+    expect(sandzguli_written(outcome) == 5 && memcmp(out, "\"\0\xc3\xa9\"", 5) == 0, "its bytes stand in quotes");
+    expect(strlen((const char *)out) == 1, "strlen stops at a zero byte");
+    expect(is_refused_with(sandzguli_check(cut, sizeof cut), SANDZGULI_BAD_TEXT, 0), "a text cut inside a character");
+}
+
 /* `-5`: the copy has the negated number. */
 static void test_copy(void) {
     const uint8_t minus[] = {0x00, 0x00, 0x05, 0x07};
@@ -120,6 +133,7 @@ static void test_version(void) {
 int main(void) {
     test_null();
     test_up();
+    test_utf8();
     test_copy();
     test_label();
     test_longest_page();

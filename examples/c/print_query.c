@@ -37,7 +37,8 @@ static int is_too_short(sandzguli_outcome outcome) {
     return sandzguli_is_refused(outcome) && sandzguli_refusal_of(outcome) == SANDZGULI_OUTPUT_TOO_SHORT;
 }
 
-/* Lends ever more room until the text fits. Answers the call's outcome; the caller frees the text. NULL: no memory is left. */
+/* Lends ever more room until the text fits. Answers the call's outcome; the caller frees the text. NULL: no memory is
+ * left. */
 static sandzguli_outcome split_with_room(const uint8_t *page, size_t page_len, uint8_t **text) {
     size_t room = TEXT_ROOM;
     sandzguli_outcome outcome = 0;

@@ -1,19 +1,17 @@
-//! The library's calls as safe functions.
+//! The library's calls as safe functions: check, the label of 19, the copy, and what all calls share. Unsafe are the
+//! calls themselves, and that the label is taken as UTF-8 without a test.
 
-use crate::{Kind, Refusal, Rule, CANONICAL_BYTES, COPY_BYTES};
+use crate::{Kind, Refusal, Rule, COPY_BYTES};
+use std::str::{from_utf8, from_utf8_unchecked};
 
 extern "C" {
     fn sandzguli_check(page: *const u8, page_len: usize) -> u64;
     fn sandzguli_joint_label(page: *const u8, page_len: usize) -> u64;
     fn sandzguli_copy(page: *const u8, page_len: usize, out: *mut u8, out_len: usize) -> u64;
-    fn sandzguli_canonical(page: *const u8, page_len: usize, out: *mut u8, out_len: usize) -> u64;
-    fn sandzguli_split(page: *const u8, page_len: usize, out: *mut u8, out_len: usize) -> u64;
 }
 
-type Writes = unsafe extern "C" fn(*const u8, usize, *mut u8, usize) -> u64;
-
-/// Room for the first try at a split text; most fit.
-const SPLIT_BYTES: usize = 4096;
+type Asks = unsafe extern "C" fn(*const u8, usize) -> u64;
+pub(crate) type Writes = unsafe extern "C" fn(*const u8, usize, *mut u8, usize) -> u64;
 
 /// What an accepted call wrote.
 #[derive(Debug, Clone, Copy, PartialEq, Eq)]
@@ -37,13 +35,18 @@ pub(crate) fn outcome(word: u64) -> Result<Written, Refusal> {
     Ok(Written { kind, bytes })
 }
 
-fn written(call: Writes, page: &[u8], out: &mut [u8]) -> Result<Written, Refusal> {
+fn asked(call: Asks, page: &[u8]) -> u64 {
+    // SAFETY: the page is a slice.
+    unsafe { call(page.as_ptr(), page.len()) }
+}
+
+pub(crate) fn written(call: Writes, page: &[u8], out: &mut [u8]) -> Result<Written, Refusal> {
     // SAFETY: both are slices, and a borrowed page does not overlap a buffer that is borrowed mutably.
     outcome(unsafe { call(page.as_ptr(), page.len(), out.as_mut_ptr(), out.len()) })
 }
 
 /// The bytes that a call writes. A longer buffer is lent as long as it is too short.
-fn owned(call: Writes, page: &[u8], first_room: usize) -> Result<Vec<u8>, Refusal> {
+pub(crate) fn owned(call: Writes, page: &[u8], first_room: usize) -> Result<Vec<u8>, Refusal> {
     let mut out = vec![0; first_room];
     loop {
         match written(call, page, &mut out) {
@@ -57,17 +60,6 @@ fn owned(call: Writes, page: &[u8], first_room: usize) -> Result<Vec<u8>, Refusa
     }
 }
 
-fn owned_text(call: Writes, page: &[u8], first_room: usize) -> Result<String, Refusal> {
-    let text = owned(call, page, first_room)?;
-    Ok(String::from_utf8(text).expect("a text has bytes below 128"))
-}
-
-/// Room for the canonical text of a page: 4 bytes for each of its bytes and 128 for each record (proved:
-/// `display-room`), and no page has more records than bytes.
-fn canonical_room(page: &[u8]) -> usize {
-    page.len().saturating_mul(132).min(CANONICAL_BYTES)
-}
-
 /// The kind of the query that a page holds, or why it is refused. Any byte string may be asked about.
 ///
 /// ```
@@ -77,36 +69,37 @@ fn canonical_room(page: &[u8]) -> usize {
 /// assert_eq!(sandzguli::check(b"").unwrap_err().number(), 2);
 /// ```
 pub fn check(page: &[u8]) -> Result<Kind, Refusal> {
-    // SAFETY: the page is a slice.
-    let word = unsafe { sandzguli_check(page.as_ptr(), page.len()) };
-    outcome(word).map(|written| written.kind)
+    outcome(asked(sandzguli_check, page)).map(|written| written.kind)
 }
 
-/// The label of a page refused with 19, as that part of the page: the first group label that is also in the on list.
+/// The label of a page refused with 19, as that part of the page: the first group label that is also in the on list. It
+/// may be empty.
 ///
 /// ```
 /// use sandzguli::page::{BinModifier, Cardinality, Code, LabelModifier, Page, Record};
 ///
 /// let modifier = BinModifier {
-///     matching: LabelModifier::on(["job", "instance"]),
-///     cardinality: Cardinality::group_left(["instance"]),
+///     matching: LabelModifier::on(["job", "cité"]),
+///     cardinality: Cardinality::group_left(["cité"]),
 ///     ..BinModifier::default()
 /// };
 /// let up = Record::selector("up", []);
 /// let page = Page::from([up.clone(), up, Record::binary_with(Code::Mul, modifier)]).to_bytes();
-/// assert_eq!(sandzguli::joint_label(&page), Some("instance".as_bytes()));
+/// assert_eq!(sandzguli::joint_label(&page), Some("cité"));
 /// assert_eq!(sandzguli::joint_label(b""), None);
 /// ```
-pub fn joint_label(page: &[u8]) -> Option<&[u8]> {
+pub fn joint_label(page: &[u8]) -> Option<&str> {
     let refusal = check(page).err()?;
     if refusal.rule != Rule::LabelInBothLists {
         return None;
     }
-    // SAFETY: the page is a slice.
-    let word = unsafe { sandzguli_joint_label(page.as_ptr(), page.len()) };
+    let word = asked(sandzguli_joint_label, page);
     let start = (word >> 8) as usize;
     let length = (word & 0xff) as usize;
-    Some(&page[start..start + length])
+    let label = &page[start..start + length];
+    debug_assert!(from_utf8(label).is_ok());
+    // SAFETY: it is the label of 19 (proved: `labelPart-joint`), and that is well-formed UTF-8 (proved: `label-utf8`).
+    Some(unsafe { from_utf8_unchecked(label) })
 }
 
 /// The page of the checked query: numbers under unary records are negated, set operators many-to-many.
@@ -133,51 +126,6 @@ pub fn copy(page: &[u8]) -> Result<Vec<u8>, Refusal> {
 /// ```
 pub fn copy_into(page: &[u8], out: &mut [u8]) -> Result<Written, Refusal> {
     written(sandzguli_copy, page, out)
-}
-
-/// The query on one line.
-///
-/// ```
-/// assert_eq!(sandzguli::canonical(b"\x00\x00\x05\x07").unwrap(), "-5");
-/// ```
-pub fn canonical(page: &[u8]) -> Result<String, Refusal> {
-    owned_text(sandzguli_canonical, page, canonical_room(page))
-}
-
-/// [`canonical`] into a lent buffer. A refusal changes no byte of it, an accepted call only the bytes that it reports.
-///
-/// ```
-/// let mut out = *b"    ";
-/// let written = sandzguli::canonical_into(b"\x02\x02up\x00", &mut out).unwrap();
-/// assert_eq!((written.bytes, &out), (2, b"up  "));
-/// ```
-pub fn canonical_into(page: &[u8], out: &mut [u8]) -> Result<Written, Refusal> {
-    written(sandzguli_canonical, page, out)
-}
-
-/// The query on several lines where it is longer than 100 bytes, two spaces a level; no line feed at the end.
-///
-/// ```
-/// use sandzguli::page::{Code, Page, Record};
-///
-/// let name = |letter: &str| Record::selector(letter.repeat(49), []);
-/// let page = Page::from([name("a"), name("b"), Record::binary(Code::Add)]).to_bytes();
-/// let lines = format!("  {}\n+\n  {}", "a".repeat(49), "b".repeat(49));
-/// assert_eq!(sandzguli::split(&page).unwrap(), lines);
-/// ```
-pub fn split(page: &[u8]) -> Result<String, Refusal> {
-    owned_text(sandzguli_split, page, SPLIT_BYTES)
-}
-
-/// [`split`] into a lent buffer. A refusal changes no byte of it, an accepted call only the bytes that it reports.
-///
-/// ```
-/// let mut out = [0; 2];
-/// sandzguli::split_into(b"\x02\x02up\x00", &mut out).unwrap();
-/// assert_eq!(&out, b"up");
-/// ```
-pub fn split_into(page: &[u8], out: &mut [u8]) -> Result<Written, Refusal> {
-    written(sandzguli_split, page, out)
 }
 
 #[cfg(test)]

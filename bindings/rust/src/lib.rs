@@ -35,6 +35,20 @@
 //! assert_eq!(refusal.to_string(), "refused 6 at 1: unary on a string literal or range selector");
 //! ```
 //!
+//! Strings, labels and matchers may hold any text of at most 255 bytes; metric and function names are ASCII. What is
+//! printed is well-formed UTF-8, which is proved: [`String`] and [`str`] are made of it without a test.
+//!
+//! ```
+//! use sandzguli::page::{Matcher, Page, Record};
+//! use sandzguli::Rule;
+//!
+//! let page = Page::from([Record::selector("up", [Matcher::equal("ville", "Zürich")])]).to_bytes();
+//! assert_eq!(sandzguli::canonical(&page).unwrap(), r#"up{ville="Zürich"}"#);
+//!
+//! let page = Page::from([Record::selector("Zürich", [])]).to_bytes();
+//! assert_eq!(sandzguli::check(&page).unwrap_err().rule, Rule::BadText);
+//! ```
+//!
 //! The calls are those of the proved library `libsandzguli.a`, which keep nothing between them and allocate nothing:
 //! any thread may call at any time. The functions that answer with an owned value allocate it. The texts recurse over
 //! the records of a page; no call uses more than [`STACK_BYTES`] of stack.
@@ -45,11 +59,11 @@ mod name;
 pub mod page;
 mod refusal;
 mod size;
+mod text;
 
-pub use call::{
-    canonical, canonical_into, check, copy, copy_into, joint_label, split, split_into, Written,
-};
+pub use call::{check, copy, copy_into, joint_label, Written};
 pub use kind::Kind;
 pub use name::{kind_name, kind_name_into, refusal_name, refusal_name_into, version};
 pub use refusal::{Refusal, Rule};
 pub use size::{CANONICAL_BYTES, COPY_BYTES, NAME_BYTES, PAGE_BYTES, RECORDS, STACK_BYTES};
+pub use text::{canonical, canonical_into, canonical_str, split, split_into, split_str};

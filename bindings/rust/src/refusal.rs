@@ -104,6 +104,7 @@ rules! {
     1 BadField "record cut short, bad number or code",
     2 OperandsMissing "operands missing, or not one expression at the end",
     3 PastLimit "a limit passed (page, records, text, list, count or time)",
+    /// In a string, a label or a matcher: ill-formed UTF-8, such as a text that ends inside a character.
     4 BadText "text not allowed, or not a name",
     5 OutputTooShort "the lent buffer is too short",
     6 UnaryOnLiteral "unary on a string literal or range selector",

@@ -30,7 +30,20 @@ fn calls_answer_as_the_list_has_it() {
         let is_joint = outcome.is_err_and(|refusal| refusal.rule == Rule::LabelInBothLists);
         let (start, length) = entry.label;
         let label = is_joint.then(|| &page[start..start + length]);
-        assert_eq!(sandzguli::joint_label(page), label);
+        assert_eq!(sandzguli::joint_label(page).map(str::as_bytes), label);
+    }
+}
+
+#[test]
+fn lent_texts_are_those_of_the_list() {
+    for entry in support::entries() {
+        let outcome = outcome(&entry);
+        let mut out = vec![0; entry.canonical.len()];
+        let text = sandzguli::canonical_str(&entry.page, &mut out).map(str::as_bytes);
+        assert_eq!(text, outcome.map(|_| entry.canonical.as_slice()));
+        let mut out = vec![0; entry.split.len()];
+        let text = sandzguli::split_str(&entry.page, &mut out).map(str::as_bytes);
+        assert_eq!(text, outcome.map(|_| entry.split.as_slice()));
     }
 }
 

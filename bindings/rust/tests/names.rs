@@ -119,7 +119,10 @@ fn header_archive_and_binding_have_one_version() {
 
 #[test]
 fn codes_have_the_definitions_tokens_in_order() {
-    let tokens = CODES.split_once("tokens =\n").expect("the list of tokens").1;
+    let tokens = CODES
+        .split_once("tokens =\n")
+        .expect("the list of tokens")
+        .1;
     let tokens = tokens.split_once("[]").expect("its end").0;
     let tokens: Vec<_> = tokens.split('"').skip(1).step_by(2).collect();
     assert_eq!(tokens, Code::ALL.map(Code::word));

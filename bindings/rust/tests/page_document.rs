@@ -110,7 +110,8 @@ fn kinds_have_their_numbers() {
     }
 }
 
-/// What a code is refused with between two numbers, over a vector, and over one with a number or a string before it; 0: nothing.
+/// What a code is refused with between two numbers, over a vector, and over one with a number or a string before it;
+/// 0: nothing.
 fn refusals(code: Code) -> [u64; 4] {
     let (one, up) = (Record::whole(1), Record::selector("up", []));
     let over = |arguments| Record::aggregate(code, LabelModifier::None, arguments);

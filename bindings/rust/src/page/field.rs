@@ -77,7 +77,7 @@ impl Reader<'_> {
         (0..count).map(|_| element(self)).collect()
     }
 
-    /// Any text of bytes below 128.
+    /// Any text.
     pub fn text(&mut self) -> Field<String> {
         self.text_within(MAX_TEXT, |_| true)
     }
@@ -93,6 +93,7 @@ impl Reader<'_> {
         self.text_within(MAX_NAME, |name| is_name(name, &['_']))
     }
 
+    /// Well-formed UTF-8 that is allowed, of so many bytes at most.
     fn text_within(&mut self, limit: u64, is_allowed: fn(&str) -> bool) -> Field<String> {
         let length = self.number()?;
         if length > self.rest.len() as u64 {
@@ -104,8 +105,7 @@ impl Reader<'_> {
         let (bytes, rest) = self.rest.split_at(length as usize);
         self.rest = rest;
         let text = std::str::from_utf8(bytes).map_err(|_| Rule::BadText)?;
-        let is_allowed = text.is_ascii() && is_allowed(text);
-        ensure(is_allowed, text.into(), Rule::BadText)
+        ensure(is_allowed(text), text.into(), Rule::BadText)
     }
 }
 
@@ -114,7 +114,7 @@ pub fn ensure<T>(is_right: bool, value: T, rule: Rule) -> Field<T> {
     is_right.then_some(value).ok_or(rule)
 }
 
-/// A letter or one of the marks, then these or digits.
+/// A letter or one of the marks, then these or digits, all of them ASCII.
 fn is_name(name: &str, marks: &[char]) -> bool {
     let is_letter = |letter: char| letter.is_ascii_alphabetic() || marks.contains(&letter);
     name.starts_with(is_letter)

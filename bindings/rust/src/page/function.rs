@@ -16,7 +16,7 @@ pub enum Variadic {
 /// A function as a page declares it. The library has no table of functions yet: it checks a call by this.
 #[derive(Debug, Clone, PartialEq, Eq, Hash)]
 pub struct Function {
-    /// At most 64 letters, digits and `_`, not a digit first.
+    /// At most 64 ASCII letters, digits and `_`, not a digit first.
     pub name: String,
     /// The kinds of its arguments, at most 16; past these the last one repeats.
     pub kinds: Vec<Kind>,

@@ -65,8 +65,9 @@ impl Page {
         self
     }
 
-    /// The bytes of the page, every number in its shortest form. What no page may hold, such as a text of 256 bytes, is
-    /// written too: [`check`](crate::check) refuses it.
+    /// The bytes of the page, every number in its shortest form. What no page may hold, such as a text of 256 bytes or
+    /// a metric name with an accent, is written too: [`check`](crate::check) refuses it. Texts of strings, labels and
+    /// matchers are refused for their length only, since a [`String`] is well-formed UTF-8.
     pub fn to_bytes(&self) -> Vec<u8> {
         let mut bytes = Vec::new();
         for record in &self.records {
@@ -84,6 +85,8 @@ impl Page {
     ///
     /// assert_eq!(Page::read(&[8, 7]).unwrap().records, [Record::Paren, Record::Unary]);
     /// assert_eq!(Page::read(&[8, 99]).unwrap_err().rule, Rule::BadField);
+    /// // A string of one byte, which begins a character of two.
+    /// assert_eq!(Page::read(b"\x01\x01\xc3").unwrap_err().rule, Rule::BadText);
     /// ```
     pub fn read(bytes: &[u8]) -> Result<Self, Refusal> {
         Ok(Self {

@@ -12,7 +12,7 @@ pub enum Record {
     String(String),
     /// A selector; takes no operand.
     Selector {
-        /// The metric's name; empty where there is none.
+        /// The metric's name: ASCII letters, digits, `_` and `:`, not a digit first. Empty where there is none.
         name: String,
         /// At most 16.
         matchers: Vec<Matcher>,

@@ -132,7 +132,7 @@ fn the_label_of_19_lies_in_its_row() {
     let start = label.as_ptr() as usize - apart.page.as_ptr() as usize;
     let place = format!("({} bytes, from {start} on)", label.len());
     assert!(apart.text.contains(&place), "{place}");
-    let holds = |row: &&Row| row.offset + 1 == start && row.bytes[1..] == *label;
+    let holds = |row: &&Row| row.offset + 1 == start && row.bytes[1..] == *label.as_bytes();
     let row = apart.rows.iter().find(holds).expect("the label's row");
     assert!(row.meaning.ends_with(&format!("at {start}")));
 }

@@ -13,6 +13,11 @@ fn letters(count: usize) -> String {
     "a".repeat(count)
 }
 
+/// So many bytes, but half as many characters.
+fn accents(count: usize) -> String {
+    "é".repeat(count / 2) + &letters(count % 2)
+}
+
 /// A record in so many parens.
 fn in_parens(record: Record, parens: usize) -> Page {
     let mut records = vec![record];
@@ -58,6 +63,7 @@ fn pages_of(what: &str, many: u64) -> Vec<Page> {
         "records" => vec![in_parens(up(), count - 1)],
         "bytes of a text" => vec![
             Page::from([Record::string(letters(count))]),
+            Page::from([Record::string(accents(count))]),
             Page::from([Record::selector(letters(count), [])]),
         ],
         "bytes of a function name" => vec![Page::from([Record::call(name(), 0)])],
