@@ -11,11 +11,9 @@ use lib.ListN.{length, drop, length-map}
 use lib.Dec.{leb}
 use Rattle.page.specs.Bytes.{pick}
 use Rattle.page.specs.Text.{Text}
-use Rattle.records.specs.Kind.{Kind}
+use Rattle.records.specs.Kind.{Kind, scalar}
 use Rattle.records.specs.Code.{hasParameter}
-use Rattle.records.specs.Literal.{Literal}
-use Rattle.records.specs.Float.{float, IsExact}
-use Rattle.records.specs.LiteralException.{isExemptLiteral, isExempt}
+use Rattle.records.specs.LiteralException.{isExempt}
 use Rattle.records.specs.Matcher.{Selector}
 use Rattle.records.specs.Modifier.{LabelModifier, BinModifier}
 use Rattle.records.specs.Time.{Times, AtModifier, Offset}
@@ -23,7 +21,6 @@ use Rattle.records.specs.Signature.{Function}
 use Rattle.records.specs.Stack.{operandsOf}
 use Rattle.records.specs.Record.{Leaf, number, string, selector, Wrapper, range, subquery, at, offset, unary, paren}
 use Rattle.records.specs.Record.{Record, leaf, wrapper, binary, aggregate, call}
-use Rattle.records.proofs.FloatLaws.{float-negate, float-isNan, float-isInfinite, float-atMostZero}
 use Rattle.ast.specs.Refusal.{firstFault, Result, refused, ok, unless, andThen}
 use Rattle.ast.specs.Expr.{Expr, Aggregate, AggregateParam, Unary, Binary, Paren, Subquery, NumberLiteral}
 use Rattle.ast.specs.Expr.{StringLiteral, VectorSelector, MatrixSelector, Call, argsOf, valueType, scalarValue}
@@ -32,10 +29,11 @@ use Rattle.ast.specs.Construct.{newUnary, newMatrixSelector, rangeAfter,
 use Rattle.ast.specs.CheckAst.{binaryRows, checkedModifier, aggregateRows, callRows, kindsOf, firstLiteral}
 use Rattle.ast.specs.CheckAst.{unaryRows, subqueryRows, selectorRows, checkAst}
 use Rattle.ast.specs.CheckPage.{leafExpr, wrap, push, apply}
-use Rattle.ast.specs.Operand.{Operand, numberOperand, selectorOperand, rangeOperand, subqueryOperand, otherOperand, operandKind, isSet, operandOf}
+use Rattle.ast.specs.Operand.{Operand, selectorOperand, rangeOperand, subqueryOperand, otherOperand, operandKind, isSet, operandOf}
 use Rattle.ast.specs.Judge.{put, judgeUnary, rangeAfterMarks, judgeRange, setMark, judgeAt, judgeOffset}
-use Rattle.ast.specs.Judge.{judgeWrapper, judgeBinary, judgeArguments, judgeAggregate, isExemptFloat}
+use Rattle.ast.specs.Judge.{judgeWrapper, judgeBinary, judgeArguments, judgeAggregate}
 use Rattle.ast.specs.Judge.{isExemptOperand, isExemptCall, judgeCall, judgeLeaf, judgement, judged}
+use Rattle.ast.proofs.LiteralLaws.{by-literal, literal-negated, literal-exempt}
 use Rattle.ast.proofs.StackLaws.{map-drop, map-operandsOf}
 use Rattle.ast.proofs.SoundLaws.{Sound, AllSound, sound-operandsOf}
 
@@ -51,7 +49,7 @@ operandOf-kind (Unary e) = refl
 operandOf-kind (Binary c m l r) = refl
 operandOf-kind (Paren e) = refl
 operandOf-kind (Subquery e r s t) = refl
-operandOf-kind (NumberLiteral l) = refl
+operandOf-kind (NumberLiteral l) = by-literal (λ x. operandKind x ≡ scalar) (λ x. refl) (λ s. refl) l
 operandOf-kind (StringLiteral t) = refl
 operandOf-kind (VectorSelector s t) = refl
 operandOf-kind (MatrixSelector s t r) = refl
@@ -72,7 +70,7 @@ judgeUnary-operand (Unary e) = unless-operand (firstFault (unaryRows (valueType 
 judgeUnary-operand (Binary c m l r) = unless-operand (firstFault (unaryRows (valueType (Binary c m l r)))) (Unary (Binary c m l r))
 judgeUnary-operand (Paren e) = unless-operand (firstFault (unaryRows (valueType e))) (Unary (Paren e))
 judgeUnary-operand (Subquery e r s t) = refl
-judgeUnary-operand (NumberLiteral l) = ap {B = Result Operand} (λ x. ok (numberOperand x)) (sym (float-negate l))
+judgeUnary-operand (NumberLiteral l) = literal-negated l
 judgeUnary-operand (StringLiteral t) = refl
 judgeUnary-operand (VectorSelector s t) = refl
 judgeUnary-operand (MatrixSelector s t r) = refl
@@ -93,7 +91,7 @@ judgeRange-operand n (Unary e) = refl
 judgeRange-operand n (Binary c m l r) = refl
 judgeRange-operand n (Paren e) = refl
 judgeRange-operand n (Subquery e r s t) = refl
-judgeRange-operand n (NumberLiteral l) = refl
+judgeRange-operand n (NumberLiteral l) = by-literal (λ x. judgeRange x ≡ refused 9) (λ x. refl) (λ s. refl) l
 judgeRange-operand n (StringLiteral t) = refl
 judgeRange-operand n (VectorSelector s t) = range-marks n s (t .offset) (t .at)
 judgeRange-operand n (MatrixSelector s t r) = refl
@@ -119,7 +117,7 @@ judgeAt-operand a (Paren e) h = refl
 judgeAt-operand a (Subquery e r s t) h =
     at-marks a (t .at) t (Subquery e r s t) (subqueryOperand true (isSet (t .offset)))
     (ap (mapResult operandOf) (passed h (Subquery e r s (record { at = some a; offset = t .offset }))))
-judgeAt-operand a (NumberLiteral l) h = refl
+judgeAt-operand a (NumberLiteral l) h = by-literal (λ x. judgeAt x ≡ refused 11) (λ x. refl) (λ s. refl) l
 judgeAt-operand a (StringLiteral t) h = refl
 judgeAt-operand a (VectorSelector s t) h =
     at-marks a (t .at) t (VectorSelector s t) (selectorOperand true (isSet (t .offset)))
@@ -143,7 +141,7 @@ judgeOffset-operand o (Paren e) h = refl
 judgeOffset-operand o (Subquery e r s t) h =
     offset-marks o (t .offset) t (Subquery e r s t) (subqueryOperand (isSet (t .at)) true)
     (ap (mapResult operandOf) (passed h (Subquery e r s (record { at = t .at; offset = some o }))))
-judgeOffset-operand o (NumberLiteral l) h = refl
+judgeOffset-operand o (NumberLiteral l) h = by-literal (λ x. judgeOffset x ≡ refused 13) (λ x. refl) (λ s. refl) l
 judgeOffset-operand o (StringLiteral t) h = refl
 judgeOffset-operand o (VectorSelector s t) h =
     offset-marks o (t .offset) t (VectorSelector s t) (selectorOperand (isSet (t .at)) true)
@@ -182,9 +180,6 @@ judgeArguments-operand true c m (p ∷ e ∷ x ∷ es) = refl
 judgeArguments-operand false c m (e ∷ []) = unless-operand (firstFault (aggregateRows c none (valueType e))) (Aggregate c m e)
 judgeArguments-operand false c m (e ∷ x ∷ es) = refl
 
-exempt-float : (name : Text) (l : Literal) → IsExact l → isExemptFloat name (float l) ≡ isExemptLiteral name l
-exempt-float name l h = rw (float-isNan l h, float-isInfinite l h, float-atMostZero l h)
-
 exempt-operand : (name : Text) (e : Expr) → Sound e → isExemptOperand name (operandOf e) ≡ isExempt name (scalarValue e)
 exempt-operand name (Aggregate c m e) h = refl
 exempt-operand name (AggregateParam c m p e) h = refl
@@ -192,7 +187,7 @@ exempt-operand name (Unary e) h = refl
 exempt-operand name (Binary c m l r) h = refl
 exempt-operand name (Paren e) h = refl
 exempt-operand name (Subquery e r s t) h = refl
-exempt-operand name (NumberLiteral l) h = exempt-float name l h
+exempt-operand name (NumberLiteral l) h = literal-exempt name l h
 exempt-operand name (StringLiteral t) h = refl
 exempt-operand name (VectorSelector s t) h = refl
 exempt-operand name (MatrixSelector s t r) h = refl

@@ -13,7 +13,7 @@ use Rattle.page.specs.Bytes.{pick}
 use Rattle.page.specs.Text.{Text}
 use Rattle.records.specs.Kind.{Kind, vector}
 use Rattle.records.specs.Code.{hasParameter}
-use Rattle.records.specs.Float.{float, zeroFloat, isInfiniteFloat}
+use Rattle.records.specs.Float.{zeroFloat, isInfiniteFloat}
 use Rattle.records.specs.LiteralException.{isExp, isLogarithm}
 use Rattle.records.specs.Modifier.{BinModifier}
 use Rattle.records.specs.Signature.{Function}
@@ -23,7 +23,8 @@ use Rattle.records.specs.Record.{Record, leaf, wrapper, binary, aggregate, call
 use Rattle.ast.specs.Refusal.{Row, firstFault, Result, refused, ok, unless, andThen}
 use Rattle.ast.specs.Expr.{binaryKind}
 use Rattle.ast.specs.CheckAst.{binaryRows, aggregateRows, arityRows, argsRows, unaryRows, subqueryRows, selectorRows}
-use Rattle.ast.specs.Operand.{Operand, numberOperand, stringOperand, selectorOperand, rangeOperand, subqueryOperand, otherOperand, operandKind}
+use Rattle.ast.specs.Operand.{Operand, numberOperand, fractionOperand, stringOperand, selectorOperand, rangeOperand}
+use Rattle.ast.specs.Operand.{subqueryOperand, otherOperand, operandKind, literalOperand}
 
 -- the operand, unless a row applies
 abbrev pub put : List Row → Operand → Result Operand
@@ -34,6 +35,7 @@ put rows x = unless (firstFault rows) x
 -- `new_unary_expr`, then 31
 abbrev pub judgeUnary : Operand → Result Operand
 judgeUnary (numberOperand x) = ok (numberOperand (Ieee.neg x))
+judgeUnary (fractionOperand s) = ok (fractionOperand (not s))
 judgeUnary stringOperand = refused 6
 judgeUnary (selectorOperand a o) = ok (otherOperand vector)
 judgeUnary (rangeOperand a o) = refused 6
@@ -48,6 +50,7 @@ rangeAfterMarks false false = ok (rangeOperand false false)
 
 abbrev pub judgeRange : Operand → Result Operand
 judgeRange (numberOperand x) = refused 9
+judgeRange (fractionOperand s) = refused 9
 judgeRange stringOperand = refused 9
 judgeRange (selectorOperand a o) = rangeAfterMarks a o
 judgeRange (rangeOperand a o) = refused 9
@@ -63,6 +66,7 @@ setMark n false x = ok x
 -- none
 abbrev pub judgeMark : Bool → ℕ → ℕ → Operand → Result Operand
 judgeMark isAt twice without (numberOperand x) = refused without
+judgeMark isAt twice without (fractionOperand s) = refused without
 judgeMark isAt twice without stringOperand = refused without
 judgeMark isAt twice without (selectorOperand a o) = setMark twice (pick isAt a o) (selectorOperand (isAt || a) (not isAt || o))
 judgeMark isAt twice without (rangeOperand a o) = setMark twice (pick isAt a o) (rangeOperand (isAt || a) (not isAt || o))
@@ -108,7 +112,8 @@ judgeArguments false c (e ∷ x ∷ es) = refused 15
 abbrev pub judgeAggregate : ℕ → List Kind → Result Operand
 judgeAggregate c args = judgeArguments (hasParameter c) c args
 
--- `check_ast_for_call`: the value of a bare number under the literal exception, tested on floats as the Rust does
+-- `check_ast_for_call`: the value of a bare number under the literal exception, tested on floats as the Rust does; a
+-- fraction is no NaN, no infinity and not 0, so that its sign decides
 abbrev pub isExemptFloat : Text → Float → Bool
 isExemptFloat name x =
     isExp name && (Ieee.isNan x || isInfiniteFloat x)
@@ -116,6 +121,7 @@ isExemptFloat name x =
 
 abbrev pub isExemptOperand : Text → Operand → Bool
 isExemptOperand name (numberOperand x) = isExemptFloat name x
+isExemptOperand name (fractionOperand s) = isLogarithm name && s
 isExemptOperand name stringOperand = false
 isExemptOperand name (selectorOperand a o) = false
 isExemptOperand name (rangeOperand a o) = false
@@ -136,7 +142,7 @@ judgeCall f args =
 -- ## A record
 
 abbrev pub judgeLeaf : Leaf → Result Operand
-judgeLeaf (number l) = ok (numberOperand (float l))
+judgeLeaf (number l) = ok (literalOperand l)
 judgeLeaf (string t) = ok stringOperand
 judgeLeaf (selector s) = put (selectorRows s) (selectorOperand false false)
 

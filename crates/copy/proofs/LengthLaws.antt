@@ -13,7 +13,7 @@ use Rattle.page.specs.Text.{writeAll}
 use Rattle.page.specs.Allowed.{Each}
 use Rattle.page.proofs.NumberLaws.{isByte}
 use Rattle.records.specs.Code.{isCode, isSetOperator}
-use Rattle.records.specs.Literal.{Literal, whole, infinite, plus, minus, nan, negate, writeLiteral}
+use Rattle.records.specs.Literal.{Literal, whole, fraction, infinite, plus, minus, nan, negate, writeLiteral}
 use Rattle.records.specs.Modifier.{BinModifier}
 use Rattle.records.specs.Record.{number, string, selector, range, subquery, at, offset, unary, paren, Record, leaf}
 use Rattle.records.specs.Record.{wrapper, binary, aggregate, call, writeRecord, readPage}
@@ -88,6 +88,8 @@ literal-length (minus (whole n)) = refl
 literal-length nan = refl
 literal-length (plus infinite) = refl
 literal-length (minus infinite) = refl
+literal-length (plus (fraction d p)) = refl
+literal-length (minus (fraction d p)) = refl
 
 bytesOf : List Record → ℕ
 bytesOf rs = length (writeAll writeRecord rs)

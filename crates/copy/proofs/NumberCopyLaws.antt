@@ -13,7 +13,7 @@ use Rattle.base.specs.Splice.{join}
 use Rattle.page.specs.Bytes.{pick}
 use Rattle.page.specs.Number.{writeNumber}
 use Rattle.page.proofs.ReaderLaws.{append-nil}
-use Rattle.records.specs.Literal.{Literal, whole, infinite, plus, minus, nan, negate, writeLiteral}
+use Rattle.records.specs.Literal.{Literal, whole, fraction, infinite, plus, minus, nan, negate, writeLiteral}
 use Rattle.records.specs.Record.{number, string, selector, range, subquery, at, offset, unary, paren, Record, leaf}
 use Rattle.records.specs.Record.{wrapper, binary, aggregate, call, writeRecord, recordKind}
 use Rattle.copy.specs.RecordCopy.{unaries, negated, copied, recordCopy, absorbedOf, absorbed, negatedForm, formAfter}
@@ -34,7 +34,7 @@ number-kind (binary c m) h = absurd (omega arith)
 number-kind (aggregate c m n) h = absurd (omega arith)
 number-kind (call f n) h = absurd (omega arith)
 
--- ## Numbers: a form and, where it is a whole number, its magnitude
+-- ## Numbers: a form and, where it is a whole number or a fraction, its magnitude
 
 abbrev formOf : Literal → ℕ
 formOf (plus (whole n)) = 0
@@ -42,6 +42,8 @@ formOf (minus (whole n)) = 1
 formOf nan = 2
 formOf (plus infinite) = 3
 formOf (minus infinite) = 4
+formOf (plus (fraction d p)) = 5
+formOf (minus (fraction d p)) = 6
 
 abbrev magnitudeOf : Literal → List ℕ
 magnitudeOf (plus (whole n)) = writeNumber n
@@ -49,6 +51,8 @@ magnitudeOf (minus (whole n)) = writeNumber n
 magnitudeOf nan = []
 magnitudeOf (plus infinite) = []
 magnitudeOf (minus infinite) = []
+magnitudeOf (plus (fraction d p)) = writeNumber d ++ writeNumber p
+magnitudeOf (minus (fraction d p)) = writeNumber d ++ writeNumber p
 
 literal-written : (l : Literal) → writeLiteral l ≡ formOf l ∷ magnitudeOf l
 literal-written (plus (whole n)) = refl
@@ -56,6 +60,8 @@ literal-written (minus (whole n)) = refl
 literal-written nan = refl
 literal-written (plus infinite) = refl
 literal-written (minus infinite) = refl
+literal-written (plus (fraction d p)) = refl
+literal-written (minus (fraction d p)) = refl
 
 form-negated : (l : Literal) → formOf (negate l) ≡ negatedForm (formOf l)
 form-negated (plus (whole n)) = refl
@@ -63,6 +69,8 @@ form-negated (minus (whole n)) = refl
 form-negated nan = refl
 form-negated (plus infinite) = refl
 form-negated (minus infinite) = refl
+form-negated (plus (fraction d p)) = refl
+form-negated (minus (fraction d p)) = refl
 
 magnitude-negated : (l : Literal) → magnitudeOf (negate l) ≡ magnitudeOf l
 magnitude-negated (plus (whole n)) = refl
@@ -70,6 +78,8 @@ magnitude-negated (minus (whole n)) = refl
 magnitude-negated nan = refl
 magnitude-negated (plus infinite) = refl
 magnitude-negated (minus infinite) = refl
+magnitude-negated (plus (fraction d p)) = refl
+magnitude-negated (minus (fraction d p)) = refl
 
 number-behind : (s : List ℕ) (l : Literal) → writeLiteral (negated (unaries s) l) ≡ formAfter (formOf l) s ∷ magnitudeOf l
 number-behind [] l = literal-written l

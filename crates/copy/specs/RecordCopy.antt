@@ -66,10 +66,10 @@ absorbedOf s = absorbedRead (readRecord s)
 
 -- ## In bytes
 
--- the form of the negated number (document 01, 'The page', kind 0): 0 whole and 1 negative whole, 3 Inf and 4 -Inf; NaN
--- stays
+-- the form of the negated number (document 01, 'The page', kind 0; document 02, No. 5): 0 whole and 1 negative whole, 3
+-- Inf and 4 -Inf, 5 and 6 fractions, plus and minus; NaN stays
 abbrev pub negatedForm : ℕ → ℕ
-negatedForm f = pick (eqb f 0) 1 (pick (eqb f 1) 0 (pick (eqb f 3) 4 (pick (eqb f 4) 3 f)))
+negatedForm f = pick (eqb f 0) 1 (pick (eqb f 1) 0 (pick (eqb f 3) 4 (pick (eqb f 4) 3 (pick (eqb f 5) 6 (pick (eqb f 6) 5 f)))))
 
 -- the form of a number with these bytes after it
 abbrev pub formAfter : ℕ → List ℕ → ℕ

@@ -20,9 +20,8 @@ use Rattle.records.specs.Field.{readKind, readOption}
 use Rattle.records.specs.Matcher as matcher
 use Rattle.records.specs.Modifier as modifier
 use Rattle.records.specs.Signature as signature
-use Rattle.records.specs.Allowed.{IsOptionOf, IsFill, IsBinModifier}
+use Rattle.records.specs.Allowed.{IsOptionOf, IsBinModifier}
 use Rattle.records.specs.Record.{string, selector, subquery, Record, leaf, wrapper, binary, aggregate, call, readCode, readRecord}
-use Rattle.float.specs.Fills.{FillExact}
 use Rattle.float.specs.Exact.{ModifierExact}
 use Rattle.ast.specs.Expr.{scalarValue}
 use Rattle.ast.specs.Tables.{treeAt}
@@ -217,14 +216,9 @@ module _ {page starts : List ℕ} {node : Node} (n : NodeAt page starts node) wh
 
 -- ## Fills
 
--- fills that a page allows are exact as floats
-fill-exact : (f : Option literal.Literal) → IsFill f → FillExact f
-fill-exact none h = tt
-fill-exact (some l) h = h
-
 exact : (m : Option modifier.BinModifier) → IsOptionOf IsBinModifier m → ModifierExact m
 exact none h = tt
-exact (some m) h = record { lhs = fill-exact (m .fillValues .lhs) (h .2); rhs = fill-exact (m .fillValues .rhs) (h .3) }
+exact (some m) h = record { lhs = h .2; rhs = h .3 }
 
 pub reads-exact : {page starts : List ℕ} {i c : ℕ} {m : Option modifier.BinModifier} → Reads page starts i (binary c m) → ModifierExact m
 reads-exact {m = m} r = exact m (allowed _ (r .reads) .1)

@@ -22,7 +22,8 @@ ghost use Prim.Native.Nat.{_+_, _≤_, min};
 ghost use lib.ListN.{length};
 ghost use Rattle.base.specs.Splice.{Wrote};
 ghost use Rattle.records.specs.Answers.{labelModifierOn, LabelModifierStored, fillOf, binModifierOn, BinModifierStored, modifierOn, ModifierStored};
-ghost use Rattle.float.specs.Fills.{fillValues, FillExact};
+ghost use Rattle.records.specs.Allowed.{IsFill};
+ghost use Rattle.float.specs.Fills.{fillValues};
 ghost use Rattle.float.specs.Exact.{ModifierExact};
 ghost use Rattle.text.specs.Display.{displayBool, displayModifier, displayOperator, displayAggregator};
 
@@ -45,10 +46,10 @@ fn put_bool(returns_bool: bool, out: &mut [u8], at: usize) -> usize
     at
 }
 
-// The fill numbers come as floats, with bools that say whether they are there.
+// The fill numbers come as floats, with bools that say whether they are there, and fractions beside them.
 fn modifier_len(page: &[u8], modifier: BinModifier, values: FillValues, cap: usize) -> usize
     requires stored { ⌜ BinModifierStored (now page) modifier ⌝ }
-    requires exact { ⌜ (values ≡ fillValues (fillOf (modifier .lhs)) (fillOf (modifier .rhs))) × FillExact (fillOf (modifier .lhs)) × FillExact (fillOf (modifier .rhs)) ⌝ }
+    requires exact { ⌜ (values ≡ fillValues (fillOf (modifier .lhs)) (fillOf (modifier .rhs))) × IsFill (fillOf (modifier .lhs)) × IsFill (fillOf (modifier .rhs)) ⌝ }
     ensures { λ r. ⌜ r ≡ min (length (displayModifier (binModifierOn (now (page .entry)) modifier))) cap ⌝ }
 {
     let matching = modifier.matching;
@@ -68,7 +69,7 @@ fn put_modifier(
     at: usize,
 ) -> usize
     requires stored { ⌜ BinModifierStored (now page) modifier ⌝ }
-    requires exact { ⌜ (values ≡ fillValues (fillOf (modifier .lhs)) (fillOf (modifier .rhs))) × FillExact (fillOf (modifier .lhs)) × FillExact (fillOf (modifier .rhs)) ⌝ }
+    requires exact { ⌜ (values ≡ fillValues (fillOf (modifier .lhs)) (fillOf (modifier .rhs))) × IsFill (fillOf (modifier .lhs)) × IsFill (fillOf (modifier .rhs)) ⌝ }
     requires room { ⌜ at + length (displayModifier (binModifierOn (now page) modifier)) ≤ length (now out) ⌝ }
     ensures { λ r. ⌜ Wrote (now (out .entry)) (now (out .exit)) at (displayModifier (binModifierOn (now (page .entry)) modifier)) r ⌝ }
 {

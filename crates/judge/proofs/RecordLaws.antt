@@ -7,14 +7,13 @@ use native.Mathlib.Omega.{arith}
 use borrow.Author.Tests.{le-leb, lt-leb}
 use lib.ListN.{length, getD, drop}
 use lib.Ieee.{Float}
-use Rattle.records.specs.Float.{float}
 use Rattle.records.specs.Literal.{Literal}
 use Rattle.records.specs.Modifier.{BinModifier, LabelModifier}
 use Rattle.records.specs.Signature.{Function}
 use Rattle.records.specs.Stack.{operandsOf}
 use Rattle.records.specs.Record.{Leaf, number, Wrapper, Record, leaf, wrapper, binary, aggregate, call, operands}
 use Rattle.ast.specs.Refusal.{refused, ok}
-use Rattle.ast.specs.Operand.{Operand, numberOperand, stringOperand, operandKind}
+use Rattle.ast.specs.Operand.{Operand, stringOperand, operandKind, literalOperand}
 use Rattle.ast.specs.Judge.{judgeLeaf, judgeWrapper, judgeBinary, judgeAggregate, judgeCall, judgement}
 use Rattle.rules.specs.Stack.{heldOperands, Sized}
 use Rattle.rules.proofs.StackLaws.{stack-size, stack-top}
@@ -23,7 +22,7 @@ pub judgement-leaf : (l : Leaf) (stack : List Operand) → judgeLeaf l ≡ judge
 unfolding judgement
 judgement-leaf l stack = refl
 
-pub judgement-number : {x : Float} (l : Literal) (stack : List Operand) → x ≡ float l → ok (numberOperand x) ≡ judgement (leaf (number l)) stack
+pub judgement-number : {x : Operand} (l : Literal) (stack : List Operand) → x ≡ literalOperand l → ok x ≡ judgement (leaf (number l)) stack
 unfolding judgement
 judgement-number l stack e = rw e
 

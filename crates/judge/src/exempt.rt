@@ -39,6 +39,7 @@ pub fn is_exempt(page: &[u8], name: Span, first: Operand) -> bool
 {
     match first {
         Operand::Number(value) => is_exempt_value(text_at(page, name), value),
+        Operand::Fraction(minus) => is_logarithm(text_at(page, name)) & minus,
         Operand::String => false,
         Operand::Selector(_, _) => false,
         Operand::Range(_, _) => false,

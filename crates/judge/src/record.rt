@@ -4,6 +4,7 @@ use crate::modifier::judge_binary;
 use crate::selector::judge_selector;
 use float::literal_value;
 use reader::Record;
+use records::Literal;
 use rules::Operand;
 use rules::Verdict;
 use rules::aggregate::judge_aggregate;
@@ -18,10 +19,29 @@ use rules::wrapper::judge_unary;
 ghost use mathlib.Core.Path.{_≡_};
 ghost use lib.ListN.{drop};
 ghost use Rattle.reader.specs.Answers.{recordOn};
+ghost use Rattle.records.specs.Float.{IsExact};
+ghost use Rattle.records.specs.Answers.{literalOf};
+ghost use Rattle.ast.specs.Operand.{literalOperand};
 ghost use Rattle.ast.specs.Judge.{judgement};
-ghost use Rattle.rules.specs.Answers.{verdictMeant};
+ghost use Rattle.rules.specs.Answers.{operandMeant, verdictMeant};
 ghost use Rattle.rules.specs.Stack.{heldOperands, Sized};
 ghost use Rattle.judge.specs.Judgeable.{Judgeable};
+
+// A whole number, an infinity and NaN are their floats; of a fraction the sign is enough.
+fn literal_operand(literal: Literal) -> Operand
+    requires { ⌜ IsExact (literalOf literal) ⌝ }
+    ensures { λ r. ⌜ operandMeant r ≡ literalOperand (literalOf literal) ⌝ }
+{
+    match literal {
+        Literal::Whole(_) => Operand::Number(literal_value(literal)),
+        Literal::Negative(_) => Operand::Number(literal_value(literal)),
+        Literal::Nan => Operand::Number(literal_value(literal)),
+        Literal::Inf => Operand::Number(literal_value(literal)),
+        Literal::NegInf => Operand::Number(literal_value(literal)),
+        Literal::Fraction { .. } => Operand::Fraction(false),
+        Literal::NegativeFraction { .. } => Operand::Fraction(true),
+    }
+}
 
 // The operands are there: they lie from `top` on, the last one first.
 pub fn judge_record(page: &[u8], item: Record, tags: &[u8], values: &[f64], top: usize) -> Verdict
@@ -30,7 +50,7 @@ pub fn judge_record(page: &[u8], item: Record, tags: &[u8], values: &[f64], top:
     ensures { λ r. ⌜ verdictMeant r ≡ judgement (recordOn (now (page .entry)) item) (drop top (heldOperands (now (tags .entry)) (now (values .entry)))) ⌝ }
 {
     match item {
-        Record::Number(literal) => Verdict::Put(Operand::Number(literal_value(literal))),
+        Record::Number(literal) => Verdict::Put(literal_operand(literal)),
         Record::String(_) => Verdict::Put(Operand::String),
         Record::Selector(selector) => judge_selector(selector),
         Record::Range(_) => judge_range(operand_at(tags, values, top)),

@@ -1,26 +1,28 @@
 -- How long the texts of a page's values can be: quoted texts, numbers, durations, @ times and offsets. A number on a
--- page is at most 2^53, so it has at most 16 digits, and of a duration after its days each rest is below its unit.
--- Assumes nothing.
+-- page is at most 2^53, so it has at most 16 digits; a fraction has at most 15 digits and 15 places; and of a duration
+-- after its days each rest is below its unit. Assumes nothing.
 use Prim.Native.Nat.{ℕ, zero, suc, _+_, _-_, _*_, _/_, _^_, _≤_, _<_}
 use Prim.Native.String.{String}
 use native.Mathlib.Omega.{arith}
 use mathlib.Core.Bool.{Bool, true, false}
 use mathlib.Core.List.{List, [], _∷_}
+use mathlib.Core.Path.{_≡_, refl}
 use lib.ListN.{length, drop, length-append}
 use lib.Dec.{eqb}
 use Rattle.page.specs.Bytes.{pick, bytes}
 use Rattle.page.specs.Limits.{numberLimit}
 use Rattle.page.specs.Text.{Text}
-use Rattle.records.specs.Literal.{Magnitude, whole, infinite, Literal, plus, minus, nan}
+use Rattle.records.specs.Literal.{Magnitude, whole, fraction, infinite, Literal, plus, minus, nan}
 use Rattle.records.specs.Float.{IsExactMagnitude, IsExact}
+use Rattle.records.proofs.FractionLaws.{digits-bounds, places-bounds}
 use Rattle.records.specs.Time.{Offset, pos, neg, AtModifier, start, end, after, before}
 use Rattle.records.specs.Allowed.{IsOffset, IsAtModifier}
-use Rattle.leaves.specs.Decimal.{decimal}
-use Rattle.leaves.specs.Numeral.{displayMagnitude, displayNumber, displayLiteral, displayFill}
+use Rattle.leaves.specs.Decimal.{digits, decimal, padded, expansion}
+use Rattle.leaves.specs.Numeral.{displayMagnitude, displayNumber, displayLiteral, displayFill, longestNumeral}
 use Rattle.leaves.specs.Duration.{TimeUnit, timeUnit, units, countOf, countsOf, durationCounts, displayCount, displayCounts, displayDuration}
 use Rattle.leaves.specs.Escape.{escapeByte, escape, quote}
 use Rattle.leaves.specs.Time.{displayTime, displayAt, displayOffset}
-use Rattle.leaves.proofs.DecimalLaws.{decimal-short}
+use Rattle.leaves.proofs.DecimalLaws.{decimal-short, expansion-measured}
 use Rattle.leaves.proofs.DurationLaws.{countOf-within}
 use Rattle.leaves.proofs.EscapeLaws.{length-quote}
 use Rattle.leaves.proofs.TimeLaws.{length-displayTime}
@@ -53,24 +55,36 @@ quote-short t = omega (arith, length-quote t, escape-short t)
 decimal-short-53 : (n : ℕ) → n ≤ numberLimit → length (decimal n) ≤ 16
 decimal-short-53 n h = decimal-short 15 n (omega arith)
 
-module _ (infinity : String) (short : length (bytes infinity) ≤ 16) where
-  displayMagnitude-short : (m : Magnitude) → IsExactMagnitude m → length (displayMagnitude infinity m) ≤ 16
-  displayMagnitude-short (whole n) h = decimal-short-53 n h
+-- as long as the digits or the places, whichever are more
+expansion-short : (p d : ℕ) → IsExactMagnitude (fraction d p) → length (expansion p d) ≤ 17
+expansion-short p d h =
+    let few = decimal-short 14 d (omega (arith, digits-bounds d (h .0))) in
+    omega (arith, expansion-measured p d, few, places-bounds p (h .1))
+
+module _ (infinity : String) (short : length (bytes infinity) ≤ 17) where
+  displayMagnitude-short : (m : Magnitude) → IsExactMagnitude m → length (displayMagnitude infinity m) ≤ 17
+  displayMagnitude-short (whole n) h = omega (arith, decimal-short-53 n h)
+  displayMagnitude-short (fraction d p) h = expansion-short p d h
   displayMagnitude-short infinite h = short
 
-  displayNumber-short : (l : Literal) → IsExact l → length (displayNumber infinity l) ≤ 17
+  displayNumber-short : (l : Literal) → IsExact l → length (displayNumber infinity l) ≤ longestNumeral
   unfolding displayNumber
   displayNumber-short (plus m) h = omega (arith, displayMagnitude-short m h)
   displayNumber-short (minus m) h = omega (arith, displayMagnitude-short m h)
   displayNumber-short nan h = omega arith
 
-pub displayLiteral-short : (l : Literal) → IsExact l → length (displayLiteral l) ≤ 17
+pub displayLiteral-short : (l : Literal) → IsExact l → length (displayLiteral l) ≤ longestNumeral
 unfolding displayLiteral
 displayLiteral-short = displayNumber-short "Inf" (omega arith)
 
-pub displayFill-short : (l : Literal) → IsExact l → length (displayFill l) ≤ 17
+pub displayFill-short : (l : Literal) → IsExact l → length (displayFill l) ≤ longestNumeral
 unfolding displayFill
 displayFill-short = displayNumber-short "inf" (omega arith)
+
+-- `-0.000000000000001`
+pub longest-numeral : length (displayLiteral (minus (fraction 1 15))) ≡ longestNumeral
+unfolding displayLiteral displayNumber expansion decimal digits padded
+longest-numeral = refl
 
 -- ## Durations
 

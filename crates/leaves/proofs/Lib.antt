@@ -3,6 +3,7 @@ pub mod EscapeLaws
 pub mod DurationLaws
 pub mod PartLaws
 pub mod NumeralLaws
+pub mod OnlyLaws
 pub mod TimeLaws
 pub mod LengthLaws
 pub mod WellFormedLaws

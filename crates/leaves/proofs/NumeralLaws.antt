@@ -1,5 +1,5 @@
 -- Texts of literals by their forms, as the code has them. Assumes nothing.
-use Prim.Native.Nat.{ℕ, _+_, _≤_}
+use Prim.Native.Nat.{ℕ, _+_}
 use Prim.Native.String.{String}
 use native.Mathlib.Omega.{arith}
 use mathlib.Core.List.{[], _∷_}
@@ -10,7 +10,8 @@ use Rattle.page.specs.Bytes.{bytes}
 use Rattle.records.specs.Answers.{literalOf}
 use Rattle.records.specs.declared.literal.Literal.{Literal}
 use Rattle.records.specs.declared.literal.Literal.the-variants.{Whole, Negative, Nan, Inf, NegInf}
-use Rattle.leaves.specs.Decimal.{decimal}
+use Rattle.records.specs.declared.literal.Literal.the-variants.{Fraction, NegativeFraction}
+use Rattle.leaves.specs.Decimal.{decimal, expansion}
 use Rattle.leaves.specs.Numeral.{displayNumber, displayLiteral, displayFill}
 use Rattle.leaves.specs.NumeralLength.{NumeralLength}
 
@@ -37,24 +38,43 @@ module _ (infinity : String) (l : Literal) where
   unfolding displayNumber
   displayNumber-neg-inf e = record { is = rw e }
 
--- ## The length of both texts: what `numeral_len` answers in its five ways
+  pub displayNumber-fraction : (p d : ℕ) → l ≡ Fraction p d → displayNumber infinity (literalOf l) ≡ expansion p d
+  unfolding displayNumber
+  displayNumber-fraction p d e = rw e
 
-pub measured-whole : (l : Literal) (n r : ℕ) → l ≡ Whole n → (r ≡ length (decimal n)) × (r ≤ 20) → NumeralLength l r
-unfolding displayLiteral displayFill displayNumber
-measured-whole l n r e (is, short·) = record { literal = rw e is; fill = rw e is; short = omega arith }
+  pub displayNumber-negative-fraction : (p d : ℕ) → l ≡ NegativeFraction p d
+      → Cut (displayNumber infinity (literalOf l)) (45 ∷ []) (expansion p d)
+  unfolding displayNumber
+  displayNumber-negative-fraction p d e = record { is = rw e }
 
-pub measured-negative : (l : Literal) (n r : ℕ) → l ≡ Negative n → (r ≡ length (decimal n)) × (r ≤ 20) → NumeralLength l (r + 1)
-unfolding displayLiteral displayFill displayNumber
-measured-negative l n r e (is, short·) = record { literal = rw e (omega arith); fill = rw e (omega arith); short = omega arith }
+-- ## The length of both texts: what `numeral_len` answers, form by form
 
-pub measured-nan : (l : Literal) → l ≡ Nan → NumeralLength l 3
-unfolding displayLiteral displayFill displayNumber
-measured-nan l e = record { literal = rw e; fill = rw e; short = omega arith }
+module _ (l : Literal) where
+  pub measured-whole : (n r : ℕ) → l ≡ Whole n → r ≡ length (decimal n) → NumeralLength l r
+  unfolding displayLiteral displayFill displayNumber
+  measured-whole n r e is = record { literal = rw e is; fill = rw e is }
 
-pub measured-inf : (l : Literal) → l ≡ Inf → NumeralLength l 3
-unfolding displayLiteral displayFill displayNumber
-measured-inf l e = record { literal = rw e; fill = rw e; short = omega arith }
+  pub measured-negative : (n r : ℕ) → l ≡ Negative n → r ≡ length (decimal n) → NumeralLength l (r + 1)
+  unfolding displayLiteral displayFill displayNumber
+  measured-negative n r e is = record { literal = rw e (omega arith); fill = rw e (omega arith) }
 
-pub measured-neg-inf : (l : Literal) → l ≡ NegInf → NumeralLength l 4
-unfolding displayLiteral displayFill displayNumber
-measured-neg-inf l e = record { literal = rw e; fill = rw e; short = omega arith }
+  pub measured-nan : l ≡ Nan → NumeralLength l 3
+  unfolding displayLiteral displayFill displayNumber
+  measured-nan e = record { literal = rw e; fill = rw e }
+
+  pub measured-inf : l ≡ Inf → NumeralLength l 3
+  unfolding displayLiteral displayFill displayNumber
+  measured-inf e = record { literal = rw e; fill = rw e }
+
+  pub measured-neg-inf : l ≡ NegInf → NumeralLength l 4
+  unfolding displayLiteral displayFill displayNumber
+  measured-neg-inf e = record { literal = rw e; fill = rw e }
+
+  pub measured-fraction : (p d r : ℕ) → l ≡ Fraction p d → r ≡ length (expansion p d) → NumeralLength l r
+  unfolding displayLiteral displayFill displayNumber
+  measured-fraction p d r e is = record { literal = rw e is; fill = rw e is }
+
+  pub measured-negative-fraction : (p d r : ℕ) → l ≡ NegativeFraction p d
+      → r ≡ length (expansion p d) → NumeralLength l (r + 1)
+  unfolding displayLiteral displayFill displayNumber
+  measured-negative-fraction p d r e is = record { literal = rw e (omega arith); fill = rw e (omega arith) }

@@ -1,32 +1,28 @@
 -- Texts of @ times and offsets by their forms, as the code has them. Assumes nothing.
-use Prim.Native.Nat.{ℕ, _+_, _/_, _%_, _≤_}
+use Prim.Native.Nat.{ℕ, _+_, _/_, _≤_}
 use native.Mathlib.Omega.{arith}
-use mathlib.Core.List.{List, [], _∷_, append-assoc}
-use mathlib.Core.Path.{_≡_, ap, _∙_}
-use lib.ListN.{length, length-append}
+use mathlib.Core.Path.{_≡_, refl, ap}
+use lib.ListN.{length}
 use Rattle.page.specs.Bytes.{bytes}
-use Rattle.base.specs.Splice.{join}
-use Rattle.base.proofs.SpliceLaws.{Cut}
+use Rattle.base.proofs.SpliceLaws.{Cut, cut-length}
 use Rattle.records.specs.Answers.{atModifierOf, offsetOf}
 use Rattle.records.specs.declared.time.AtModifier.{AtModifier}
 use Rattle.records.specs.declared.time.AtModifier.the-variants.{Start, End, After, Before}
 use Rattle.records.specs.declared.time.Offset.{Offset}
 use Rattle.records.specs.declared.time.Offset.the-variants.{Pos, Neg}
-use Rattle.leaves.specs.Decimal.{decimal, threeDigits}
+use Rattle.leaves.specs.Decimal.{decimal, expansion}
 use Rattle.leaves.specs.Duration.{displayDuration}
 use Rattle.leaves.specs.Time.{displayTime, displayAt, displayOffset}
-use Rattle.leaves.proofs.DecimalLaws.{decimal-last}
+use Rattle.leaves.proofs.DecimalLaws.{decimal-last, length-expansion}
 
 -- ## displayTime
 
-pub displayTime-pieces : (ms : ℕ) → displayTime ms ≡ join (bytes "@ " ∷ decimal (ms / 1000) ∷ bytes "." ∷ threeDigits (ms % 1000) ∷ [])
-unfolding displayTime threeDigits join
-displayTime-pieces ms = ap (λ (l : List ℕ). 64 ∷ 32 ∷ l) (append-assoc (decimal (ms / 1000)) (bytes ".") (threeDigits (ms % 1000)))
+pub displayTime-cut : (ms : ℕ) → Cut (displayTime ms) (bytes "@ ") (expansion 3 ms)
+unfolding displayTime
+displayTime-cut ms = record { is = refl }
 
 pub length-displayTime : (ms : ℕ) → length (displayTime ms) ≡ length (decimal (ms / 1000)) + 6
-unfolding join threeDigits
-length-displayTime ms =
-    ap length (displayTime-pieces ms) ∙ omega (arith, length-append (decimal (ms / 1000)) (46 ∷ threeDigits (ms % 1000)))
+length-displayTime ms = omega (arith, cut-length (displayTime-cut ms), length-expansion 3 ms)
 
 -- ## displayAt
 

@@ -17,9 +17,9 @@ use Rattle.page.proofs.NumberLaws.{left-of, right-of}
 use Rattle.page.proofs.Utf8Laws.{byte-skip}
 use Rattle.page.proofs.WellFormedLaws.{WellFormed, text-append, text-empty, text-word, text-pick, text-byte, areHigh}
 use Rattle.page.proofs.WellFormedLaws.{following-high}
-use Rattle.records.specs.Literal.{Literal, plus, minus, nan, whole, infinite}
+use Rattle.records.specs.Literal.{Literal, plus, minus, nan, whole, fraction, infinite}
 use Rattle.records.specs.Time.{Offset, pos, neg, AtModifier, start, end, after, before}
-use Rattle.leaves.specs.Decimal.{digits, decimal, threeDigits}
+use Rattle.leaves.specs.Decimal.{digits, decimal, padded, expansion}
 use Rattle.leaves.specs.Duration.{TimeUnit, units, durationCounts, displayCount, displayCounts, displayDuration}
 use Rattle.leaves.specs.Escape.{escapeByte, escape, quote}
 use Rattle.leaves.specs.Numeral.{displayNumber, displayLiteral, displayFill}
@@ -114,11 +114,22 @@ pub decimal-text : (n : ℕ) → WellFormed (decimal n)
 unfolding decimal
 decimal-text n = digits-text n n (omega arith)
 
+padded-text : (places n : ℕ) → WellFormed (padded places n)
+unfolding padded
+padded-text zero n = text-empty
+padded-text (suc k) n = text-append (padded-text k (n / 10)) (text-byte {c = 48 + n % 10} (omega arith) text-empty)
+
+expansion-text : (places n : ℕ) → WellFormed (expansion places n)
+unfolding expansion
+expansion-text places n = text-append (text-append (decimal-text _) (text-word "." tt)) (padded-text places n)
+
 number-text : (infinity : String) → WellFormed (bytes infinity) → (l : Literal) → WellFormed (displayNumber infinity l)
 unfolding displayNumber
 number-text infinity h (plus (whole n)) = decimal-text n
+number-text infinity h (plus (fraction d p)) = expansion-text p d
 number-text infinity h (plus infinite) = h
 number-text infinity h (minus (whole n)) = text-append (text-word "-" tt) (decimal-text n)
+number-text infinity h (minus (fraction d p)) = text-append (text-word "-" tt) (expansion-text p d)
 number-text infinity h (minus infinite) = text-append (text-word "-" tt) h
 number-text infinity h nan = text-word "NaN" tt
 
@@ -153,17 +164,9 @@ unfolding displayDuration
 duration-text zero = text-word "0s" tt
 duration-text (suc ms) = counts-text units (durationCounts (suc ms)) tt
 
-three-text : (n : ℕ) → n < 1000 → WellFormed (threeDigits n)
-unfolding threeDigits
-three-text n l =
-    text-byte {c = 48 + n / 100} (omega arith)
-    (text-byte {c = 48 + n / 10 % 10} (omega arith) (text-byte {c = 48 + n % 10} (omega arith) text-empty))
-
 time-text : (ms : ℕ) → WellFormed (displayTime ms)
 unfolding displayTime
-time-text ms =
-    text-append (text-append (text-append (text-word "@ " tt) (decimal-text (ms / 1000))) (text-word "." tt))
-    (three-text (ms % 1000) (omega arith))
+time-text ms = text-append (text-word "@ " tt) (expansion-text 3 ms)
 
 pub at-text : (a : AtModifier) → WellFormed (displayAt a)
 unfolding displayAt

@@ -10,7 +10,6 @@ pub mod time;
 pub use capped::capped_add;
 pub use decimal::decimal_len;
 pub use decimal::put_decimal;
-pub use decimal::put_three_digits;
 pub use duration::breakdown;
 pub use duration::duration_len;
 pub use duration::put_duration;

@@ -1,7 +1,9 @@
-// Texts of number literals and fills (ast.rs, `NumberLiteral`; Rust's `Display` of an f64): digits, `NaN`, and the word
-// for infinity.
+// Texts of number literals and fills (ast.rs, `NumberLiteral`; Rust's `Display` of an f64): digits, the expansion of a
+// fraction, `NaN`, and the word for infinity.
 use crate::decimal::decimal_len;
+use crate::decimal::expansion_len;
 use crate::decimal::put_decimal;
+use crate::decimal::put_expansion;
 use page::put_byte;
 use page::put_bytes;
 use records::Literal;
@@ -40,6 +42,11 @@ fn put_numeral(literal: Literal, capital: bool, out: &mut [u8], at: usize) -> us
             let word = put_byte(b'-', out, at);
             put_infinity(capital, out, word)
         }
+        Literal::Fraction { places, digits } => put_expansion(places, digits, out, at),
+        Literal::NegativeFraction { places, digits } => {
+            let next = put_byte(b'-', out, at);
+            put_expansion(places, digits, out, next)
+        }
     }
 }
 
@@ -67,5 +74,7 @@ pub fn numeral_len(literal: Literal) -> usize
         Literal::Nan => 3,
         Literal::Inf => 3,
         Literal::NegInf => 4,
+        Literal::Fraction { places, digits } => expansion_len(places, digits),
+        Literal::NegativeFraction { places, digits } => expansion_len(places, digits) + 1,
     }
 }

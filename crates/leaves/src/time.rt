@@ -1,7 +1,6 @@
 // Texts of @ times and offsets (ast.rs, `AtModifier`, `Offset`).
 use crate::decimal::decimal_len;
-use crate::decimal::put_decimal;
-use crate::decimal::put_three_digits;
+use crate::decimal::put_expansion;
 use crate::duration::duration_len;
 use crate::duration::put_duration;
 use page::put_byte;
@@ -21,9 +20,7 @@ fn put_time(ms: u64, out: &mut [u8], at: usize) -> usize
     ensures { λ r. ⌜ Wrote (now (out .entry)) (now (out .exit)) at (displayTime ms) r ⌝ }
 {
     let seconds = put_bytes(b"@ ", out, at);
-    let point = put_decimal(ms / 1000, out, seconds);
-    let decimals = put_byte(b'.', out, point);
-    put_three_digits(ms % 1000, out, decimals)
+    put_expansion(3, ms, out, seconds)
 }
 
 // A time before 1970 prints as 1970.

@@ -3,3 +3,4 @@ pub mod Demand1
 pub mod Output
 pub mod Examples
 pub mod Utf8Pages
+pub mod FractionPages

@@ -6,7 +6,7 @@ use Rattle.page.specs.Read.{Read, refused, got, Reader}
 use Rattle.page.specs.Answers.{faultOf}
 use Rattle.record_lines.specs.Numbers.{spanNumbers, readLabelNumbers, readMatcherNumbers, readKindNumbers, labelNumbers}
 use Rattle.record_lines.specs.declared.number.Numbers.{Numbers}
-use Rattle.record_lines.specs.declared.number.Numbers.the-variants.{None, One, Two}
+use Rattle.record_lines.specs.declared.number.Numbers.the-variants.{None, One, Two, Three}
 use Rattle.record_lines.specs.declared.element.Elements.{Elements}
 use Rattle.record_lines.specs.declared.element.Elements.the-variants.{Labels, Matchers, Kinds}
 use Rattle.record_lines.specs.declared.element.Element.{Element}
@@ -20,6 +20,7 @@ abbrev pub numbersOf : Numbers → List ℕ
 numbersOf None = []
 numbersOf (One n) = n ∷ []
 numbersOf (Two m n) = m ∷ n ∷ []
+numbersOf (Three l m n) = l ∷ m ∷ n ∷ []
 
 abbrev pub elementNumbers : Element → List ℕ
 elementNumbers (Label s) = spanNumbers s

@@ -15,7 +15,7 @@ use Rattle.page.specs.declared.list.List as page-list
 use Rattle.page.specs.declared.text.Span.{Span}
 use Rattle.leaves.specs.Decimal.{digits, decimal}
 use Rattle.records.specs.declared.kind.Kind.the-variants.{Scalar}
-use Rattle.records.specs.declared.literal.Literal.the-variants.{Whole, Negative}
+use Rattle.records.specs.declared.literal.Literal.the-variants.{Whole, Negative, Fraction, NegativeFraction}
 use Rattle.records.specs.declared.literal.Fill.the-variants as fill
 use Rattle.records.specs.declared.modifier.LabelModifier.the-variants.{Include, Exclude}
 use Rattle.records.specs.declared.modifier.Cardinality.the-variants.{OneToMany}
@@ -71,6 +71,9 @@ call = code.Call (record { name = span 2 4; kinds = list 5 2; variadic = UpTo 3;
 abbrev examples : List Example
 examples =
     example (hex "000105") (code.Number (Negative 5)) 3 "3 0 1 5\n"
+    -- 0.95 and -0.000001: form, digits, places
+    ∷ example (hex "00055f02") (code.Number (Fraction 2 95)) 4 "4 0 5 95 2\n"
+    ∷ example (hex "00060106") (code.Number (NegativeFraction 6 1)) 4 "4 0 6 1 6\n"
     ∷ example (hex "010161") (code.String (span 2 3)) 3 "3 1 2 1\n"
     ∷ example twoMatchers selector 14 "14 2 2 0 2 1 5 1 7 1 3 10 1 12 1 1\n"
     ∷ example (hex "0305") (code.Range 5) 2 "2 3 5\n"

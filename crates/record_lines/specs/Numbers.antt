@@ -17,7 +17,7 @@ use Rattle.records.specs.Kind.{kindNumber}
 use Rattle.records.specs.Field.{readFlag, readKind}
 use Rattle.records.specs.Answers.{kindOf}
 use Rattle.records.specs.declared.literal.Literal.{Literal}
-use Rattle.records.specs.declared.literal.Literal.the-variants.{Whole, Negative, Nan, Inf, NegInf}
+use Rattle.records.specs.declared.literal.Literal.the-variants.{Whole, Negative, Nan, Inf, NegInf, Fraction, NegativeFraction}
 use Rattle.records.specs.declared.literal.Fill.{Fill}
 use Rattle.records.specs.declared.literal.Fill.the-variants as fill
 use Rattle.records.specs.declared.modifier.LabelModifier.{LabelModifier}
@@ -55,6 +55,8 @@ literalNumbers (Negative n) = 1 ∷ n ∷ []
 literalNumbers Nan = 2 ∷ []
 literalNumbers Inf = 3 ∷ []
 literalNumbers NegInf = 4 ∷ []
+literalNumbers (Fraction p d) = 5 ∷ d ∷ p ∷ []
+literalNumbers (NegativeFraction p d) = 6 ∷ d ∷ p ∷ []
 
 abbrev pub fillNumbers : Fill → List ℕ
 fillNumbers fill.None = 0 ∷ []

@@ -1,4 +1,4 @@
-// Parts of a record that are one or two numbers.
+// Parts of a record that are one to three numbers.
 use crate::line::put_spaced;
 use records::AtModifier;
 use records::Literal;
@@ -15,6 +15,7 @@ pub enum Numbers {
     None,
     One(u64),
     Two(u64, u64),
+    Three(u64, u64, u64),
 }
 
 pub fn put_numbers(numbers: Numbers, line: &mut [u8], at: usize) -> usize
@@ -26,6 +27,11 @@ pub fn put_numbers(numbers: Numbers, line: &mut [u8], at: usize) -> usize
         Numbers::Two(m, n) => {
             let next = put_spaced(m, line, at);
             put_spaced(n, line, next)
+        }
+        Numbers::Three(l, m, n) => {
+            let second = put_spaced(l, line, at);
+            let third = put_spaced(m, line, second);
+            put_spaced(n, line, third)
         }
     }
 }
@@ -65,6 +71,8 @@ fn literal_numbers(literal: Literal) -> Numbers
         Literal::Nan => Numbers::One(2),
         Literal::Inf => Numbers::One(3),
         Literal::NegInf => Numbers::One(4),
+        Literal::Fraction { places, digits } => Numbers::Three(5, digits, places as u64),
+        Literal::NegativeFraction { places, digits } => Numbers::Three(6, digits, places as u64),
     }
 }
 

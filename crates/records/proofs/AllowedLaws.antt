@@ -13,7 +13,8 @@ use Rattle.page.proofs.ReadBackLaws.{Gives, gives-return, gives-ensure, gives-b
 use Rattle.page.proofs.ReadBackLaws.{gives-choice, readNumber-gives, readText-gives, readCount-gives, readList-gives}
 use Rattle.records.specs.Kind.{vector, scalar, matrix, string}
 use Rattle.records.specs.Code.{isCode}
-use Rattle.records.specs.Literal.{whole, infinite, plus, minus, nan, readLiteral}
+use Rattle.records.specs.Literal.{Magnitude, whole, fraction, infinite, Literal, plus, minus, nan, isDigits, isPlaces}
+use Rattle.records.specs.Literal.{readFraction, readLiteral}
 use Rattle.records.specs.Float.{IsExact}
 use Rattle.records.specs.Field.{readFlag, readOption, readKind, readLabels}
 use Rattle.records.specs.Matcher.{MatchOp, equal, notEqual, re, notRe, Matcher, readMatcher}
@@ -29,6 +30,14 @@ use Rattle.records.specs.Allowed.{IsAllowed}
 
 -- ## Fields that serve many records
 
+readFraction-gives : (sign : Magnitude → Literal) → ((d p : ℕ) → T (isDigits d) → T (isPlaces p) → IsExact (sign (fraction d p)))
+    → Gives (readFraction sign) IsExact
+readFraction-gives sign is =
+    gives-bind _ readNumber-gives λ d h.
+    gives-bind {P = λ d. T (isDigits d)} _ (gives-ensure (isDigits d) badField d (λ t. t)) λ d i.
+    gives-bind _ readNumber-gives λ p k.
+    gives-field (λ p. sign (fraction d p)) (gives-ensure {P = λ p. T (isPlaces p)} (isPlaces p) badField p (λ t. t)) (λ p j. is d p i j)
+
 pub readLiteral-gives : Gives readLiteral IsExact
 readLiteral-gives =
     gives-choice (
@@ -37,6 +46,8 @@ readLiteral-gives =
     also gives-return nan tt
     also gives-return (plus infinite) tt
     also gives-return (minus infinite) tt
+    also readFraction-gives plus (λ d p h k. (h, k))
+    also readFraction-gives minus (λ d p h k. (h, k))
     also noMore
     )
 

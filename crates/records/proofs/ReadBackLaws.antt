@@ -19,7 +19,8 @@ use Rattle.page.proofs.ReadBackLaws.{reads-tested, reads-choice, readNumber-bac
 use Rattle.page.proofs.ReadBackLaws.{readList-back}
 use Rattle.records.specs.Kind.{vector, scalar, matrix, string}
 use Rattle.records.specs.Code.{isCode}
-use Rattle.records.specs.Literal.{whole, infinite, plus, minus, nan, literalForms, readLiteral, writeLiteral}
+use Rattle.records.specs.Literal.{Magnitude, whole, fraction, infinite, Literal, plus, minus, nan, isDigits, isPlaces}
+use Rattle.records.specs.Literal.{readFraction, literalForms, readLiteral, writeLiteral}
 use Rattle.records.specs.Float.{IsExact}
 use Rattle.records.specs.Field.{flagForms, readFlag, writeFlag, optionForms, readOption, writeOption, kindForms}
 use Rattle.records.specs.Field.{readKind, writeKind, readLabels, writeLabels}
@@ -37,8 +38,17 @@ use Rattle.records.specs.Record.{writeRecord}
 use Rattle.records.specs.Allowed.{IsOptionOf, IsAnyText, AreLabels, IsMatcher, IsSelector, IsLabelModifier}
 use Rattle.records.specs.Allowed.{IsCardinality, IsFill, IsBinModifier, IsOffset, IsAtModifier, IsVariadic}
 use Rattle.records.specs.Allowed.{IsKind, IsFunction, IsAllowed}
+use Rattle.records.proofs.FractionLaws.{digits-bounds, places-bounds}
 
 -- ## Fields that serve many records
+
+readFraction-back : (sign : Magnitude → Literal) (d p : ℕ) → T (isDigits d) → T (isPlaces p)
+    → ReadsAs (readFraction sign) (writeNumber d ++ writeNumber p) (sign (fraction d p))
+readFraction-back sign d p h k =
+    reads-bind _ (readNumber-back d (omega (arith, digits-bounds d h)))
+    (reads-bind _ (reads-ensure (isDigits d) badField d h)
+    (reads-as (reads-bind _ (readNumber-back p (omega (arith, places-bounds p k)))
+    (reads-field (λ p. sign (fraction d p)) (reads-ensure (isPlaces p) badField p k))) (append-nil (writeNumber p))))
 
 pub readLiteral-back : ReadsBack readLiteral writeLiteral IsExact
 readLiteral-back (plus (whole n)) h = reads-choice literalForms 0 (omega arith) (reads-field (λ n. plus (whole n)) (readNumber-back n h))
@@ -46,6 +56,8 @@ readLiteral-back (minus (whole n)) h = reads-choice literalForms 1 (omega arith)
 readLiteral-back nan h = reads-choice literalForms 2 (omega arith) (reads-return nan)
 readLiteral-back (plus infinite) h = reads-choice literalForms 3 (omega arith) (reads-return (plus infinite))
 readLiteral-back (minus infinite) h = reads-choice literalForms 4 (omega arith) (reads-return (minus infinite))
+readLiteral-back (plus (fraction d p)) h = reads-choice literalForms 5 (omega arith) (readFraction-back plus d p (h .0) (h .1))
+readLiteral-back (minus (fraction d p)) h = reads-choice literalForms 6 (omega arith) (readFraction-back minus d p (h .0) (h .1))
 
 pub readFlag-back : ReadsBack readFlag writeFlag (λ b. Unit {0})
 readFlag-back false h = reads-choice flagForms 0 (omega arith) (reads-return false)

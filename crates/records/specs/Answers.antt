@@ -25,7 +25,9 @@ use Rattle.records.specs.declared.matcher.MatchOp.{MatchOp}
 use Rattle.records.specs.declared.matcher.MatchOp.the-variants.{Equal, NotEqual, Re, NotRe}
 use Rattle.records.specs.declared.matcher.Matcher.{Matcher}
 use Rattle.records.specs.declared.literal.Literal.{Literal}
-use Rattle.records.specs.declared.literal.Literal.the-variants.{Whole, Negative, Nan, Inf, NegInf}
+use Rattle.records.specs.declared.literal.Literal.the-variants.{Whole, Negative, Nan, Inf, NegInf, Fraction, NegativeFraction}
+use Rattle.records.specs.declared.fraction.FractionField.{FractionField}
+use Rattle.records.specs.declared.fraction.FractionField.the-variants as fraction-answer
 use Rattle.records.specs.declared.literal.LiteralField.{LiteralField}
 use Rattle.records.specs.declared.literal.LiteralField.the-variants as literal-answer
 use Rattle.records.specs.declared.literal.Fill.{Fill}
@@ -108,12 +110,19 @@ pub record MatcherLies (page : List ℕ) (m : Matcher) : Type 0 where
 
 -- ## Literals and fills
 
+-- a fraction with its sign
+abbrev pub fractionAt : (literal.Magnitude → literal.Literal) → List ℕ → FractionField → Read literal.Literal
+fractionAt sign page (fraction-answer.Got p d next) = got (sign (literal.fraction d p)) (drop next page)
+fractionAt sign page fraction-answer.Bad = refused badField
+
 abbrev pub literalOf : Literal → literal.Literal
 literalOf (Whole n) = literal.plus (literal.whole n)
 literalOf (Negative n) = literal.minus (literal.whole n)
 literalOf Nan = literal.nan
 literalOf Inf = literal.plus literal.infinite
 literalOf NegInf = literal.minus literal.infinite
+literalOf (Fraction p d) = literal.plus (literal.fraction d p)
+literalOf (NegativeFraction p d) = literal.minus (literal.fraction d p)
 
 abbrev pub literalAt : List ℕ → LiteralField → Read literal.Literal
 literalAt page (literal-answer.Got l next) = got (literalOf l) (drop next page)

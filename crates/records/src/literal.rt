@@ -1,23 +1,54 @@
-// Numbers of number records and fills (ast.rs, `NumberLiteral`): a form, and the magnitude of a whole number.
+// Numbers of number records and fills (ast.rs, `NumberLiteral`): a form, and what stands after it.
+use crate::fraction::FractionField;
+use crate::fraction::read_fraction;
+ghost use Prim.Native.Nat.{ℕ};
+ghost use mathlib.Core.List.{List};
 ghost use mathlib.Core.Path.{_≡_};
 ghost use lib.ListN.{drop};
-ghost use Rattle.records.specs.Literal.{readLiteral};
+ghost use Rattle.records.specs.Literal.{signed, readLiteral};
 ghost use Rattle.records.specs.Field.{readOption};
-ghost use Rattle.records.specs.Answers.{literalAt, fillAt};
+ghost use Rattle.records.specs.Answers.{fractionAt, literalAt, fillAt};
 
-// Negative(0) is minus zero.
+// Negative(0) is minus zero. A fraction is digits / 10^places, plus or minus.
 pub enum Literal {
     Whole(u64),
     Negative(u64),
     Nan,
     Inf,
     NegInf,
+    Fraction { places: u8, digits: u64 },
+    NegativeFraction { places: u8, digits: u64 },
 }
 
 // A literal and the position after it.
 pub enum LiteralField {
     Got { literal: Literal, next: usize },
     Bad,
+}
+
+// The fraction that was read, with its sign.
+fn signed_fraction(minus: bool, read: FractionField) -> LiteralField
+    ensures { λ r. ⌜ ((page : List ℕ) → literalAt page r ≡ fractionAt (signed minus) page read) ⌝ }
+{
+    match read {
+        FractionField::Got {
+            places,
+            digits,
+            next,
+        } => {
+            if minus {
+                return LiteralField::Got {
+                    literal: Literal::NegativeFraction { places, digits },
+                    next,
+                };
+            }
+            LiteralField::Got {
+                literal: Literal::Fraction { places, digits },
+                next,
+            }
+        }
+        FractionField::Bad => LiteralField::Bad,
+    }
 }
 
 pub fn read_literal(page: &[u8], at: usize) -> LiteralField
@@ -51,6 +82,8 @@ pub fn read_literal(page: &[u8], at: usize) -> LiteralField
                 literal: Literal::NegInf,
                 next,
             },
+            5 => signed_fraction(false, read_fraction(page, next)),
+            6 => signed_fraction(true, read_fraction(page, next)),
             _ => LiteralField::Bad,
         },
         page::Number::Bad => LiteralField::Bad,

@@ -10,7 +10,7 @@ use lib.Ieee.{Float}
 use native.Mathlib.Omega.{arith}
 use Rattle.records.specs.Kind.{vector, scalar, matrix, string}
 use Rattle.records.specs.Stack.{operandsOf}
-use Rattle.ast.specs.Operand.{Operand, numberOperand, stringOperand, selectorOperand, rangeOperand, subqueryOperand, otherOperand}
+use Rattle.ast.specs.Operand.{Operand, numberOperand, fractionOperand, stringOperand, selectorOperand, rangeOperand, subqueryOperand, otherOperand}
 use Rattle.rules.specs.Stack.{tagOf, valueOf, tagTable, operandFrom, heldOperands, Sized}
 
 -- ## operandFrom
@@ -18,6 +18,8 @@ use Rattle.rules.specs.Stack.{tagOf, valueOf, tagTable, operandFrom, hel
 -- an operand is what its tag and its value say
 pub operandFrom-tagOf : (x : Operand) → operandFrom (tagOf x) (valueOf x) ≡ x
 operandFrom-tagOf (numberOperand v) = refl
+operandFrom-tagOf (fractionOperand true) = refl
+operandFrom-tagOf (fractionOperand false) = refl
 operandFrom-tagOf stringOperand = refl
 operandFrom-tagOf (selectorOperand true true) = refl
 operandFrom-tagOf (selectorOperand true false) = refl
@@ -41,11 +43,7 @@ getD-past [] i d h = refl
 getD-past (x ∷ xs) zero d h = absurd (let z : ⊥ = omega arith in z)
 getD-past (x ∷ xs) (suc i) d h = getD-past xs i d (omega arith)
 
--- a number that is at least n, and not n
-pub further : {n f : ℕ} → n ≤ f → (f ≡ n → ⊥) → suc n ≤ f
-further h g = omega arith
-
-pub operandFrom-last : (f : ℕ) (x : Float) → 17 ≤ f → operandFrom f x ≡ otherOperand string
+pub operandFrom-last : (f : ℕ) (x : Float) → 20 ≤ f → operandFrom f x ≡ otherOperand string
 operandFrom-last f x h = getD-past (tagTable x) f (otherOperand string) h
 
 -- ## operands

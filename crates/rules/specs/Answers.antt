@@ -6,7 +6,7 @@ use Rattle.records.specs.Answers.{kindOf}
 use Rattle.ast.specs.Refusal as ast
 use Rattle.ast.specs.Operand as spec
 use Rattle.rules.specs.declared.operand.Operand.{Operand}
-use Rattle.rules.specs.declared.operand.Operand.the-variants.{Number, String, Selector, Range, Subquery, Other}
+use Rattle.rules.specs.declared.operand.Operand.the-variants.{Number, Fraction, String, Selector, Range, Subquery, Other}
 use Rattle.rules.specs.declared.aggregate.Parameter.{Parameter}
 use Rattle.rules.specs.declared.aggregate.Parameter.the-variants as parameter
 use Rattle.rules.specs.declared.refusal.Refusal.{Refusal}
@@ -16,6 +16,7 @@ use Rattle.rules.specs.declared.refusal.Verdict.the-variants.{Put, Refus
 
 abbrev pub operandMeant : Operand → spec.Operand
 operandMeant (Number x) = spec.numberOperand x
+operandMeant (Fraction s) = spec.fractionOperand s
 operandMeant String = spec.stringOperand
 operandMeant (Selector a o) = spec.selectorOperand a o
 operandMeant (Range a o) = spec.rangeOperand a o

@@ -8,7 +8,7 @@ use lib.ListN.{length, getD}
 use lib.Ieee.{Float}
 use Rattle.records.specs.Kind.{vector, scalar, matrix, string, kindNumber}
 use Rattle.records.specs.Float.{zeroFloat}
-use Rattle.ast.specs.Operand.{Operand, numberOperand, stringOperand, selectorOperand, rangeOperand, subqueryOperand, otherOperand}
+use Rattle.ast.specs.Operand.{Operand, numberOperand, fractionOperand, stringOperand, selectorOperand, rangeOperand, subqueryOperand, otherOperand}
 
 -- the tag where @ or offset is set, from the tag where neither is
 abbrev pub tagWith : ℕ → Bool → Bool → ℕ
@@ -17,8 +17,13 @@ tagWith f true false = f + 1
 tagWith f false true = f + 2
 tagWith f true true = f + 3
 
+abbrev pub fractionTag : Bool → ℕ
+fractionTag false = 18
+fractionTag true = 19
+
 abbrev pub tagOf : Operand → ℕ
 tagOf (numberOperand x) = 0
+tagOf (fractionOperand s) = fractionTag s
 tagOf stringOperand = 1
 tagOf (selectorOperand a o) = tagWith 2 a o
 tagOf (rangeOperand a o) = tagWith 6 a o
@@ -27,20 +32,22 @@ tagOf (otherOperand k) = 14 + kindNumber k
 
 abbrev pub valueOf : Operand → Float
 valueOf (numberOperand x) = x
+valueOf (fractionOperand s) = zeroFloat
 valueOf stringOperand = zeroFloat
 valueOf (selectorOperand a o) = zeroFloat
 valueOf (rangeOperand a o) = zeroFloat
 valueOf (subqueryOperand a o) = zeroFloat
 valueOf (otherOperand k) = zeroFloat
 
--- the tags 0 to 16; 17 is a string that is no literal
+-- the tags 0 to 19; 17 is a string that is no literal
 abbrev pub tagTable : Float → List Operand
 tagTable x =
     numberOperand x ∷ stringOperand
     ∷ selectorOperand false false ∷ selectorOperand true false ∷ selectorOperand false true ∷ selectorOperand true true
     ∷ rangeOperand false false ∷ rangeOperand true false ∷ rangeOperand false true ∷ rangeOperand true true
     ∷ subqueryOperand false false ∷ subqueryOperand true false ∷ subqueryOperand false true ∷ subqueryOperand true true
-    ∷ otherOperand vector ∷ otherOperand scalar ∷ otherOperand matrix
+    ∷ otherOperand vector ∷ otherOperand scalar ∷ otherOperand matrix ∷ otherOperand string
+    ∷ fractionOperand false ∷ fractionOperand true
     ∷ []
 
 abbrev pub operandFrom : ℕ → Float → Operand

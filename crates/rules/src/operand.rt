@@ -7,11 +7,12 @@ ghost use lib.ListN.{getD};
 ghost use Rattle.records.specs.Answers.{kindOf};
 ghost use Rattle.ast.specs.Operand.{stringOperand, otherOperand, operandKind};
 ghost use Rattle.rules.specs.Answers.{operandMeant};
-ghost use Rattle.rules.specs.Stack.{tagWith, tagOf, valueOf, operandFrom, heldOperands, Sized};
+ghost use Rattle.rules.specs.Stack.{tagWith, fractionTag, tagOf, valueOf, operandFrom, heldOperands, Sized};
 
-// Of a selector, a range and a subquery: whether @ is set, whether offset is set.
+// Of a fraction: whether it is negative. Of a selector, a range and a subquery: whether @ is set, whether offset is set.
 pub enum Operand {
     Number(f64),
+    Fraction(bool),
     String,
     Selector(bool, bool),
     Range(bool, bool),
@@ -24,6 +25,7 @@ pub fn kind_of(operand: Operand) -> Kind
 {
     match operand {
         Operand::Number(_) => Kind::Scalar,
+        Operand::Fraction(_) => Kind::Scalar,
         Operand::String => Kind::String,
         Operand::Selector(_, _) => Kind::Vector,
         Operand::Range(_, _) => Kind::Matrix,
@@ -62,11 +64,21 @@ fn kind_tag(kind: Kind) -> u8
     }
 }
 
+fn fraction_tag(minus: bool) -> u8
+    ensures { λ r. ⌜ r ≡ fractionTag minus ⌝ }
+{
+    if minus {
+        return 19;
+    }
+    18
+}
+
 pub fn tag_of(operand: Operand) -> u8
     ensures { λ r. ⌜ r ≡ tagOf (operandMeant operand) ⌝ }
 {
     match operand {
         Operand::Number(_) => 0,
+        Operand::Fraction(minus) => fraction_tag(minus),
         Operand::String => 1,
         Operand::Selector(at, offset) => tag_with(2, at, offset),
         Operand::Range(at, offset) => tag_with(6, at, offset),
@@ -80,6 +92,7 @@ pub fn value_of(operand: Operand) -> f64
 {
     match operand {
         Operand::Number(value) => value,
+        Operand::Fraction(_) => 0.0,
         Operand::String => 0.0,
         Operand::Selector(_, _) => 0.0,
         Operand::Range(_, _) => 0.0,
@@ -109,6 +122,9 @@ pub fn operand_from(tag: u8, value: f64) -> Operand
         14 => Operand::Other(Kind::Vector),
         15 => Operand::Other(Kind::Scalar),
         16 => Operand::Other(Kind::Matrix),
+        17 => Operand::Other(Kind::String),
+        18 => Operand::Fraction(false),
+        19 => Operand::Fraction(true),
         _ => Operand::Other(Kind::String),
     }
 }

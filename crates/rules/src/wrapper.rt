@@ -20,6 +20,7 @@ pub fn judge_unary(operand: Operand) -> Verdict
 {
     match operand {
         Operand::Number(value) => Verdict::Put(Operand::Number(-value)),
+        Operand::Fraction(minus) => Verdict::Put(Operand::Fraction(!minus)),
         Operand::String => Verdict::Refused(Refusal::UnaryOnLiteral),
         Operand::Selector(_, _) => Verdict::Put(Operand::Other(Kind::Vector)),
         Operand::Range(_, _) => Verdict::Refused(Refusal::UnaryOnLiteral),
@@ -40,6 +41,7 @@ pub fn judge_range(operand: Operand) -> Verdict
 {
     match operand {
         Operand::Number(_) => Verdict::Refused(Refusal::RangeOnNoSelector),
+        Operand::Fraction(_) => Verdict::Refused(Refusal::RangeOnNoSelector),
         Operand::String => Verdict::Refused(Refusal::RangeOnNoSelector),
         Operand::Selector(at, offset) => {
             if offset {
@@ -73,6 +75,7 @@ fn judge_mark(operand: Operand, is_at: bool, twice: Refusal, without: Refusal) -
 {
     match operand {
         Operand::Number(_) => Verdict::Refused(without),
+        Operand::Fraction(_) => Verdict::Refused(without),
         Operand::String => Verdict::Refused(without),
         Operand::Selector(at, offset) => {
             if is_marked(is_at, at, offset) {

@@ -16,7 +16,7 @@ use Rattle.page.proofs.WellFormedLaws.{WellFormed, text-append, text-empty, tex
 use Rattle.page.proofs.WellFormedLaws.{selectorName-text}
 use Rattle.records.specs.Code.{tokens, token}
 use Rattle.records.specs.Field.{Labels}
-use Rattle.records.specs.Literal.{Literal, equalAsFloats}
+use Rattle.records.specs.Literal.{Literal, equalByValue}
 use Rattle.records.specs.Matcher.{Matcher, Selector}
 use Rattle.records.specs.Modifier.{LabelModifier, include, exclude, Cardinality, oneToOne, manyToMany, manyToOne, oneToMany}
 use Rattle.records.specs.Modifier.{BinModifier}
@@ -66,7 +66,7 @@ fills-text none none = text-empty
 fills-text (some l) none = filled-text " fill_left" l (text-word " fill_left" tt)
 fills-text none (some r) = filled-text " fill_right" r (text-word " fill_right" tt)
 fills-text (some l) (some r) =
-    text-pick (equalAsFloats r l) (filled-text " fill" r (text-word " fill" tt))
+    text-pick (equalByValue r l) (filled-text " fill" r (text-word " fill" tt))
     (text-append (filled-text " fill_left" l (text-word " fill_left" tt))
     (filled-text " fill_right" r (text-word " fill_right" tt)))
 

@@ -15,7 +15,7 @@ use Rattle.page.specs.Allowed.{IsNumber}
 use Rattle.page.proofs.LengthLaws.{writeText-some}
 use Rattle.page.proofs.NumberLaws.{left-of, right-of}
 use Rattle.records.specs.Code.{tokens, token}
-use Rattle.records.specs.Literal.{Literal, plus, minus, nan, negate, writeLiteral, equalAsFloats}
+use Rattle.records.specs.Literal.{Literal, plus, minus, nan, negate, writeLiteral, equalByValue}
 use Rattle.records.specs.Float.{IsExact}
 use Rattle.records.specs.Field.{Labels, writeFlag, writeOption, writeLabels}
 use Rattle.records.specs.Matcher.{Matcher, Selector, writeMatcher}
@@ -23,7 +23,7 @@ use Rattle.records.specs.Modifier.{LabelModifier, include, exclude, writeLabelM
 use Rattle.records.specs.Modifier.{manyToMany, manyToOne, oneToMany, writeCardinality, BinModifier, writeBinModifier}
 use Rattle.records.specs.Time.{Times, AtModifier, Offset}
 use Rattle.records.specs.Allowed.{IsOptionOf, IsFill, IsBinModifier, IsAtModifier, IsOffset}
-use Rattle.leaves.specs.Numeral.{displayNumber, displayLiteral, displayFill}
+use Rattle.leaves.specs.Numeral.{displayNumber, displayLiteral, displayFill, longestNumeral}
 use Rattle.leaves.specs.Duration.{displayDuration}
 use Rattle.leaves.specs.Time.{displayAt, displayOffset}
 use Rattle.leaves.proofs.LengthLaws.{displayFill-short, displayDuration-short, displayAt-short, displayOffset-short}
@@ -83,7 +83,7 @@ displayCardinality-short manyToMany = omega arith
 displayCardinality-short (manyToOne ls) = omega (arith, labelled-short " group_left" ls)
 displayCardinality-short (oneToMany ls) = omega (arith, labelled-short " group_right" ls)
 
-filled-short : (w : String) (l : Literal) → IsExact l → length (filled w l) ≤ length (bytes w) + 20
+filled-short : (w : String) (l : Literal) → IsExact l → length (filled w l) ≤ length (bytes w) + 3 + longestNumeral
 filled-short w l h =
     omega (
       arith,
@@ -93,20 +93,21 @@ filled-short w l h =
       displayFill-short l h,
     )
 
-displayFills-short : (l r : Option Literal) → IsFill l → IsFill r → length (displayFills l r) ≤ 61
+-- both words, with a number each
+pub displayFills-short : (l r : Option Literal) → IsFill l → IsFill r → length (displayFills l r) ≤ 27 + 2 * longestNumeral
 displayFills-short none none h k = omega arith
 displayFills-short (some l) none h k = omega (arith, filled-short " fill_left" l h)
 displayFills-short none (some r) h k = omega (arith, filled-short " fill_right" r k)
-displayFills-short (some l) (some r) h k = by (equalAsFloats r l)
+displayFills-short (some l) (some r) h k = by (equalByValue r l)
   where
-    by : (b : Bool) → length (pick b (filled " fill" r) (filled " fill_left" l ++ filled " fill_right" r)) ≤ 61
+    by : (b : Bool) → length (pick b (filled " fill" r) (filled " fill_left" l ++ filled " fill_right" r)) ≤ 27 + 2 * longestNumeral
     by true = omega (arith, filled-short " fill" r k)
     by false = omega (arith, length-append (filled " fill_left" l) (filled " fill_right" r), filled-short " fill_left" l h, filled-short " fill_right" r k)
 
-displayModifier-short : (m : BinModifier) → IsBinModifier m → length (displayModifier m) ≤ 93 + 4 * length (writeBinModifier m)
+displayModifier-short : (m : BinModifier) → IsBinModifier m → length (displayModifier m) ≤ 59 + 2 * longestNumeral + 4 * length (writeBinModifier m)
 displayModifier-short m h = omega (arith, shown, written)
   where
-    shown : length (displayModifier m) ≤ 93 + 4 * length (writeLabelModifier (m .matching)) + 4 * length (writeCardinality (m .card))
+    shown : length (displayModifier m) ≤ 59 + 2 * longestNumeral + 4 * length (writeLabelModifier (m .matching)) + 4 * length (writeCardinality (m .card))
     shown =
         omega (
           arith,
@@ -133,7 +134,7 @@ displayModifier-short m h = omega (arith, shown, written)
         )
 
 pub displayOperator-short : (c : ℕ) (m : Option BinModifier) → IsOptionOf IsBinModifier m
-    → length (displayOperator c m) ≤ 105 + 4 * length (writeOption writeBinModifier m)
+    → length (displayOperator c m) ≤ 71 + 2 * longestNumeral + 4 * length (writeOption writeBinModifier m)
 displayOperator-short c none h = omega (arith, length-append (token c) [], token-short c)
 displayOperator-short c (some m) h = omega (arith, length-append (token c) (displayModifier m), token-short c, displayModifier-short m h)
 

@@ -1,7 +1,7 @@
 -- `trim_start` under a unary expression takes away the operand's indentation and nothing else, since no node's own text
 -- begins with a white character: a number, a quote, a name, a brace, a bracket, a minus or a token stands first, all
 -- above the space and below 128.
-use Prim.Native.Nat.{ℕ, zero, suc, _+_, _/_, _%_, _≤_, _<_}
+use Prim.Native.Nat.{ℕ, zero, suc, _+_, _/_, _%_, _^_, _≤_, _<_}
 use native.Mathlib.Omega.{arith}
 use mathlib.Core.Path.{_≡_, refl}
 use mathlib.Core.Bool.{Bool, true, false}
@@ -10,8 +10,8 @@ use borrow.Author.Tests.{ne-eqb, ltb-true}
 use lib.Dec.{eqb, ltb}
 use Rattle.page.specs.Bytes.{pick, any}
 use Rattle.records.specs.Code.{token}
-use Rattle.records.specs.Literal.{Literal, plus, minus, nan, whole, infinite}
-use Rattle.leaves.specs.Decimal.{digits, decimal}
+use Rattle.records.specs.Literal.{Literal, plus, minus, nan, whole, fraction, infinite}
+use Rattle.leaves.specs.Decimal.{digits, decimal, expansion}
 use Rattle.leaves.specs.Escape.{quote}
 use Rattle.leaves.specs.Numeral.{displayNumber, displayLiteral}
 use Rattle.ast.specs.Expr.{Expr, Aggregate, AggregateParam, Unary, Binary, Paren, Subquery, NumberLiteral, StringLiteral, VectorSelector, MatrixSelector, Call}
@@ -88,8 +88,9 @@ digits-begin (suc k) n h = by (ltb n 10) refl (digits-begin k (n / 10) (omega ar
     by false e d = begins-append _ d
 
 literal-begins : (l : Literal) → Begins (displayLiteral l)
-unfolding decimal displayLiteral displayNumber
+unfolding decimal expansion displayLiteral displayNumber
 literal-begins (plus (whole n)) = digits-begin n n (omega arith)
+literal-begins (plus (fraction d p)) = begins-append _ (begins-append _ (digits-begin (d / 10 ^ p) (d / 10 ^ p) (omega arith)))
 literal-begins (plus infinite) = begins 73 _ (omega arith)
 literal-begins (minus m) = begins 45 _ (omega arith)
 literal-begins nan = begins 78 _ (omega arith)

@@ -6,7 +6,7 @@ use mathlib.Core.List.{List, [], _∷_, _++_}
 use mathlib.Core.Option.{Option, none, some}
 use Rattle.page.specs.Bytes.{pick, bytes, join}
 use Rattle.records.specs.Code.{token}
-use Rattle.records.specs.Literal.{Literal, equalAsFloats}
+use Rattle.records.specs.Literal.{Literal, equalByValue}
 use Rattle.leaves.specs.Numeral.{displayLiteral, displayFill}
 use Rattle.records.specs.Field.{Labels}
 use Rattle.records.specs.Matcher.{Matcher, Selector}
@@ -52,12 +52,12 @@ displayCardinality (oneToMany ls) = labelled " group_right" ls
 abbrev pub filled : String → Literal → List ℕ
 filled w l = bytes w ++ bytes " (" ++ displayFill l ++ bytes ")"
 
--- both, equal as floats: one fill, with the right number; else each that is there
+-- both, equal by value: one fill, with the right number; else each that is there
 abbrev pub displayFills : Option Literal → Option Literal → List ℕ
 displayFills none none = []
 displayFills (some l) none = filled " fill_left" l
 displayFills none (some r) = filled " fill_right" r
-displayFills (some l) (some r) = pick (equalAsFloats r l) (filled " fill" r) (filled " fill_left" l ++ filled " fill_right" r)
+displayFills (some l) (some r) = pick (equalByValue r l) (filled " fill" r) (filled " fill_left" l ++ filled " fill_right" r)
 
 abbrev pub displayModifier : BinModifier → List ℕ
 displayModifier m =

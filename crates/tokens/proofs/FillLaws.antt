@@ -1,5 +1,5 @@
--- Fills by their forms, as the code has them. That the code's comparison of floats is `equalAsFloats` is `float-equal`
--- of records; here it is turned round, since the definition names the right number first. Assumes nothing.
+-- Fills by their forms, as the code has them. That the code's comparison is `equalByValue` is `same-by-value` of float;
+-- here it is turned round, since the definition names the right number first. Assumes nothing.
 use Prim.Native.Nat.{ℕ, _+_}
 use Prim.Native.String.{String}
 use native.Mathlib.Omega.{arith}
@@ -14,24 +14,31 @@ use Rattle.base.proofs.Cases.{by-eq}
 use Rattle.base.specs.Splice.{join}
 use Rattle.base.proofs.SpliceLaws.{Cut}
 use Rattle.page.specs.Bytes.{bytes}
-use Rattle.records.specs.Literal.{Magnitude, whole, infinite, Literal, plus, minus, nan, isZero, equalMagnitude, equalAsFloats}
-use Rattle.records.proofs.FloatLaws.{float-equal}
-use Rattle.float.specs.Fills.{isPresent, fillValues, FillExact, sameFills}
+use Rattle.records.specs.Literal.{Magnitude, whole, fraction, infinite, Literal, plus, minus, nan, isZero, equalMagnitude, equalByValue}
+use Rattle.records.specs.Float.{IsExact}
+use Rattle.records.specs.Allowed.{IsFill}
+use Rattle.float.specs.Fills.{isPresent, fillValues, sameFills}
 use Rattle.float.specs.declared.FillValues.{FillValues}
+use Rattle.float.proofs.SameLaws.{same-by-value}
 use Rattle.leaves.specs.Numeral.{displayFill}
 use Rattle.text.specs.Display.{filled, displayFills}
 use Rattle.tokens.specs.Labelled.{fillDigits, filledBytes, bothFills}
 use Rattle.tokens.proofs.LabelledLaws.{four}
 
--- ## equalAsFloats, turned round
+-- ## equalByValue, turned round
 
 eqb-turned : (n m : ℕ) → eqb n m ≡ eqb m n
 eqb-turned n m = by-eq n m (λ e. eq-eqb n m e ∙ sym (eq-eqb m n (sym e))) (λ d. ne-eqb n m d ∙ sym (ne-eqb m n (λ e. d (sym e))))
 
 magnitude-turned : (a b : Magnitude) → equalMagnitude a b ≡ equalMagnitude b a
 magnitude-turned (whole n) (whole m) = eqb-turned n m
+magnitude-turned (whole n) (fraction e q) = refl
 magnitude-turned (whole n) infinite = refl
+magnitude-turned (fraction d p) (whole m) = refl
+magnitude-turned (fraction d p) (fraction e q) = rw (eqb-turned d e, eqb-turned p q)
+magnitude-turned (fraction d p) infinite = refl
 magnitude-turned infinite (whole m) = refl
+magnitude-turned infinite (fraction e q) = refl
 magnitude-turned infinite infinite = refl
 
 and-turned : (a b : Bool) → a && b ≡ b && a
@@ -40,7 +47,7 @@ and-turned true false = refl
 and-turned false true = refl
 and-turned false false = refl
 
-equal-turned : (a b : Literal) → equalAsFloats a b ≡ equalAsFloats b a
+equal-turned : (a b : Literal) → equalByValue a b ≡ equalByValue b a
 equal-turned (plus m) (plus n) = magnitude-turned m n
 equal-turned (plus m) (minus n) = and-turned (isZero m) (isZero n)
 equal-turned (plus m) nan = refl
@@ -60,6 +67,12 @@ filled-bytes w l = four (bytes w) (bytes " (") (displayFill l) (bytes ")")
 pub length-filledBytes : (w : List ℕ) (l : Literal) → length (filledBytes w l) ≡ length w + 3 + length (displayFill l)
 unfolding filledBytes join
 length-filledBytes w l = omega (arith, length-append w (32 ∷ 40 ∷ (displayFill l ++ (bytes ")"))), length-append (displayFill l) (bytes ")"))
+
+-- ## The digits of a fill
+
+pub digits-exact : (x : Option Literal) → IsFill x → IsExact (fillDigits x)
+digits-exact none h = omega arith
+digits-exact (some l) h = h
 
 -- ## Both fills
 
@@ -120,15 +133,15 @@ module _ (l r : Option Literal) (values : FillValues) (is : values ≡ fillValue
       left-there none r e f = cc
 
   -- same is what `same_fills` answered
-  pub fills-both : (same : Bool) → values .«has_left» ≡ true → values .«has_right» ≡ true → FillExact l → FillExact r → same ≡ sameFills values
+  pub fills-both : (same : Bool) → values .«has_left» ≡ true → values .«has_right» ≡ true → IsFill l → IsFill r → same ≡ sameFills values
       → displayFills l r ≡ bothFills same (fillDigits l) (fillDigits r)
   unfolding bothFills
   fills-both same e f hl hr answered = both-there l r (left-mark true e) (right-mark true f) hl hr (answered ∙ ap sameFills is)
     where
-      both-there : (l r : Option Literal) → isPresent l ≡ true → isPresent r ≡ true → FillExact l → FillExact r → same ≡ sameFills (fillValues l r)
+      both-there : (l r : Option Literal) → isPresent l ≡ true → isPresent r ≡ true → IsFill l → IsFill r → same ≡ sameFills (fillValues l r)
           → displayFills l r ≡ bothFills same (fillDigits l) (fillDigits r)
       both-there (some x) (some y) e f hl hr answered =
-          let compared : same ≡ equalAsFloats y x = answered ∙ float-equal x y hl hr ∙ equal-turned x y in
+          let compared : same ≡ equalByValue y x = answered ∙ same-by-value x y hl hr ∙ equal-turned x y in
           rw compared
       both-there (some x) none e f hl hr answered = cc
       both-there none r e f hl hr answered = cc

@@ -23,6 +23,6 @@ abbrev pub fillDigits : Option Literal → Literal
 fillDigits none = plus (whole 0)
 fillDigits (some l) = l
 
--- both fills, equal as floats or not
+-- both fills, equal by value or not
 unfoldable pub bothFills : Bool → Literal → Literal → List ℕ
 bothFills same l r = pick same (filled " fill" r) (filled " fill_left" l ++ filled " fill_right" r)

@@ -1,5 +1,5 @@
-// Fills (ast.rs, `VectorMatchFillValues`): equal as floats they print as one, with the right number; else each that is
-// there. The digits are the literals'; the comparison is the floats'.
+// Fills (ast.rs, `VectorMatchFillValues`): equal by value they print as one, with the right number; else each that is
+// there. The digits are the literals'; the comparison is that of the values.
 use float::FillValues;
 use float::same_fills;
 use leaves::numeral_len;
@@ -12,16 +12,19 @@ ghost use mathlib.Core.Path.{_≡_};
 ghost use Prim.Native.Nat.{_+_, _≤_};
 ghost use lib.ListN.{length};
 ghost use Rattle.base.specs.Splice.{Wrote};
+ghost use Rattle.records.specs.Float.{IsExact};
+ghost use Rattle.records.specs.Allowed.{IsFill};
 ghost use Rattle.records.specs.Answers.{literalOf, fillOf};
-ghost use Rattle.float.specs.Fills.{fillValues, FillExact};
+ghost use Rattle.float.specs.Fills.{fillValues};
 ghost use Rattle.leaves.specs.Numeral.{displayFill};
 ghost use Rattle.text.specs.Display.{displayFills};
 ghost use Rattle.tokens.specs.Labelled.{fillDigits, filledBytes, bothFills};
 
 // The length with a token of so many bytes.
 fn filled_len(token: usize, literal: Literal) -> usize
-    requires { ⌜ token ≤ 11 ⌝ }
-    ensures { λ r. ⌜ (r ≡ token + 3 + length (displayFill (literalOf literal))) × (r ≤ 35) ⌝ }
+    requires token { ⌜ token ≤ 11 ⌝ }
+    requires exact { ⌜ IsExact (literalOf literal) ⌝ }
+    ensures { λ r. ⌜ r ≡ token + 3 + length (displayFill (literalOf literal)) ⌝ }
 {
     token + 3 + numeral_len(literal)
 }
@@ -38,7 +41,8 @@ fn put_filled(token: &[u8], literal: Literal, out: &mut [u8], at: usize) -> usiz
 
 // Both fills are there.
 fn both_len(same: bool, left: Literal, right: Literal) -> usize
-    ensures { λ r. ⌜ (r ≡ length (bothFills same (literalOf left) (literalOf right))) × (r ≤ 70) ⌝ }
+    requires { ⌜ IsExact (literalOf left) × IsExact (literalOf right) ⌝ }
+    ensures { λ r. ⌜ r ≡ length (bothFills same (literalOf left) (literalOf right)) ⌝ }
 {
     if same {
         return filled_len(5, right);
@@ -69,8 +73,8 @@ fn digits_of(fill: Fill) -> Literal
 
 // The bools of the values say which fills are there, the numbers whether they are equal; the digits are the literals'.
 pub fn fills_len(values: FillValues, lhs: Fill, rhs: Fill) -> usize
-    requires { ⌜ (values ≡ fillValues (fillOf lhs) (fillOf rhs)) × FillExact (fillOf lhs) × FillExact (fillOf rhs) ⌝ }
-    ensures { λ r. ⌜ (r ≡ length (displayFills (fillOf lhs) (fillOf rhs))) × (r ≤ 70) ⌝ }
+    requires { ⌜ (values ≡ fillValues (fillOf lhs) (fillOf rhs)) × IsFill (fillOf lhs) × IsFill (fillOf rhs) ⌝ }
+    ensures { λ r. ⌜ r ≡ length (displayFills (fillOf lhs) (fillOf rhs)) ⌝ }
 {
     if values.has_left {
         if values.has_right {
@@ -85,7 +89,7 @@ pub fn fills_len(values: FillValues, lhs: Fill, rhs: Fill) -> usize
 }
 
 pub fn put_fills(values: FillValues, lhs: Fill, rhs: Fill, out: &mut [u8], at: usize) -> usize
-    requires exact { ⌜ (values ≡ fillValues (fillOf lhs) (fillOf rhs)) × FillExact (fillOf lhs) × FillExact (fillOf rhs) ⌝ }
+    requires exact { ⌜ (values ≡ fillValues (fillOf lhs) (fillOf rhs)) × IsFill (fillOf lhs) × IsFill (fillOf rhs) ⌝ }
     requires room { ⌜ at + length (displayFills (fillOf lhs) (fillOf rhs)) ≤ length (now out) ⌝ }
     ensures { λ r. ⌜ Wrote (now (out .entry)) (now (out .exit)) at (displayFills (fillOf lhs) (fillOf rhs)) r ⌝ }
 {

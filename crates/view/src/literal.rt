@@ -24,6 +24,14 @@ fn negated(l: records::Literal) -> records::Literal
         records::Literal::Nan => records::Literal::Nan,
         records::Literal::Inf => records::Literal::NegInf,
         records::Literal::NegInf => records::Literal::Inf,
+        records::Literal::Fraction { places, digits } => records::Literal::NegativeFraction {
+            places,
+            digits,
+        },
+        records::Literal::NegativeFraction { places, digits } => records::Literal::Fraction {
+            places,
+            digits,
+        },
     }
 }
 

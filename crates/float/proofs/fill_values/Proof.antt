@@ -9,28 +9,10 @@ fill-value-requires c κs = search needs
 fill-value-requires-2 : tie.Need-fill-value-requires-2
 fill-value-requires-2 c κs = search needs
 
-is-present-requires : tie.Need-is-present-requires
-is-present-requires c κs = search needs
-
-is-present-requires-2 : tie.Need-is-present-requires-2
-is-present-requires-2 c κs = search needs
-
 returns : tie.Need-returns
 returns c =
     let at-fill-value = c .before .before .before in
-    rw (
-      at-fill-value .fill-value .ensures,
-      c .before .before .fill-value2 .ensures,
-      c .before .is-present .ensures,
-      c .is-present2 .ensures,
-    )
+    rw (at-fill-value .fill-value .ensures, c .before .before .fill-value2 .ensures)
 
 pub fill-values-spec : {M : Type 1} → statement M
-fill-values-spec =
-    tie.close
-    (tie.spec
-    fill-value-requires
-    fill-value-requires-2
-    is-present-requires
-    is-present-requires-2
-    returns)
+fill-values-spec = tie.close (tie.spec fill-value-requires fill-value-requires-2 returns)

@@ -1,4 +1,5 @@
--- `float::literal_value` meets its contract: the float of each form. Assumes nothing.
+-- `float::literal_value` meets its contract: the float of each form, NaN for a fraction. Assumes nothing.
+use lib.Ieee as Ieee
 use borrow.Author.Needs.{needs}
 use Rattle.float.proofs.literal_value.Statement.{statement}
 use Rattle.float.proofs.literal_value.Tie as tie
@@ -43,6 +44,18 @@ infinity-requires-2 c κs = search needs
 negated-requires-2 : tie.Need-negated-requires-2
 negated-requires-2 c κs = search needs
 
+enum-told-4 : tie.Need-enum-told-4
+enum-told-4 c = search needs
+
+not-a-number-requires-2 : tie.Need-not-a-number-requires-2
+not-a-number-requires-2 c κs = search needs
+
+enum-told-5 : tie.Need-enum-told-5
+enum-told-5 c = search needs
+
+not-a-number-requires-3 : tie.Need-not-a-number-requires-3
+not-a-number-requires-3 c κs = search needs
+
 returns : tie.Need-returns
 returns c = rw (c .before .before .l .given .1, c .whole .ensures)
 
@@ -60,6 +73,13 @@ returns-4 c = search needs
 returns-5 : tie.Need-returns-5
 returns-5 c = rw (c .before .before .enum-told3 .given .1, c .negated2 .ensures, c .before .infinity2 .ensures)
 
+returns-6 : tie.Need-returns-6
+returns-6 c = search needs
+
+returns-7 : tie.Need-returns-7
+unfolding Ieee.neg
+returns-7 c = rw (c .before .enum-told5 .given .1, c .not-a-number3 .ensures)
+
 pub literal-value-spec : {M : Type 1} → statement M
 literal-value-spec =
     tie.close
@@ -76,8 +96,14 @@ literal-value-spec =
     enum-told-3
     infinity-requires-2
     negated-requires-2
+    enum-told-4
+    not-a-number-requires-2
+    enum-told-5
+    not-a-number-requires-3
     returns
     returns-2
     returns-3
     returns-4
-    returns-5)
+    returns-5
+    returns-6
+    returns-7)

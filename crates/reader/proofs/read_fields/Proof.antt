@@ -1,18 +1,13 @@
 -- `reader::read_fields` meets its contract: the kind says which record follows. Assumes nothing.
-use native.Mathlib.Omega.{arith}
 use lib.ListN.{drop}
 use denote.Ref.{now}
 use Rattle.records.specs.Record.{recordForms}
 use Rattle.page.proofs.FieldLaws.{no-form}
-use Prim.Native.Nat.{ℕ, suc, _≤_, zero-le}
-use mathlib.Core.Path.{_≡_}
+use Prim.Native.Nat.{zero-le}
+use Rattle.base.proofs.Cases.{past}
 use borrow.Author.Needs.{needs}
 use Rattle.reader.proofs.read_fields.Statement.{statement}
 use Rattle.reader.proofs.read_fields.Tie as tie
-
--- one number fewer
-past : (k n : ℕ) → k ≤ n → (n ≡ k → ⊥) → suc k ≤ n
-past k n h g = omega arith
 
 read-number-record-requires : tie.Need-read-number-record-requires
 read-number-record-requires c κs = search needs
@@ -86,17 +81,8 @@ returns-13 c =
     let r = c .match .rest in
     let n = at-start .args .kind in (
       no-form recordForms n (drop (at-start .args .at) (now (at-start .args .page)))
-          (past 11 n
-          (past 10 n
-          (past 9 n
-          (past 8 n
-          (past 7 n
-          (past 6 n
-          (past 5 n
-          (past 4 n
-          (past 3 n
-          (past 2 n
-          (past 1 n (past 0 n zero-le (r .0 .0 .0 .0 .0 .0 .0 .0 .0 .0 .0 .1)) (r .0 .0 .0 .0 .0 .0 .0 .0 .0 .0 .1))
+          (past (past (past (past (past (past (past (past (past (past
+          (past (past zero-le (r .0 .0 .0 .0 .0 .0 .0 .0 .0 .0 .0 .1)) (r .0 .0 .0 .0 .0 .0 .0 .0 .0 .0 .1))
           (r .0 .0 .0 .0 .0 .0 .0 .0 .0 .1)) (r .0 .0 .0 .0 .0 .0 .0 .0 .1)) (r .0 .0 .0 .0 .0 .0 .0 .1))
           (r .0 .0 .0 .0 .0 .0 .1)) (r .0 .0 .0 .0 .0 .1)) (r .0 .0 .0 .0 .1)) (r .0 .0 .0 .1)) (r .0 .0 .1))
           (r .0 .1)) (r .1)),

@@ -2,7 +2,9 @@
 -- nothing.
 use borrow.Author.Needs.{needs}
 use denote.Ref.{now}
-use Rattle.records.specs.Answers.{binModifierOn}
+use native.Mathlib.Omega.{arith}
+use Rattle.records.specs.Answers.{fillOf, binModifierOn}
+use Rattle.text.proofs.ShortLaws.{displayFills-short}
 use Rattle.heads.proofs.HeadLaws.{modifier-measured}
 use Rattle.heads.proofs.head.modifier_len.Statement.{statement}
 use Rattle.heads.proofs.head.modifier_len.Tie as tie
@@ -14,7 +16,18 @@ fills-len-requires : tie.Need-fills-len-requires
 fills-len-requires c κs = search needs
 
 add-ends : tie.Need-add-ends
-add-ends c = search needs
+add-ends c =
+    let at-start = c .before .before .before in
+    let modifier = at-start .args .modifier in
+    record {
+      fits = omega (
+        arith,
+        c .before .bool-len .ensures,
+        c .fills-len .ensures,
+        displayFills-short (fillOf (modifier .lhs)) (fillOf (modifier .rhs)) (at-start .pre .1 .1)
+            (at-start .pre .1 .2),
+      );
+    }
 
 matching-len-requires : tie.Need-matching-len-requires
 matching-len-requires c κs = search needs
@@ -35,7 +48,7 @@ returns c =
     let at-bool-len = at-fills-len .before in
     let at-start = at-bool-len .before .before in
     modifier-measured (binModifierOn (now (at-start .args .page)) (at-start .args .modifier)) _ _ _ _ _ _ _
-    (at-bool-len .bool-len .ensures .0) (at-fills-len .fills-len .ensures .0)
+    (at-bool-len .bool-len .ensures .0) (at-fills-len .fills-len .ensures)
     (at-matching-len .matching-len .ensures) (c .before .before .capped-add .ensures)
     (c .before .cardinality-len .ensures) (c .capped-add2 .ensures)
 

@@ -1,7 +1,9 @@
 -- `judge::exempt::is_exempt` meets its contract, case by case. Assumes nothing.
+use mathlib.Core.Bool.{_&&_}
 use mathlib.Core.Path.{ap, _∙_}
-use Rattle.ast.specs.Judge.{isExemptFloat}
 use Rattle.page.specs.Text.{Text}
+use Rattle.records.specs.LiteralException.{isLogarithm}
+use Rattle.ast.specs.Judge.{isExemptFloat}
 use borrow.Author.Needs.{needs}
 use Rattle.judge.proofs.exempt.is_exempt.Statement.{statement}
 use Rattle.judge.proofs.exempt.is_exempt.Tie as tie
@@ -14,6 +16,15 @@ text-at-requires c κs = search needs
 
 is-exempt-value-requires : tie.Need-is-exempt-value-requires
 is-exempt-value-requires c κs = search needs
+
+enum-known-first-2 : tie.Need-enum-known-first-2
+enum-known-first-2 c = search needs
+
+text-at-requires-2 : tie.Need-text-at-requires-2
+text-at-requires-2 c κs = search needs
+
+is-logarithm-requires : tie.Need-is-logarithm-requires
+is-logarithm-requires c κs = search needs
 
 enum-told : tie.Need-enum-told
 enum-told c = search needs
@@ -38,7 +49,9 @@ returns c =
     ∙ ap (λ (t : Text). isExemptFloat t (at-first .first .given .0 .0)) (c .before .text-at .ensures))
 
 returns-2 : tie.Need-returns-2
-returns-2 c = search needs
+returns-2 c =
+    let at-second-first = c .before .before .before in
+    rw (at-second-first .first2 .given .1, c .is-logarithm .ensures, c .before .text-at2 .ensures)
 
 returns-3 : tie.Need-returns-3
 returns-3 c = search needs
@@ -52,6 +65,9 @@ returns-5 c = search needs
 returns-6 : tie.Need-returns-6
 returns-6 c = search needs
 
+returns-7 : tie.Need-returns-7
+returns-7 c = search needs
+
 pub is-exempt-spec : {M : Type 1} → statement M
 is-exempt-spec =
     tie.close
@@ -59,6 +75,9 @@ is-exempt-spec =
     enum-known-first
     text-at-requires
     is-exempt-value-requires
+    enum-known-first-2
+    text-at-requires-2
+    is-logarithm-requires
     enum-told
     enum-told-2
     enum-told-3
@@ -69,4 +88,5 @@ is-exempt-spec =
     returns-3
     returns-4
     returns-5
-    returns-6)
+    returns-6
+    returns-7)

@@ -23,8 +23,8 @@ use Rattle.judge.proofs.record.judge_record.Tie as tie
 enum-known-item : tie.Need-enum-known-item
 enum-known-item c = search needs
 
-literal-value-requires : tie.Need-literal-value-requires
-literal-value-requires c κs =
+literal-operand-requires : tie.Need-literal-operand-requires
+literal-operand-requires c κs =
     let at-start = c .before .before .before .before .before .before in
     rw (c .before .item .given .1) at (at-start .pre .1 .exact)
 
@@ -164,7 +164,7 @@ returns c =
     rw (c .before .before .item .given .1)
     (judgement-number (literalOf (c .before .before .item .given .0 .0))
     (drop (at-start .args .top) (heldOperands (now (at-start .args .tags)) (now (at-start .args .values))))
-    (c .literal-value .ensures))
+    (c .literal-operand .ensures))
 
 returns-2 : tie.Need-returns-2
 returns-2 c =
@@ -285,7 +285,7 @@ judge-record-spec =
     tie.close
     (tie.spec
     enum-known-item
-    literal-value-requires
+    literal-operand-requires
     enum-told
     enum-known-item-2
     judge-selector-requires

@@ -3,7 +3,8 @@ use borrow.Author.Needs.{needs}
 use mathlib.Core.Path.{refl}
 use Rattle.base.proofs.SpliceLaws.{begin, first, room, step, finish, cut-last}
 use Rattle.leaves.proofs.NumeralLaws.{displayNumber-whole, displayNumber-negative, displayNumber-nan}
-use Rattle.leaves.proofs.NumeralLaws.{displayNumber-inf, displayNumber-neg-inf}
+use Rattle.leaves.proofs.NumeralLaws.{displayNumber-inf, displayNumber-neg-inf, displayNumber-fraction}
+use Rattle.leaves.proofs.NumeralLaws.{displayNumber-negative-fraction}
 use Rattle.leaves.proofs.numeral.put_numeral.Statement.{statement}
 use Rattle.leaves.proofs.numeral.put_numeral.Tie as tie
 
@@ -66,6 +67,31 @@ put-infinity-requires-2 c κs =
     room (step (begin _ _ _ (at-start .pre)) (displayNumber-neg-inf _ _ (at-third-told .enum-told3 .given .1))
     (at-second-put-byte .put-byte2 .ensures)) (cut-last _)
 
+enum-known-literal-3 : tie.Need-enum-known-literal-3
+enum-known-literal-3 c = search needs
+
+put-expansion-requires : tie.Need-put-expansion-requires
+put-expansion-requires c κs =
+    let at-start = c .before .before .before .before .before in
+    rw (displayNumber-fraction _ _ _ _ (c .before .before .literal3 .given .1)) at (at-start .pre)
+
+enum-known-literal-4 : tie.Need-enum-known-literal-4
+enum-known-literal-4 c = search needs
+
+put-byte-requires-3 : tie.Need-put-byte-requires-3
+put-byte-requires-3 c κs =
+    let at-start = c .before .before .before .before .before in
+    first _ _ (at-start .pre) (displayNumber-negative-fraction _ _ _ _ (c .before .before .literal4 .given .1))
+
+put-expansion-requires-2 : tie.Need-put-expansion-requires-2
+put-expansion-requires-2 c κs =
+    let at-third-put-byte = c .before .before .before in
+    let at-fourth-literal = at-third-put-byte .before .before .before in
+    let at-start = at-fourth-literal .before .before .before in
+    room (step (begin _ _ _ (at-start .pre))
+    (displayNumber-negative-fraction _ _ _ _ (at-fourth-literal .literal4 .given .1))
+    (at-third-put-byte .put-byte3 .ensures)) (cut-last _)
+
 same-length : tie.Need-same-length
 same-length c = search needs
 
@@ -114,6 +140,27 @@ returns-5 c =
     (displayNumber-neg-inf _ _ (at-third-told .enum-told3 .given .1)) (at-second-put-byte .put-byte2 .ensures))
     (cut-last _) (c .before .before .put-infinity2 .ensures)) refl
 
+same-length-6 : tie.Need-same-length-6
+same-length-6 c = search needs
+
+returns-6 : tie.Need-returns-6
+returns-6 c =
+    let at-third-literal = c .before .before .before .before .before in
+    rw (displayNumber-fraction _ _ _ _ (at-third-literal .literal3 .given .1))
+    (c .before .before .put-expansion .ensures)
+
+same-length-7 : tie.Need-same-length-7
+same-length-7 c = search needs
+
+returns-7 : tie.Need-returns-7
+returns-7 c =
+    let at-third-put-byte = c .before .before .before .before .before .before in
+    let at-fourth-literal = at-third-put-byte .before .before .before in
+    let at-start = at-fourth-literal .before .before .before in
+    finish (step (step (begin _ _ _ (at-start .pre))
+    (displayNumber-negative-fraction _ _ _ _ (at-fourth-literal .literal4 .given .1))
+    (at-third-put-byte .put-byte3 .ensures)) (cut-last _) (c .before .before .put-expansion2 .ensures)) refl
+
 pub put-numeral-spec : {M : Type 1} → statement M
 put-numeral-spec =
     tie.close
@@ -131,6 +178,11 @@ put-numeral-spec =
     enum-told-3
     put-byte-requires-2
     put-infinity-requires-2
+    enum-known-literal-3
+    put-expansion-requires
+    enum-known-literal-4
+    put-byte-requires-3
+    put-expansion-requires-2
     same-length
     returns
     same-length-2
@@ -140,4 +192,8 @@ put-numeral-spec =
     same-length-4
     returns-4
     same-length-5
-    returns-5)
+    returns-5
+    same-length-6
+    returns-6
+    same-length-7
+    returns-7)

@@ -1,8 +1,8 @@
 -- `rules::operand::operand_from` meets its contract: tag by tag; the last arm is past every tag of the table. Assumes
 -- nothing.
 use Prim.Native.Nat.{zero-le}
-use Rattle.rules.proofs.StackLaws.{further}
 use mathlib.Core.Path.{sym}
+use Rattle.base.proofs.Cases.{past}
 use Rattle.rules.proofs.StackLaws.{operandFrom-last}
 use borrow.Author.Needs.{needs}
 use Rattle.rules.proofs.operand.operand_from.Statement.{statement}
@@ -60,12 +60,23 @@ returns-17 : tie.Need-returns-17
 returns-17 c = rw (c .match .keys17)
 
 returns-18 : tie.Need-returns-18
-returns-18 c =
+returns-18 c = rw (c .match .keys18)
+
+returns-19 : tie.Need-returns-19
+returns-19 c = rw (c .match .keys19)
+
+returns-20 : tie.Need-returns-20
+returns-20 c = rw (c .match .keys20)
+
+returns-21 : tie.Need-returns-21
+returns-21 c =
     let seen = c .match .rest in
     sym (operandFrom-last (c .before .args .tag) (c .before .args .value)
-    (further (further (further (further (further (further (further (further (further (further
-    (further (further (further (further (further (further
-    (further zero-le (seen .0 .0 .0 .0 .0 .0 .0 .0 .0 .0 .0 .0 .0 .0 .0 .0 .1))
+    (past (past (past (past (past (past (past (past (past (past (past (past (past (past (past
+    (past (past (past (past (past zero-le (seen .0 .0 .0 .0 .0 .0 .0 .0 .0 .0 .0 .0 .0 .0 .0 .0 .0 .0 .0 .1))
+    (seen .0 .0 .0 .0 .0 .0 .0 .0 .0 .0 .0 .0 .0 .0 .0 .0 .0 .0 .1))
+    (seen .0 .0 .0 .0 .0 .0 .0 .0 .0 .0 .0 .0 .0 .0 .0 .0 .0 .1))
+    (seen .0 .0 .0 .0 .0 .0 .0 .0 .0 .0 .0 .0 .0 .0 .0 .0 .1))
     (seen .0 .0 .0 .0 .0 .0 .0 .0 .0 .0 .0 .0 .0 .0 .0 .1)) (seen .0 .0 .0 .0 .0 .0 .0 .0 .0 .0 .0 .0 .0 .0 .1))
     (seen .0 .0 .0 .0 .0 .0 .0 .0 .0 .0 .0 .0 .0 .1)) (seen .0 .0 .0 .0 .0 .0 .0 .0 .0 .0 .0 .0 .1))
     (seen .0 .0 .0 .0 .0 .0 .0 .0 .0 .0 .0 .1)) (seen .0 .0 .0 .0 .0 .0 .0 .0 .0 .0 .1))
@@ -94,4 +105,7 @@ operand-from-spec =
     returns-15
     returns-16
     returns-17
-    returns-18)
+    returns-18
+    returns-19
+    returns-20
+    returns-21)

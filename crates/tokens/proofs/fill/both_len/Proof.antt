@@ -5,6 +5,7 @@ use mathlib.Core.Path.{ap}
 use lib.ListN.{length}
 use Rattle.base.proofs.SpliceLaws.{cut-length}
 use Rattle.records.specs.Answers.{literalOf}
+use Rattle.leaves.proofs.LengthLaws.{displayFill-short}
 use Rattle.tokens.proofs.FillLaws.{length-filledBytes, fillWord, leftWord, rightWord, both-one, both-each}
 use Rattle.tokens.proofs.fill.both_len.Statement.{statement}
 use Rattle.tokens.proofs.fill.both_len.Tie as tie
@@ -30,7 +31,17 @@ filled-len-requires-3 : tie.Need-filled-len-requires-3
 filled-len-requires-3 c κs = search needs
 
 add-result : tie.Need-add-result
-add-result c = search needs
+add-result c =
+    let at-start = c .before .before .before in
+    record {
+      fits = omega (
+        arith,
+        c .before .filled-len2 .ensures,
+        c .filled-len3 .ensures,
+        displayFill-short (literalOf (at-start .args .left)) (at-start .pre .0),
+        displayFill-short (literalOf (at-start .args .right)) (at-start .pre .1),
+      );
+    }
 
 returns-2 : tie.Need-returns-2
 returns-2 c =

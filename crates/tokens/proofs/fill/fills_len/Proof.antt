@@ -1,10 +1,12 @@
 -- `tokens::fill::fills_len` meets its contract: the marks of the values say which fills are there. Assumes nothing.
 use borrow.Author.Needs.{needs}
 use native.Mathlib.Omega.{arith}
-use mathlib.Core.Path.{ap}
+use mathlib.Core.Path.{ap, sym, subst}
 use lib.ListN.{length}
+use Rattle.records.specs.Float.{IsExact}
 use Rattle.records.specs.Answers.{fillOf}
-use Rattle.tokens.proofs.FillLaws.{length-filledBytes, fills-none, fills-right, fills-left, fills-both}
+use Rattle.tokens.proofs.FillLaws.{length-filledBytes, digits-exact, fills-none, fills-right, fills-left}
+use Rattle.tokens.proofs.FillLaws.{fills-both}
 use Rattle.tokens.proofs.fill.fills_len.Statement.{statement}
 use Rattle.tokens.proofs.fill.fills_len.Tie as tie
 
@@ -18,7 +20,12 @@ digits-of-requires-2 : tie.Need-digits-of-requires-2
 digits-of-requires-2 c κs = search needs
 
 both-len-requires : tie.Need-both-len-requires
-both-len-requires c κs = search needs
+both-len-requires c κs =
+    let at-start = c .before .before .before .before .before in (
+      subst IsExact (sym (c .before .digits-of .ensures))
+          (digits-exact (fillOf (at-start .args .lhs)) (at-start .pre .1)),
+      subst IsExact (sym (c .digits-of2 .ensures)) (digits-exact (fillOf (at-start .args .rhs)) (at-start .pre .2)),
+    )
 
 returns : tie.Need-returns
 returns c =
@@ -38,7 +45,12 @@ digits-of-requires-3 : tie.Need-digits-of-requires-3
 digits-of-requires-3 c κs = search needs
 
 filled-len-requires : tie.Need-filled-len-requires
-filled-len-requires c κs = search needs
+filled-len-requires c κs =
+    let at-start = c .before .before .before in (
+      omega arith,
+      subst IsExact (sym (c .digits-of3 .ensures))
+          (digits-exact (fillOf (at-start .args .lhs)) (at-start .pre .1)),
+    )
 
 returns-2 : tie.Need-returns-2
 returns-2 c =
@@ -55,7 +67,12 @@ digits-of-requires-4 : tie.Need-digits-of-requires-4
 digits-of-requires-4 c κs = search needs
 
 filled-len-requires-2 : tie.Need-filled-len-requires-2
-filled-len-requires-2 c κs = search needs
+filled-len-requires-2 c κs =
+    let at-start = c .before .before .before in (
+      omega arith,
+      subst IsExact (sym (c .digits-of4 .ensures))
+          (digits-exact (fillOf (at-start .args .rhs)) (at-start .pre .2)),
+    )
 
 returns-3 : tie.Need-returns-3
 returns-3 c =

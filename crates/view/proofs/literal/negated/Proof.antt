@@ -18,6 +18,12 @@ enum-told-2 c = search needs
 enum-told-3 : tie.Need-enum-told-3
 enum-told-3 c = search needs
 
+enum-known-l-3 : tie.Need-enum-known-l-3
+enum-known-l-3 c = search needs
+
+enum-known-l-4 : tie.Need-enum-known-l-4
+enum-known-l-4 c = search needs
+
 returns : tie.Need-returns
 returns c = rw (c .before .l .given .1)
 
@@ -33,6 +39,12 @@ returns-4 c = search needs
 returns-5 : tie.Need-returns-5
 returns-5 c = search needs
 
+returns-6 : tie.Need-returns-6
+returns-6 c = rw (c .before .l3 .given .1)
+
+returns-7 : tie.Need-returns-7
+returns-7 c = rw (c .before .l4 .given .1)
+
 pub negated-spec : {M : Type 1} → statement M
 negated-spec =
     tie.close
@@ -42,8 +54,12 @@ negated-spec =
     enum-told
     enum-told-2
     enum-told-3
+    enum-known-l-3
+    enum-known-l-4
     returns
     returns-2
     returns-3
     returns-4
-    returns-5)
+    returns-5
+    returns-6
+    returns-7)
