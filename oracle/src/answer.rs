@@ -1,7 +1,7 @@
 //! What document 01 answers to a page: outcome, label part of 19, copy, canonical text, split text.
 
 use crate::copy;
-use crate::page::read::{Reader, TextField};
+use crate::page::read::{NumberField, Reader, TextField};
 use crate::page::record::{Kind, Record};
 use crate::page::{write, MAX_PAGE_BYTES, MAX_RECORDS};
 use crate::tree::{self, Pattern, Stop};
@@ -61,6 +61,8 @@ pub struct Worked<'a> {
     pub records: Vec<Record<'a>>,
     /// The last text whose length was read: where a text is the reason of 1, 3 or 4, this one.
     pub text: Option<TextField>,
+    /// The last number of kind 0 or of a fill that was begun: where such a number is the reason of 1, this one.
+    pub literal: Option<NumberField>,
     /// The checked tree and the records of its copy, for an accepted page.
     pub checked: Option<(Expr, Vec<Record<'a>>)>,
 }
@@ -129,6 +131,7 @@ pub fn work(page: &[u8]) -> Result<Worked<'_>, Failure> {
         message,
         records: walk.records,
         text: walk.text,
+        literal: walk.literal,
         checked,
     })
 }
@@ -140,6 +143,7 @@ struct Walk<'a> {
     copied: Vec<Record<'a>>,
     accepted: usize,
     text: Option<TextField>,
+    literal: Option<NumberField>,
 }
 
 /// A refusal by document 01, about which the Rust has nothing to say.
@@ -162,6 +166,7 @@ impl<'a> Walk<'a> {
             }
             let read = reader.record();
             self.text = reader.text;
+            self.literal = reader.literal;
             self.records.push(read.map_err(refused)?);
             self.apply_last()?;
             self.accepted += 1;

@@ -3,7 +3,8 @@
 use crate::answer::{self, Answer, Domain, Failure, Outcome};
 use crate::generate::stream::{self, Sample};
 use crate::generate::{
-    bytes, counted_bytes, damaged, fault, good, ill_formed, long_texts, well_formed, Alphabet,
+    bytes, counted_bytes, damaged, fault, fractions, good, ill_formed, long_texts, well_formed,
+    Scope,
 };
 use crate::random::Random;
 use std::collections::HashSet;
@@ -25,10 +26,11 @@ fn pages() -> impl Iterator<Item = Vec<u8>> {
         .filter(move |page| seen.insert(page.clone()))
 }
 
-/// Pages of ASCII first, then pages with characters beyond it.
+/// Pages of ASCII first, then pages with characters beyond it, then pages with fractions too.
 fn generated(random: &mut Random) -> Vec<Vec<u8>> {
     let mut pages = ascii(random);
     pages.extend(beyond_ascii(random));
+    pages.extend(with_fractions(random));
     pages
 }
 
@@ -36,15 +38,15 @@ fn generated(random: &mut Random) -> Vec<Vec<u8>> {
 fn ascii(random: &mut Random) -> Vec<Vec<u8>> {
     let mut pages = Vec::new();
     for round in 0..25 {
-        pages.extend(whole(random, Alphabet::Ascii));
+        pages.extend(whole(random, Scope::Base));
         if round % 5 == 0 {
-            pages.push(good(random, Alphabet::Ascii, 250).0);
+            pages.push(good(random, Scope::Base, 250).0);
         }
     }
     let broken = broken(random, &pages);
     pages.extend(broken);
     pages.extend((0..100).map(|_| bytes(random)));
-    pages.extend((0..100).map(|_| long_texts::random(random, Alphabet::Ascii).page));
+    pages.extend((0..100).map(|_| long_texts::random(random, Scope::Base).page));
     pages
 }
 
@@ -52,11 +54,11 @@ fn ascii(random: &mut Random) -> Vec<Vec<u8>> {
 fn beyond_ascii(random: &mut Random) -> Vec<Vec<u8>> {
     let mut pages = Vec::new();
     for _ in 0..3 {
-        pages.extend(whole(random, Alphabet::Utf8));
+        pages.extend(whole(random, Scope::Utf8));
     }
     let broken = broken(random, &pages);
     pages.extend(broken);
-    pages.extend((0..60).map(|_| long_texts::random(random, Alphabet::Utf8).page));
+    pages.extend((0..60).map(|_| long_texts::random(random, Scope::Utf8).page));
     pages.extend((0..120).map(|_| ill_formed::random(random).page));
     pages.extend((0..30).map(|_| counted_bytes::random(random).page));
     let sums = (90..110).map(|bytes| counted_bytes::random_sum(random, bytes).page);
@@ -65,12 +67,24 @@ fn beyond_ascii(random: &mut Random) -> Vec<Vec<u8>> {
     pages
 }
 
+/// As many of these; and fractions by themselves, and what is none.
+fn with_fractions(random: &mut Random) -> Vec<Vec<u8>> {
+    let mut pages = Vec::new();
+    for _ in 0..3 {
+        pages.extend(whole(random, Scope::Fractions));
+    }
+    let broken = broken(random, &pages);
+    pages.extend(broken);
+    pages.extend((0..200).map(|_| fractions::random(random).page));
+    pages
+}
+
 /// Each refusal once, good pages of 1 to 10, 20 and 40 records.
-fn whole(random: &mut Random, alphabet: Alphabet) -> Vec<Vec<u8>> {
-    let planted = fault::numbers().map(|number| fault::planted(random, alphabet, number).page);
+fn whole(random: &mut Random, scope: Scope) -> Vec<Vec<u8>> {
+    let planted = fault::numbers().map(|number| fault::planted(random, scope, number).page);
     let mut pages: Vec<_> = planted.collect();
     let sizes = (0..40).map(|size| 1 + size % 10).chain([20, 40]);
-    pages.extend(sizes.map(|size| good(random, alphabet, size).0));
+    pages.extend(sizes.map(|size| good(random, scope, size).0));
     pages
 }
 

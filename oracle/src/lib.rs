@@ -6,10 +6,12 @@
 //! replay.
 
 pub mod answer;
+pub mod bad_fraction;
 pub mod chosen;
 pub mod copy;
 pub mod coverage;
 pub mod failing;
+pub mod fill_pair;
 pub mod generate;
 pub mod hex;
 pub mod ill_formed;

@@ -52,6 +52,10 @@ impl Shown {
         labels.iter().for_each(|label| self.text(label));
     }
 
+    fn fraction(&mut self, form: u64, fraction: Fraction) {
+        self.0.extend([form, fraction.digits(), fraction.places()]);
+    }
+
     fn literal(&mut self, literal: Number) {
         match literal {
             Number::Whole(magnitude) => self.0.extend([0, magnitude]),
@@ -59,6 +63,8 @@ impl Shown {
             Number::NaN => self.number(2u64),
             Number::Inf => self.number(3u64),
             Number::NegativeInf => self.number(4u64),
+            Number::Fraction(fraction) => self.fraction(5, fraction),
+            Number::NegativeFraction(fraction) => self.fraction(6, fraction),
         }
     }
 

@@ -1,7 +1,7 @@
 //! Generated pages have the outcome that they were made for.
 
 use oracle::answer::{self, Outcome};
-use oracle::generate::{self, fault, limits, long_texts, nesting, Alphabet, Made};
+use oracle::generate::{self, fault, limits, long_texts, nesting, Made, Scope};
 use oracle::hex;
 use oracle::page::record::Kind;
 use oracle::random::Random;
@@ -10,7 +10,7 @@ fn outcome(page: &[u8]) -> Outcome {
     answer::answer(page).expect("the Rust is foreseen").outcome
 }
 
-const ALPHABETS: [Alphabet; 2] = [Alphabet::Ascii, Alphabet::Utf8];
+const SCOPES: [Scope; 3] = [Scope::Base, Scope::Utf8, Scope::Fractions];
 
 fn assert_made(made: &Made) {
     let page = &made.page;
@@ -26,7 +26,7 @@ fn good_pages_pass() {
             1..=5 => 40,
             size => 1 + size % 12,
         };
-        let (page, kind) = generate::good(random, ALPHABETS[round % 2], size);
+        let (page, kind) = generate::good(random, SCOPES[round % 3], size);
         let answer = answer::answer(&page).expect("the Rust is foreseen");
         assert_eq!(
             answer.outcome,
@@ -43,7 +43,7 @@ fn planted_faults_are_found() {
     let random = &mut Random::new(2);
     for round in 0..600 {
         for number in fault::numbers() {
-            assert_made(&fault::planted(random, ALPHABETS[round % 2], number));
+            assert_made(&fault::planted(random, SCOPES[round % 3], number));
         }
     }
 }
@@ -58,7 +58,7 @@ fn limits_hold() {
 #[test]
 fn long_texts_are_refused_by_one_byte() {
     let random = &mut Random::new(4);
-    let made = (0..6000).map(|round| long_texts::random(random, ALPHABETS[round % 2]));
+    let made = (0..6000).map(|round| long_texts::random(random, SCOPES[round % 3]));
     for text in long_texts::fixed().chain(made) {
         assert_made(&text);
     }

@@ -2,7 +2,7 @@
 
 use oracle::answer;
 use oracle::coverage::Coverage;
-use oracle::generate::{counted_bytes, ill_formed, well_formed};
+use oracle::generate::{counted_bytes, fractions, ill_formed, well_formed, Made};
 use oracle::kept;
 use std::collections::HashSet;
 
@@ -25,14 +25,25 @@ fn the_list_reaches_every_class() {
     assert_eq!(coverage.missing(), Vec::<&str>::new());
 }
 
-/// Towns, whole and ill-formed, are on the list, and so among the pages that fuzzing starts from.
-#[test]
-fn the_list_has_the_towns() {
+/// So many pages at least are on the list, and so among those that fuzzing starts from.
+fn assert_kept(made: impl Iterator<Item = Made>, least: usize) {
     let entries = kept::entries().expect("the Rust is foreseen");
     let kept: HashSet<_> = entries.into_iter().map(|(page, _)| page).collect();
+    let pages: Vec<_> = made.map(|made| made.page).collect();
+    assert!(pages.len() > least && pages.iter().all(|page| kept.contains(page)));
+}
+
+/// Towns, whole and ill-formed.
+#[test]
+fn the_list_has_the_towns() {
     let made = well_formed::fixed()
         .chain(counted_bytes::fixed())
         .chain(ill_formed::fixed());
-    let pages: Vec<_> = made.map(|made| made.page).collect();
-    assert!(pages.len() > 500 && pages.iter().all(|page| kept.contains(page)));
+    assert_kept(made, 500);
+}
+
+/// Fractions, and what is none.
+#[test]
+fn the_list_has_the_fractions() {
+    assert_kept(fractions::fixed(), 1000);
 }

@@ -46,8 +46,13 @@ impl Ends<'_> {
     }
 
     fn literal(&mut self) {
-        if self.byte() < 2 {
-            self.number();
+        match self.byte() {
+            0 | 1 => self.number(),
+            2..=4 => {}
+            _ => {
+                self.number();
+                self.byte();
+            }
         }
     }
 
@@ -133,7 +138,7 @@ impl Ends<'_> {
 mod tests {
     use super::count;
     use oracle::answer;
-    use oracle::generate::everyday;
+    use oracle::generate::{everyday, good, Scope};
     use oracle::random::Random;
 
     /// The count is the oracle's own.
@@ -142,9 +147,11 @@ mod tests {
         let random = &mut Random::new(1);
         for records in [1, 5, 40, 250] {
             for _ in 0..50 {
-                let page = everyday(random, records);
-                let worked = answer::work(&page).expect("the Rust is foreseen");
-                assert_eq!(count(&page), worked.records.len());
+                let with_fractions = good(random, Scope::Fractions, records).0;
+                for page in [everyday(random, records), with_fractions] {
+                    let worked = answer::work(&page).expect("the Rust is foreseen");
+                    assert_eq!(count(&page), worked.records.len());
+                }
             }
         }
     }

@@ -2,8 +2,10 @@
 //! archive has the same counts in every run.
 
 use crate::callgrind::{self, Profile};
+use oracle::generate::fractions::fills;
 use oracle::generate::long_texts;
 use oracle::hex;
+use oracle::page::record::{Fraction, Number};
 use std::path::Path;
 
 /// Pages of so many records, a line each.
@@ -48,11 +50,46 @@ pub const SETS: [Set; 2] = [
     },
 ];
 
-/// The pages of a column: of so many records, or the one with so many values.
+/// All calls on a page of 120 fills, of which two and two differ in the last digit: whole numbers, and fractions of the
+/// same digits. No row of docs/SPEED.md is held to these.
+pub const FILLS: Set = Set {
+    calls: &["check", "copy", "canonical", "split"],
+    pages: &[
+        "whole, 1 digit",
+        "fractions, 1 digit",
+        "whole, 15 digits",
+        "fractions, 15 digits",
+    ],
+    tables: &[("Instructions, 120 fills", |profile| profile.instructions)],
+};
+
+/// The page of a column of `FILLS`.
+fn filled(name: &str) -> Option<Vec<u8>> {
+    let (form, digits) = name.split_once(", ")?;
+    let digits = match digits {
+        "1 digit" => [5, 7],
+        "15 digits" => [999_999_999_999_995, 999_999_999_999_997],
+        _ => return None,
+    };
+    let fills = match form {
+        "whole" => digits.map(Number::Whole),
+        "fractions" => {
+            let [left, right] = digits.map(|digits| Fraction::new(digits, 15));
+            [Number::Fraction(left?), Number::Fraction(right?)]
+        }
+        _ => return None,
+    };
+    Some(fills::repeated(fills, 60))
+}
+
+/// The pages of a column: of so many records, the one with so many values, or the one with such fills.
 pub fn pages(name: &str) -> Option<Vec<Vec<u8>>> {
     if let Some((count, length)) = name.split_once(" of ") {
         let page = long_texts::values(count.parse().ok()?, length.parse().ok()?);
         return Some(vec![page]);
+    }
+    if name.contains(", ") {
+        return Some(vec![filled(name)?]);
     }
     let (_, lines) = PAGES.iter().find(|(records, _)| *records == name)?;
     Some(lines.lines().map(hex::bytes).collect())

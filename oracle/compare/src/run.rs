@@ -8,6 +8,7 @@ use oracle::coverage::Coverage;
 use oracle::generate::{limits, stream};
 use oracle::hex;
 use oracle::random::Random;
+use std::iter;
 use std::ops::RangeInclusive;
 use std::sync::atomic::{AtomicBool, AtomicU64, Ordering};
 use std::thread;
@@ -28,10 +29,16 @@ impl Tally {
 
 /// The chosen pages, the limits, every byte string of at most two bytes, one page of 100,000 bytes.
 pub fn fixed(library: Library) -> Result<Tally, String> {
+    let overlong = iter::once(hex::bytes(limits::OVERLONG));
+    let samples = stream::fixed().chain(stream::short());
+    pages(library, overlong.chain(samples.map(|sample| sample.page)))
+}
+
+/// These pages, one after another.
+pub fn pages(library: Library, pages: impl Iterator<Item = Vec<u8>>) -> Result<Tally, String> {
     let mut worker = Worker::new(library, 0);
-    worker.compare(&hex::bytes(limits::OVERLONG))?;
-    for sample in stream::fixed().chain(stream::short()) {
-        worker.compare(&sample.page)?;
+    for page in pages {
+        worker.compare(&page)?;
     }
     Ok(worker.tally())
 }

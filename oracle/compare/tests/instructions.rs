@@ -163,3 +163,24 @@ fn pages_have_their_values() {
     }
     assert!(instructions::pages("7").is_none());
 }
+
+#[test]
+fn pages_have_their_fills() {
+    for name in instructions::FILLS.pages {
+        let pages = instructions::pages(name).expect("a page with these fills");
+        let [page] = pages.as_slice() else {
+            panic!("{name}: one page");
+        };
+        let worked = answer::work(page).expect("the Rust is foreseen");
+        assert!(matches!(worked.outcome, Outcome::Accepted(_)), "{name}");
+        let fills: Vec<_> = worked.records.iter().flat_map(Record::numbers).collect();
+        let fractions = fills.iter().filter(|(_, fill)| fill.fraction().is_some());
+        let expected = if name.starts_with("fractions") {
+            120
+        } else {
+            0
+        };
+        assert_eq!((fills.len(), fractions.count()), (120, expected), "{name}");
+    }
+    assert!(instructions::pages("whole, 2 digits").is_none());
+}

@@ -3,6 +3,7 @@
 
 mod bench;
 mod characters;
+mod fractions;
 mod long;
 mod printed;
 mod readings;
@@ -66,6 +67,7 @@ pub fn rows() -> impl Iterator<Item = &'static Row> {
         splitting::ROWS,
         long::ROWS,
         characters::ROWS,
+        fractions::ROWS,
     ]
     .into_iter()
     .flatten()

@@ -1,6 +1,6 @@
 //! The classes that a run must reach.
 
-use super::{characters, ill_formed, words};
+use super::{characters, fractions, ill_formed, words};
 
 /// The record kinds, by their number on the page.
 pub const RECORDS: [&str; 12] = [
@@ -16,6 +16,17 @@ pub const RECORDS: [&str; 12] = [
     "binary",
     "aggregate",
     "call",
+];
+
+/// The forms of a number, by their number on the page.
+const FORMS: [&str; 7] = [
+    "Whole",
+    "NegativeWhole",
+    "NaN",
+    "Inf",
+    "NegativeInf",
+    "Fraction",
+    "NegativeFraction",
 ];
 
 #[rustfmt::skip]
@@ -65,7 +76,7 @@ pub fn all() -> Vec<String> {
         classes.push(format!("declared kind {kind}"));
         classes.push(format!("result kind {kind}"));
     }
-    for form in ["Whole", "NegativeWhole", "NaN", "Inf", "NegativeInf"] {
+    for form in FORMS {
         classes.push(format!("number {form}"));
         classes.push(format!("fill {form}"));
     }
@@ -78,5 +89,6 @@ pub fn all() -> Vec<String> {
     classes.extend(words::classes());
     classes.extend(characters::classes());
     classes.extend(ill_formed::classes());
+    classes.extend(fractions::classes());
     classes
 }

@@ -1,8 +1,9 @@
 //! Which classes of document 01 a run of pages reached: refusals, kinds, the parts of records, the rules of both texts;
-//! and of document 02 texts by words (No. 4), characters beyond ASCII and ill-formed texts (No. 10).
+//! and of document 02 texts by words (No. 4), fractions (No. 5), characters beyond ASCII and ill-formed texts (No. 10).
 
 mod characters;
 mod classes;
+mod fractions;
 mod ill_formed;
 mod records;
 mod split;
@@ -53,6 +54,7 @@ impl Coverage {
         self.words(worked);
         self.characters(worked);
         self.unread_text(worked);
+        self.fractions(worked, answer);
         match worked.outcome {
             Outcome::Refused { number, .. } => self.hit(format!("refusal {number:02}")),
             Outcome::Accepted(kind) => {

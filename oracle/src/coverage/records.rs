@@ -115,5 +115,7 @@ fn form(number: Number) -> &'static str {
         Number::NaN => "NaN",
         Number::Inf => "Inf",
         Number::NegativeInf => "NegativeInf",
+        Number::Fraction(_) => "Fraction",
+        Number::NegativeFraction(_) => "NegativeFraction",
     }
 }

@@ -1,15 +1,8 @@
 //! Characters of texts beyond ASCII (document 02, No. 10): towns, the edges of every row of RFC 3629's grammar, white
 //! and unprintable characters, any others.
 
-use super::Generator;
+use super::{Generator, Scope};
 use crate::page::record::Text;
-
-/// What texts that are no names are made of.
-#[derive(Debug, Clone, Copy, PartialEq, Eq)]
-pub enum Alphabet {
-    Ascii,
-    Utf8,
-}
 
 pub const TOWNS: [&str; 4] = ["Zürich", "Orléans", "北京", "😀"];
 
@@ -93,9 +86,9 @@ impl Generator<'_> {
         text
     }
 
-    /// A town, a label of the list or any characters; in the alphabet of ASCII nothing, and no number is drawn.
+    /// A town, a label of the list or any characters; in the scope of document 01 nothing, and no number is drawn.
     pub(super) fn beyond_ascii(&mut self, listed: &[&'static str]) -> Option<Text<'static>> {
-        if self.alphabet == Alphabet::Ascii {
+        if self.scope == Scope::Base {
             return None;
         }
         match self.random.below(6) {

@@ -187,6 +187,7 @@ impl Generator<'_> {
         match self.random.below(3) {
             0 => Number::Whole(0),
             1 => Number::NegativeWhole(0),
+            _ if self.draws_fraction() => Number::NegativeFraction(self.fraction()),
             _ => Number::NegativeWhole(self.magnitude()),
         }
     }

@@ -1,10 +1,10 @@
 //! Bytes are counted, not characters (document 02, No. 10): texts of as many bytes as they may have and of more,
 //! whole, cut short and ill-formed; and expressions of 100 and 101 bytes in fewer characters.
 
-use super::alphabet::{Alphabet, LONGER};
+use super::alphabet::LONGER;
 use super::carriers::Page;
 use super::well_formed::taken;
-use super::{Generator, Made};
+use super::{Generator, Made, Scope};
 use crate::answer::Outcome;
 use crate::page::record::{Grouping, Kind, Record, Text};
 use crate::page::text_kind::TextKind;
@@ -62,7 +62,7 @@ pub fn fixed() -> impl Iterator<Item = Made> {
 pub fn random(random: &mut Random) -> Made {
     let kind = *random.pick(&TextKind::ALL);
     let limit = kind.limit() as usize;
-    let mut generator = Generator::new(random, 255, Alphabet::Utf8);
+    let mut generator = Generator::new(random, 255, Scope::Utf8);
     let character = *generator.random.pick(&LONGER);
     let before = generator.characters(limit - character.len_utf8());
     let whole = before + &character.to_string();

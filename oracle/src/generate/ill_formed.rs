@@ -1,9 +1,9 @@
 //! Ill-formed texts (document 02, No. 10): every fault in every kind of text, with bytes of the text after it and
 //! without, and with the bytes after the text that would complete it. Names too.
 
-use super::alphabet::{Alphabet, LONGER, TOWNS};
+use super::alphabet::{LONGER, TOWNS};
 use super::carriers::Page;
-use super::{Generator, Made};
+use super::{Generator, Made, Scope};
 use crate::ill_formed::IllFormed;
 use crate::page::text_kind::TextKind;
 use crate::random::Random;
@@ -136,7 +136,7 @@ pub fn random(random: &mut Random) -> Made {
     let fault = *random.pick(&IllFormed::ALL);
     let is_followed = *random.pick(fault.may_be_followed());
     let kind = *random.pick(&TextKind::ALL);
-    let mut generator = Generator::new(random, 8, Alphabet::Utf8);
+    let mut generator = Generator::new(random, 8, Scope::Utf8);
     let (before, mut after) = generator.around(kind);
     if is_followed && after.is_empty() {
         after.push('v');

@@ -2,7 +2,7 @@
 //! character at any place (No. 10), or with one byte at any place that makes the text ill-formed.
 
 use super::alphabet::LONGER;
-use super::{Alphabet, Generator, Made, Records};
+use super::{Generator, Made, Records, Scope};
 use crate::answer::Outcome;
 use crate::page::read::Reader;
 use crate::page::record::{Grouping, Kind, Matcher, Operation, Record, Text};
@@ -93,8 +93,8 @@ pub fn fixed() -> impl Iterator<Item = Made> {
 
 /// A string, a selector with matchers or an aggregate with labels. In half of them a byte of one text has its highest
 /// bit turned, which makes every well-formed text ill-formed.
-pub fn random(random: &mut Random, alphabet: Alphabet) -> Made {
-    let mut generator = Generator::new(random, 255, alphabet);
+pub fn random(random: &mut Random, scope: Scope) -> Made {
+    let mut generator = Generator::new(random, 255, scope);
     let (records, kind) = generator.with_long_texts();
     let mut page = write::page(&records);
     let mut expected = Outcome::Accepted(kind);
@@ -147,7 +147,7 @@ impl Generator<'_> {
             _ => self.random.between(0, 255),
         };
         let length = length.min(most);
-        if self.alphabet == Alphabet::Utf8 {
+        if self.scope >= Scope::Utf8 {
             return Text::from(self.characters(length).as_str());
         }
         let text: String = (0..length)

@@ -1,5 +1,5 @@
 //! Pages from a seed: good ones, planted faults, damaged copies, sizes at the limits, long texts, characters beyond
-//! ASCII and ill-formed ones, deep nesting, short and random bytes.
+//! ASCII and ill-formed ones, fractions and what is none, deep nesting, short and random bytes.
 
 pub mod alphabet;
 mod call;
@@ -9,18 +9,20 @@ pub mod counted_bytes;
 mod damage;
 mod expression;
 pub mod fault;
+pub mod fractions;
 mod holders;
 pub mod ill_formed;
 pub mod limits;
 pub mod long_texts;
 pub mod nesting;
 mod parts;
+mod scope;
 pub mod stream;
 mod texts;
 pub mod well_formed;
 
-pub use alphabet::Alphabet;
 pub use damage::damaged;
+pub use scope::Scope;
 
 use crate::answer::Outcome;
 use crate::page::record::{Kind, Record};
@@ -43,23 +45,23 @@ impl Made {
 pub struct Generator<'r> {
     pub random: &'r mut Random,
     pub room: usize,
-    pub alphabet: Alphabet,
+    pub scope: Scope,
 }
 
 pub type Records = Vec<Record<'static>>;
 
 impl<'r> Generator<'r> {
-    pub fn new(random: &'r mut Random, room: usize, alphabet: Alphabet) -> Self {
+    pub fn new(random: &'r mut Random, room: usize, scope: Scope) -> Self {
         Self {
             random,
             room,
-            alphabet,
+            scope,
         }
     }
 }
 
 /// A good page of exactly this many records, with the kind that it has.
-pub fn good(random: &mut Random, alphabet: Alphabet, records: usize) -> (Vec<u8>, Kind) {
+pub fn good(random: &mut Random, scope: Scope, records: usize) -> (Vec<u8>, Kind) {
     let kind = *random.pick(&[
         Kind::Vector,
         Kind::Vector,
@@ -75,7 +77,7 @@ pub fn good(random: &mut Random, alphabet: Alphabet, records: usize) -> (Vec<u8>
             0..=40 if random.chance(30) => 40,
             _ => 8,
         };
-        let made = Generator::new(random, room, alphabet).expression(kind, records);
+        let made = Generator::new(random, room, scope).expression(kind, records);
         let page = write::page(&made);
         if page.len() <= MAX_PAGE_BYTES {
             return (page, kind);
@@ -86,7 +88,7 @@ pub fn good(random: &mut Random, alphabet: Alphabet, records: usize) -> (Vec<u8>
 /// A page of the size that benchmarks use: a vector of this many records with texts of everyday length.
 pub fn everyday(random: &mut Random, records: usize) -> Vec<u8> {
     loop {
-        let made = Generator::new(random, 12, Alphabet::Ascii).expression(Kind::Vector, records);
+        let made = Generator::new(random, 12, Scope::Base).expression(Kind::Vector, records);
         let page = write::page(&made);
         if page.len() <= MAX_PAGE_BYTES {
             return page;

@@ -1,5 +1,6 @@
 //! Parts of records: literals, times, selectors, modifiers, groupings.
 
+use super::fractions::fills::Fills;
 use super::{alphabet, Generator};
 use crate::page::code::{is_comparison, is_set_operator};
 use crate::page::record::*;
@@ -38,6 +39,9 @@ impl Generator<'_> {
     }
 
     pub fn literal(&mut self) -> Number {
+        if self.draws_fraction() {
+            return self.signed_fraction();
+        }
         match self.random.below(8) {
             0 => Number::NaN,
             1 => Number::Inf,
@@ -132,7 +136,10 @@ impl Generator<'_> {
         (0..count).map(|_| self.label()).collect()
     }
 
-    fn fills(&mut self) -> (Option<Number>, Option<Number>) {
+    fn fills(&mut self) -> Fills {
+        if self.draws_fraction() {
+            return self.fraction_fills();
+        }
         match self.random.below(10) {
             0 => (Some(self.literal()), None),
             1 => (None, Some(self.literal())),

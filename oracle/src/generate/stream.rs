@@ -1,9 +1,9 @@
 //! All pages of a run: the fixed ones, then as many rounds as asked for.
 
 use super::{
-    bytes, codes, counted_bytes, damaged, fault, good, ill_formed, limits, long_texts, nesting,
+    bytes, codes, counted_bytes, damaged, fault, fractions, good, ill_formed, limits, long_texts,
 };
-use super::{shortest, well_formed, Alphabet, Made};
+use super::{nesting, shortest, well_formed, Made, Scope};
 use crate::answer::Outcome;
 use crate::chosen;
 use crate::random::Random;
@@ -36,7 +36,8 @@ impl From<Made> for Sample {
     }
 }
 
-/// Chosen pages, the limits, every code and every kind of operand, deep nesting, long values, characters beyond ASCII.
+/// Chosen pages, the limits, every code and every kind of operand, deep nesting, long values, characters beyond ASCII,
+/// fractions.
 pub fn fixed() -> impl Iterator<Item = Sample> {
     let rows = chosen::rows().chain(chosen::outside());
     let chosen = rows.map(|row| Sample::any(row.bytes()));
@@ -51,7 +52,9 @@ pub fn fixed() -> impl Iterator<Item = Sample> {
         .chain(counted_bytes::fixed())
         .chain(ill_formed::fixed())
         .map(Sample::from);
-    chosen.chain(limits).chain(swept).chain(nested).chain(texts)
+    let fractions = fractions::fixed().map(Sample::from);
+    let pages = chosen.chain(limits).chain(swept).chain(nested);
+    pages.chain(texts).chain(fractions)
 }
 
 /// Every byte string of at most two bytes.
@@ -62,30 +65,36 @@ pub fn short() -> impl Iterator<Item = Sample> {
 /// Pages with long texts in a round.
 const LONG_TEXTS: usize = 14;
 
-/// One round: pages of ASCII, then pages with characters beyond it.
+/// One round: pages of ASCII, then pages with characters beyond it, then pages with fractions too.
 pub fn round(random: &mut Random) -> Vec<Sample> {
     let mut samples = ascii(random);
     samples.extend(beyond_ascii(random));
+    samples.extend(with_fractions(random));
     samples
 }
 
 /// Each planted fault, good pages of several sizes, damaged copies of all of them, random bytes, long texts.
 fn ascii(random: &mut Random) -> Vec<Sample> {
     let numbers: Vec<u8> = fault::numbers().collect();
-    let mut samples = whole_and_damaged(random, Alphabet::Ascii, &numbers, 40);
+    let mut samples = whole_and_damaged(random, Scope::Base, &numbers, 40);
     samples.extend((0..20).map(|_| Sample::any(bytes(random))));
-    let long = (0..LONG_TEXTS).map(|_| long_texts::random(random, Alphabet::Ascii));
+    let long = (0..LONG_TEXTS).map(|_| long_texts::random(random, Scope::Base));
     samples.extend(long.map(Sample::from));
     samples
+}
+
+/// Eight of the faults.
+fn some_numbers(random: &mut Random) -> [u8; 8] {
+    let numbers: Vec<u8> = fault::numbers().collect();
+    [0; 8].map(|_| *random.pick(&numbers))
 }
 
 /// Some planted faults, good pages, damaged copies of these, long texts; ill-formed texts, texts at their limits, names
 /// that are none.
 fn beyond_ascii(random: &mut Random) -> Vec<Sample> {
-    let numbers: Vec<u8> = fault::numbers().collect();
-    let numbers = [0; 8].map(|_| *random.pick(&numbers));
-    let mut samples = whole_and_damaged(random, Alphabet::Utf8, &numbers, 16);
-    let long = (0..LONG_TEXTS).map(|_| long_texts::random(random, Alphabet::Utf8));
+    let numbers = some_numbers(random);
+    let mut samples = whole_and_damaged(random, Scope::Utf8, &numbers, 16);
+    let long = (0..LONG_TEXTS).map(|_| long_texts::random(random, Scope::Utf8));
     samples.extend(long.map(Sample::from));
     samples.extend((0..22).map(|_| Sample::from(ill_formed::random(random))));
     samples.extend((0..5).map(|_| Sample::from(counted_bytes::random(random))));
@@ -95,20 +104,28 @@ fn beyond_ascii(random: &mut Random) -> Vec<Sample> {
     samples
 }
 
+/// Some planted faults, good pages, damaged copies of these; fractions by themselves, and what is none.
+fn with_fractions(random: &mut Random) -> Vec<Sample> {
+    let numbers = some_numbers(random);
+    let mut samples = whole_and_damaged(random, Scope::Fractions, &numbers, 16);
+    samples.extend((0..62).map(|_| Sample::from(fractions::random(random))));
+    samples
+}
+
 /// A page for each of these faults, so many good pages, and a damaged copy of each.
 fn whole_and_damaged(
     random: &mut Random,
-    alphabet: Alphabet,
+    scope: Scope,
     numbers: &[u8],
     good_pages: usize,
 ) -> Vec<Sample> {
     let planted = numbers
         .iter()
-        .map(|number| fault::planted(random, alphabet, *number));
+        .map(|number| fault::planted(random, scope, *number));
     let mut samples: Vec<Sample> = planted.map(Sample::from).collect();
     for _ in 0..good_pages {
         let size = size(random);
-        let (page, kind) = good(random, alphabet, size);
+        let (page, kind) = good(random, scope, size);
         samples.push(Sample::made_for(page, Outcome::Accepted(kind)));
     }
     let damaged: Vec<Sample> = samples

@@ -1,7 +1,6 @@
 //! Names, labels, values and patterns.
 
-use super::alphabet::{self, Alphabet};
-use super::Generator;
+use super::{alphabet, Generator, Scope};
 use crate::page::record::{Operation, Text};
 use crate::tree;
 
@@ -129,7 +128,7 @@ impl Generator<'_> {
 
     /// A piece of a pattern.
     fn piece(&mut self) -> &'static str {
-        let is_longer = self.alphabet == Alphabet::Utf8 && self.random.chance(60);
+        let is_longer = self.scope >= Scope::Utf8 && self.random.chance(60);
         *self.random.pick(match is_longer {
             true => alphabet::PATTERNS,
             false => PATTERNS,

@@ -1,9 +1,9 @@
 //! Texts of well-formed UTF-8 (document 02, No. 10) in every kind of text: towns, characters at the edges of the
 //! grammar's rows. In names they are refused.
 
-use super::alphabet::{Alphabet, EDGES, TOWNS};
+use super::alphabet::{EDGES, TOWNS};
 use super::carriers::{self, Page};
-use super::{Generator, Made};
+use super::{Generator, Made, Scope};
 use crate::page::text_kind::TextKind;
 use crate::random::Random;
 
@@ -42,7 +42,7 @@ pub fn fixed() -> impl Iterator<Item = Made> {
 /// A name of letters that has longer characters, and so is none.
 pub fn random_name(random: &mut Random) -> Made {
     let kind = *random.pick(&[TextKind::MetricName, TextKind::FunctionName]);
-    let mut generator = Generator::new(random, 8, Alphabet::Utf8);
+    let mut generator = Generator::new(random, 8, Scope::Utf8);
     let [before, after] = [0; 2].map(|_| "v".repeat(generator.random.below(12)));
     let longer = *generator.random.pick(&[
         "é",

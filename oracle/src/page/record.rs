@@ -1,5 +1,7 @@
 //! The twelve records of document 01, 'The page', with the texts lying on the page or owned.
 
+pub use super::number::{Fraction, Holder, Number};
+
 use std::borrow::Cow;
 
 /// A text and where its first byte lies on the page.
@@ -31,43 +33,6 @@ impl Kind {
 
     pub fn number(self) -> u64 {
         self as u64
-    }
-}
-
-#[derive(Debug, Clone, Copy, PartialEq, Eq)]
-pub enum Number {
-    Whole(u64),
-    NegativeWhole(u64),
-    NaN,
-    Inf,
-    NegativeInf,
-}
-
-impl Number {
-    /// A whole literal becomes the 64-bit float of exactly that value; negative 0 is minus zero.
-    pub fn value(self) -> f64 {
-        match self {
-            Number::Whole(magnitude) => magnitude as f64,
-            Number::NegativeWhole(magnitude) => -(magnitude as f64),
-            Number::NaN => f64::NAN,
-            Number::Inf => f64::INFINITY,
-            Number::NegativeInf => f64::NEG_INFINITY,
-        }
-    }
-
-    /// The form whose value is this one, for values that some form has.
-    pub fn of_value(value: f64) -> Self {
-        if value.is_nan() {
-            Number::NaN
-        } else if value == f64::INFINITY {
-            Number::Inf
-        } else if value == f64::NEG_INFINITY {
-            Number::NegativeInf
-        } else if value.is_sign_negative() {
-            Number::NegativeWhole(-value as u64)
-        } else {
-            Number::Whole(value as u64)
-        }
     }
 }
 

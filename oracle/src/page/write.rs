@@ -1,4 +1,4 @@
-//! Writing of records onto a page: the shortest form of every number, the fields in the order of document 01.
+//! Writing of records onto a page: the shortest form of every number, the fields in the order of documents 01 and 02.
 
 use super::record::*;
 
@@ -26,6 +26,12 @@ fn labels(page: &mut Vec<u8>, labels: &[Text]) {
     list(page, labels, |page, label| text(page, &label.text));
 }
 
+fn fraction(page: &mut Vec<u8>, form: u64, fraction: Fraction) {
+    number(page, form);
+    number(page, fraction.digits());
+    number(page, fraction.places());
+}
+
 fn literal(page: &mut Vec<u8>, literal: Number) {
     match literal {
         Number::Whole(magnitude) => {
@@ -39,6 +45,8 @@ fn literal(page: &mut Vec<u8>, literal: Number) {
         Number::NaN => number(page, 2),
         Number::Inf => number(page, 3),
         Number::NegativeInf => number(page, 4),
+        Number::Fraction(value) => fraction(page, 5, value),
+        Number::NegativeFraction(value) => fraction(page, 6, value),
     }
 }
 

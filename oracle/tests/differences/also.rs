@@ -18,6 +18,7 @@ const ALSO: &[(&str, &str, &str)] = &[
     ("7b", "000000 0b046c6f67320100000001", "prints `log2(0)`"),
     ("7b", "000000 0b056c6f6731300100000001", "prints `log10(0)`"),
     ("7b", "000101 0b026c6e0100000001", "prints `ln(-1)`"),
+    ("7b", "00060501 0b026c6e0100000001", "prints `ln(-0.5)`"),
     ("A2", "0202757000 0502 #5000; 03 #300000;", "refused 8 at 2"),
     ("A9", "0202757000 060100 03 #300000;", "refused 7 at 2"),
     ("A10", "0202757000 03 #9208512000000;", "prints `up[292y]`"),
@@ -53,6 +54,8 @@ const ALSO: &[(&str, &str, &str)] = &[
     ("C1", "0002", "prints `NaN`"),
     ("C1", "000100", "prints `-0`"),
     ("C2", "0000 #999999;", "prints `999999`"),
+    ("C4", "00050104", "prints `0.0001`"),
+    ("C4", "00055f02", "prints `0.95`"),
     ("C6", "0102 0b7f", "prints `\"\u{b}\u{7f}\"`"),
     ("C7", "0102 c3a9", "prints `\"é\"`"),
 ];
@@ -75,9 +78,10 @@ fn further_queries_have_the_answers_told() {
     }
 }
 
-/// What the document says of queries that have no page: the number of `1h`, and a metric name with a space.
+/// What the document says of queries that have no page: the number of `1h`, a metric name with a space, and 1e-16.
 #[test]
 fn what_has_no_page_is_told() {
     assert!(is_told(&hex::bytes("0000 #3600;"), "prints `3600`"));
     assert!(is_told(&hex::bytes("0203 612062 00"), "refused 4 at 0"));
+    assert!(is_told(&hex::bytes("0005 0110"), "refused 1 at 0"));
 }

@@ -9,6 +9,7 @@ use oracle::page::record::{Operation, Record};
 use oracle::{hex, tree};
 use promql_parser::label::Matcher;
 use promql_parser::parser::token::T_EQL_REGEX;
+use promql_parser::parser::Expr;
 use std::collections::HashSet;
 
 /// A text of the document, in which `<01>` stands for the byte 1, and `<c2ad>` for the character of these bytes.
@@ -68,6 +69,22 @@ fn rows_beyond_ascii_are_there() {
     };
     let counts = ["A11", "A12", "C7", "C12"].map(beyond);
     assert_eq!(counts, [1, 1, 3, 1]);
+}
+
+/// The rows that need a fraction have one.
+#[test]
+fn rows_with_fractions_are_there() {
+    let rows = rows();
+    let has_fraction = |page: &[u8]| {
+        let records = worked(page).records;
+        let mut numbers = records.iter().flat_map(Record::numbers);
+        numbers.any(|(_, number)| number.fraction().is_some())
+    };
+    let with_fraction = |number: &str| {
+        let of_number = rows.iter().filter(|row| row.number == number);
+        of_number.filter(|row| has_fraction(&row.page)).count()
+    };
+    assert_eq!(["9", "A3", "C4"].map(with_fraction), [1, 1, 2]);
 }
 
 #[test]
@@ -144,6 +161,24 @@ fn row_4c_the_rust_takes_the_braces_as_text() {
     let row = row("4c");
     assert_eq!(worked(&row.page).domain, Domain::Inside);
     assert!(is_told(&row.page, row.rust));
+}
+
+/// What a float is, to its last digit.
+fn exactly(value: f64) -> String {
+    let digits = format!("{value:.1100}");
+    digits.trim_end_matches('0').to_string()
+}
+
+#[test]
+fn row_9_the_rust_holds_the_nearest_float() {
+    let row = row("9");
+    let worked = worked(&row.page);
+    let Some((Expr::NumberLiteral(held), _)) = &worked.checked else {
+        panic!("a number");
+    };
+    let told = format!("holds `{}`, prints `{held}`", exactly(held.val));
+    assert_eq!(row.rust, told);
+    assert_eq!(row.port, format!("prints `{held}`"));
 }
 
 #[test]

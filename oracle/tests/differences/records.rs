@@ -1,5 +1,6 @@
-//! Every record of at most so many bytes, as bytes. Codes, forms, counts, kinds and flags have all their values; a text is one
-//! of a given list, an upper extra 1, 2 or 16, another number 0, 1, 2 or the first one of its length.
+//! Every record of at most so many bytes, as bytes. Codes, forms, counts, kinds and flags have all their values; a text
+//! is one of a given list, an upper extra 1, 2 or 16, places are 1 or 2, another number 0, 1, 2 or the first one of its
+//! length.
 
 pub type Strings = Vec<Vec<u8>>;
 
@@ -60,8 +61,10 @@ impl Records {
     }
 
     fn literals(&self) -> Strings {
-        let whole = self.sequence(&[&any(0..=1), &self.numbers()]);
-        either([whole, any(2..=4)])
+        let numbers = &self.numbers();
+        let whole = self.sequence(&[&any(0..=1), numbers]);
+        let fractions = self.sequence(&[&any(5..=6), numbers, &any(1..=2)]);
+        either([whole, any(2..=4), fractions])
     }
 
     fn optional(&self, value: &Strings) -> Strings {

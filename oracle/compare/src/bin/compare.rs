@@ -5,7 +5,9 @@
 //!     compare seeds FIRST LAST THREADS STATE
 //!                                         the same with progress, resumed from the file STATE if the run was stopped
 //!     compare texts                       all short texts through `check`: strings of up to three bytes, others of two
+//!     compare fractions [COUNT]           many fractions through canonical text, so many of them random ones
 
+use compare::fractions::{self, Sizes};
 use compare::library::Library;
 use compare::resume::Run;
 use compare::run::{self, Tally};
@@ -13,7 +15,8 @@ use compare::short_texts;
 use std::path::Path;
 use std::process::ExitCode;
 
-const USAGE: &str = "usage: compare fixed | seeds FIRST LAST THREADS [STATE] | texts";
+const USAGE: &str =
+    "usage: compare fixed | seeds FIRST LAST THREADS [STATE] | texts | fractions [COUNT]";
 
 /// Seeds between two states: some ten seconds.
 const BLOCK: u64 = 1000;
@@ -29,6 +32,8 @@ fn main() -> ExitCode {
             seeds(library, first, last, threads, Some(Path::new(state))).map(report)
         }
         ["texts"] => short_texts::compare(library).map(report_texts),
+        ["fractions"] => fractions::compare(library, Sizes::USUAL).map(report_fractions),
+        ["fractions", count] => many_fractions(library, count).map(report_fractions),
         _ => Err(USAGE.into()),
     };
     match result {
@@ -76,5 +81,21 @@ fn report_texts(tally: short_texts::Tally) {
     println!(
         "{} strings, {} labels, matchers and names: no difference",
         tally.strings, tally.others
+    );
+}
+
+fn many_fractions(library: Library, count: &str) -> Result<fractions::Tally, String> {
+    let random = count.parse().map_err(|_| USAGE)?;
+    let sizes = Sizes {
+        random,
+        ..Sizes::USUAL
+    };
+    fractions::compare(library, sizes)
+}
+
+fn report_fractions(tally: fractions::Tally) {
+    println!(
+        "{} fractions in order, {} at random, {} pairs of fills: no difference",
+        tally.listed, tally.random, tally.pairs
     );
 }

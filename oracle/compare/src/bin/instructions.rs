@@ -1,8 +1,9 @@
 //! Counts the instructions of the library's calls with valgrind.
 //!
 //!     instructions               prints the tables, and fails where a figure is more than 1 % above docs/SPEED.md
+//!     instructions fills         prints a table of pages with 120 fills, whole numbers and fractions
 //!     instructions CALL PAGES    what valgrind runs: the call on each page of so many records, or on one with so many
-//!                                values (`5`, `16 of 255`), once
+//!                                values or with such fills (`5`, `16 of 255`, `whole, 1 digit`), once
 
 use compare::instructions;
 use compare::library::Library;
@@ -11,7 +12,7 @@ use std::process::ExitCode;
 use std::{env, fs};
 
 const DOCUMENT: &str = concat!(env!("CARGO_MANIFEST_DIR"), "/../../docs/SPEED.md");
-const USAGE: &str = "usage: instructions [CALL PAGES]";
+const USAGE: &str = "usage: instructions [fills | CALL PAGES]";
 
 /// Room for every text of the pages.
 const BUFFER_BYTES: usize = 1 << 16;
@@ -44,6 +45,7 @@ fn main() -> ExitCode {
     let words: Vec<&str> = arguments.iter().map(String::as_str).collect();
     let result = match words.as_slice() {
         [] => compare(),
+        ["fills"] => print_fills(),
         [call, pages] => run(call, pages),
         _ => Err(USAGE.into()),
     };
@@ -69,6 +71,13 @@ fn compare() -> Result<(), String> {
         return Err(excesses.join("\n"));
     }
     println!("no figure is more than 1 % above docs/SPEED.md");
+    Ok(())
+}
+
+fn print_fills() -> Result<(), String> {
+    let program = env::current_exe().map_err(|error| error.to_string())?;
+    let columns = instructions::count(&instructions::FILLS, &program)?;
+    print!("{}", instructions::tables(&instructions::FILLS, &columns));
     Ok(())
 }
 

@@ -1,5 +1,6 @@
 //! The comparison itself, with stand-ins for the library.
 
+mod fractions;
 mod planted;
 mod resume;
 mod standin;

@@ -1,8 +1,9 @@
 //! The comparison passes a library that answers by the oracle, and finds every planted fault.
 
-use crate::standin::{self, straying, texts};
+use crate::standin::{self, fraction_texts, fractions, straying, texts};
 use compare::library::Library;
 use compare::run;
+use oracle::generate;
 use std::env;
 use std::process::{Command, Output};
 
@@ -20,13 +21,34 @@ fn the_oracle_agrees_with_itself() {
     assert!(tally.calls > 10 * tally.coverage.pages);
 }
 
+/// The difference names what was blamed, and the page.
+fn assert_found(words: &str, blamed: &str, compared: Result<run::Tally, String>) {
+    let found = compared.err();
+    let difference = found.unwrap_or_else(|| panic!("not found: {words}"));
+    assert!(difference.contains(blamed), "{words}: {difference}");
+    assert!(difference.contains("\npage: "), "{words}: {difference}");
+}
+
 #[test]
 fn planted_faults_are_found() {
     for (words, blamed, library) in standin::faulty().into_iter().chain(texts::faulty()) {
-        let found = compared(library).err();
-        let difference = found.unwrap_or_else(|| panic!("not found: {words}"));
-        assert!(difference.contains(blamed), "{words}: {difference}");
-        assert!(difference.contains("\npage: "), "{words}: {difference}");
+        assert_found(words, blamed, compared(library));
+    }
+}
+
+/// Wrong fractions are found by the fixed pages with fractions alone.
+#[test]
+fn planted_fractions_are_found() {
+    let compared = |library| {
+        let pages = generate::fractions::fixed().map(|made| made.page);
+        run::pages(library, pages)
+    };
+    compared(standin::whole()).expect("no difference");
+    for (words, blamed, library) in fractions::faulty() {
+        assert_found(&words, blamed, compared(library));
+    }
+    for (words, library) in fraction_texts::faulty() {
+        assert_found(words, "canonical,", compared(library));
     }
 }
 

@@ -101,12 +101,20 @@ impl Generator<'_> {
         )
     }
 
+    fn positive(&mut self) -> Number {
+        if self.draws_fraction() {
+            return Number::Fraction(self.fraction());
+        }
+        Number::Whole(self.magnitude().max(1))
+    }
+
     fn unexcused_literal(&mut self) -> (Records, Record<'static>) {
         let (name, before) = match self.random.below(4) {
+            0 if self.draws_fraction() => ("exp", vec![Record::Number(self.signed_fraction())]),
             0 => ("exp", vec![Record::Number(Number::Whole(self.magnitude()))]),
             1 => (
                 *self.random.pick(&["ln", "log2", "log10"]),
-                vec![Record::Number(Number::Whole(self.magnitude().max(1)))],
+                vec![Record::Number(self.positive())],
             ),
             2 => (
                 *self.random.pick(&["exp", "ln", "log2", "log10"]),

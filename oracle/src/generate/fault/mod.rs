@@ -7,7 +7,7 @@ mod call;
 mod checks;
 mod fields;
 
-use super::{Alphabet, Generator, Made, Records};
+use super::{Generator, Made, Records, Scope};
 use crate::answer::Outcome;
 use crate::page::record::Kind;
 use crate::page::write;
@@ -27,8 +27,8 @@ struct Fault {
 }
 
 /// A page that is refused with this number, at an index that varies.
-pub fn planted(random: &mut Random, alphabet: Alphabet, number: u8) -> Made {
-    let mut generator = Generator::new(random, 8, alphabet);
+pub fn planted(random: &mut Random, scope: Scope, number: u8) -> Made {
+    let mut generator = Generator::new(random, 8, scope);
     if number == 2 {
         return operands_missing(&mut generator);
     }

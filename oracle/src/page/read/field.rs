@@ -1,6 +1,6 @@
 //! Single fields: numbers, choices, counts, texts. At one field 1 comes first, then 3, then 4; a text is one field.
 
-use super::super::record::Text;
+use super::super::record::{Holder, Text};
 use super::super::text_kind::TextKind;
 use super::super::{MAX_LIST, MAX_NUMBER};
 use std::borrow::Cow;
@@ -32,11 +32,20 @@ impl TextField {
     }
 }
 
+/// A number of kind 0 or of a fill: what has it, and where its form stands.
+#[derive(Debug, Clone, Copy, PartialEq, Eq)]
+pub struct NumberField {
+    pub holder: Holder,
+    pub start: usize,
+}
+
 pub struct Reader<'a> {
     page: &'a [u8],
     at: usize,
     /// The last text whose length was read, allowed or not.
     pub text: Option<TextField>,
+    /// The last number of kind 0 or of a fill that was begun, readable or not.
+    pub literal: Option<NumberField>,
 }
 
 impl<'a> Reader<'a> {
@@ -45,6 +54,7 @@ impl<'a> Reader<'a> {
             page,
             at: 0,
             text: None,
+            literal: None,
         }
     }
 

@@ -1,9 +1,9 @@
-//! Reading of records, written from document 01 and No. 10 of document 02 alone: the fields in order, the first faulty
-//! one decides.
+//! Reading of records, written from document 01 and from No. 5 and No. 10 of document 02 alone: the fields in order,
+//! the first faulty one decides.
 
 mod field;
 
-pub use field::{Fault, Reader, TextField};
+pub use field::{Fault, NumberField, Reader, TextField};
 
 use super::record::*;
 use super::text_kind::TextKind;
@@ -19,13 +19,23 @@ impl<'a> Reader<'a> {
         Ok(Kind::ALL[self.choice(4)? as usize])
     }
 
-    fn literal(&mut self) -> Read<Number> {
-        Ok(match self.choice(5)? {
+    /// Digits, then places; whatever is no fraction is 1.
+    fn fraction(&mut self) -> Read<Fraction> {
+        let (digits, places) = (self.number()?, self.number()?);
+        Fraction::new(digits, places).ok_or(BAD)
+    }
+
+    fn literal(&mut self, holder: Holder) -> Read<Number> {
+        let start = self.position();
+        self.literal = Some(NumberField { holder, start });
+        Ok(match self.choice(7)? {
             0 => Number::Whole(self.number()?),
             1 => Number::NegativeWhole(self.number()?),
             2 => Number::NaN,
             3 => Number::Inf,
-            _ => Number::NegativeInf,
+            4 => Number::NegativeInf,
+            5 => Number::Fraction(self.fraction()?),
+            _ => Number::NegativeFraction(self.fraction()?),
         })
     }
 
@@ -118,9 +128,9 @@ impl<'a> Reader<'a> {
         })
     }
 
-    fn fill(&mut self) -> Read<Option<Number>> {
+    fn fill(&mut self, side: Holder) -> Read<Option<Number>> {
         if self.flag()? {
-            self.literal().map(Some)
+            self.literal(side).map(Some)
         } else {
             Ok(None)
         }
@@ -131,8 +141,8 @@ impl<'a> Reader<'a> {
             is_bool: self.flag()?,
             matching: self.matching()?,
             cardinality: self.cardinality()?,
-            left_fill: self.fill()?,
-            right_fill: self.fill()?,
+            left_fill: self.fill(Holder::LeftFill)?,
+            right_fill: self.fill(Holder::RightFill)?,
         })
     }
 
@@ -190,7 +200,7 @@ impl<'a> Reader<'a> {
     /// The next record, or the refusal of its first faulty field.
     pub fn record(&mut self) -> Read<Record<'a>> {
         match self.choice(12)? {
-            0 => self.literal().map(Record::Number),
+            0 => self.literal(Holder::Record).map(Record::Number),
             1 => self.text(TextKind::String).map(Record::String),
             2 => self.selector(),
             3 => self.number().map(Record::Range),

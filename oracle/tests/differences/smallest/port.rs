@@ -1,4 +1,4 @@
-//! Rows 1 to 5: the port and the Rust.
+//! Rows 1 to 5 and 9: the port and the Rust.
 
 use super::{is_smallest, TEXTS};
 use crate::answers::with_true_flags;
@@ -101,4 +101,22 @@ fn entry_5_smallest_refused_pages() {
         assert!(!shorter.any(|page| is_refused(&worked(&page), refusal)));
         assert_eq!(worked(&page).message, None);
     }
+}
+
+/// A fraction that is no float: its digits are no multiple of five to the power of places, so that twos do not suffice.
+fn is_no_float(page: &Worked) -> bool {
+    let Some(Record::Number(number)) = page.records.last() else {
+        return false;
+    };
+    let Some((fraction, _)) = number.fraction() else {
+        return false;
+    };
+    !fraction
+        .digits()
+        .is_multiple_of(5u64.pow(fraction.places() as u32))
+}
+
+#[test]
+fn row_9_fraction_that_is_no_float() {
+    is_smallest("9", 0, is_no_float);
 }

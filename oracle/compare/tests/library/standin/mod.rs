@@ -1,5 +1,7 @@
 //! A library that answers by the oracle itself, whole or with one planted fault.
 
+pub mod fraction_texts;
+pub mod fractions;
 pub mod straying;
 pub mod texts;
 
