@@ -12,6 +12,11 @@
  * hold a zero byte, and is printed with it: strlen counts bytes too, but stops there, as other C string functions do.
  * Go by the count of bytes that a call reports.
  *
+ * A number literal or a fill is a whole number up to 2^53, a fraction, an infinity, the negation of one of these, or
+ * NaN. A fraction is digits / 10^places, with digits from 1 to 10^15 - 1 that do not end in 0, and 1 to 15 places; all
+ * others are refused with 1. It is held exactly, and printed with all its places and without an exponent, as 0.95 and
+ * 0.000001. Times and durations are whole milliseconds.
+ *
  * The page is only read. It may be at any address; NULL is allowed where its length is 0.
  *
  * The buffer `out` is lent for the call. An accepted call writes the bytes that it reports, from the start of `out`,

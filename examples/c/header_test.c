@@ -65,6 +65,23 @@ static void test_copy(void) {
     expect(sandzguli_written(outcome) == 3 && memcmp(out, "\x00\x01\x05", 3) == 0, "the copy is 00 01 05");
 }
 
+/* 0.000001 under a unary record: its text has all six places, its copy the other form. Digits 0 and 10, which ends in
+ * 0, and 16 places are no fraction's. */
+static void test_fraction(void) {
+    const uint8_t page[] = {0x00, 0x05, 0x01, 0x06, 0x07};
+    const uint8_t others[][4] = {{0x00, 0x05, 0x00, 0x01}, {0x00, 0x05, 0x0a, 0x01}, {0x00, 0x05, 0x01, 0x10}};
+    uint8_t out[9] = {0};
+    sandzguli_outcome outcome = sandzguli_canonical(page, sizeof page, out, sizeof out);
+    expect(!sandzguli_is_refused(outcome) && sandzguli_kind_of(outcome) == SANDZGULI_SCALAR, "a fraction is a scalar");
+    expect(sandzguli_written(outcome) == 9 && memcmp(out, "-0.000001", 9) == 0, "a fraction prints all its places");
+    outcome = sandzguli_copy(page, sizeof page, out, sizeof out);
+    expect(sandzguli_written(outcome) == 4 && memcmp(out, "\x00\x06\x01\x06", 4) == 0, "the copy is 00 06 01 06");
+    for (size_t index = 0; index < sizeof others / sizeof *others; index++) {
+        outcome = sandzguli_check(others[index], sizeof *others);
+        expect(is_refused_with(outcome, SANDZGULI_BAD_FIELD, 0), "digits or places of no fraction");
+    }
+}
+
 /* `up + on (x) group_left (x) up`: the label is the byte at 21. */
 static void test_label(void) {
     const uint8_t page[] = {0x02, 0x02, 'u', 'p', 0x00, 0x02, 0x02, 'u', 'p', 0x00, 0x09, 0x01,
@@ -135,6 +152,7 @@ int main(void) {
     test_up();
     test_utf8();
     test_copy();
+    test_fraction();
     test_label();
     test_longest_page();
     test_names();

@@ -82,6 +82,9 @@ struct records {
 /* @ 10^15 ms, offset -2^53 ms. */
 #define LONG_TIMES "\x05\x02\x80\x80\x9a\xa6\xea\xaf\xe3\x01\x06\x01\x80\x80\x80\x80\x80\x80\x80\x10"
 
+/* -10^-15: no fraction has a longer text. */
+#define LONG_FRACTION "\x06\x01\x0f"
+
 /* The innermost part: a name, or 16 matchers; then the longest numbers after it. */
 static const struct records leaves[] = {
     RECORDS(1, UP),
@@ -104,10 +107,12 @@ static const struct {
     {RECORDS(0, ""), RECORDS(2, "\x04\xe0\xa7\x12\x00\x0b\x01" "f\x01\x02\x00\x00\x01")}, /* a subquery in a call */
     {RECORDS(0, ""), RECORDS(1, "\x0a\x1b\x01\x02\x03x y\x01z\x01")},                     /* an aggregate with labels */
     {RECORDS(1, "\x00\x00\x05"), RECORDS(1, "\x0a\x1c\x02\x01\x01z\x02")},                /* with a parameter */
+    {RECORDS(1, "\x00" LONG_FRACTION), RECORDS(1, "\x0a\x18\x00\x02")},                   /* with a fraction as one */
     {RECORDS(0, ""), RECORDS(2, UP "\x09\x01\x00")},                                      /* an operator, leaning left */
     {RECORDS(1, UP), RECORDS(1, "\x09\x01\x00")},                                         /* leaning right */
     {RECORDS(0, ""), RECORDS(2, UP "\x09\x08\x01\x01\x01\x01\x01x\x01\x01\x03y z\x01\x00\x05\x01\x02")},
     {RECORDS(1, UP), RECORDS(1, "\x09\x08\x01\x01\x02\x01\x01x\x02\x01\x03y z\x01\x00\x05\x01\x02")},
+    {RECORDS(1, UP), RECORDS(1, "\x09\x01\x01\x00\x00\x00\x01" LONG_FRACTION "\x00")},   /* with a fraction as fill */
 };
 
 /* Bytes that are put together to a page. */

@@ -49,6 +49,9 @@
 //! assert_eq!(sandzguli::check(&page).unwrap_err().rule, Rule::BadText);
 //! ```
 //!
+//! A number or a fill may be a fraction of at most 15 digits and 15 places, which is held exactly and printed as a
+//! decimal: [`page::Literal::fraction`] makes 0.95 of the digits 95 and 2 places.
+//!
 //! The calls are those of the proved library `libsandzguli.a`, which keep nothing between them and allocate nothing:
 //! any thread may call at any time. The functions that answer with an owned value allocate it. The texts recurse over
 //! the records of a page; no call uses more than [`STACK_BYTES`] of stack.

@@ -101,6 +101,8 @@ macro_rules! rules {
 }
 
 rules! {
+    /// Of a fraction also digits or places outside their ranges: see
+    /// [`Literal::fraction`](crate::page::Literal::fraction).
     1 BadField "record cut short, bad number or code",
     2 OperandsMissing "operands missing, or not one expression at the end",
     3 PastLimit "a limit passed (page, records, text, list, count or time)",

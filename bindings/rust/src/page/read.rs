@@ -27,13 +27,22 @@ impl Reader<'_> {
     }
 
     fn literal(&mut self) -> Field<Literal> {
-        Ok(match self.choice(5)? {
+        Ok(match self.choice(7)? {
             0 => Literal::Whole(self.number()?),
             1 => Literal::Negative(self.number()?),
             2 => Literal::Nan,
             3 => Literal::Inf,
-            _ => Literal::NegInf,
+            4 => Literal::NegInf,
+            5 => self.fraction(false)?,
+            _ => self.fraction(true)?,
         })
+    }
+
+    /// Digits and places. Whatever is wrong with them is 1, so that both are read before their ranges are looked at.
+    fn fraction(&mut self, minus: bool) -> Field<Literal> {
+        let digits = self.number()?;
+        let places = self.number()?;
+        Literal::fraction(minus, digits, places).ok_or(Rule::BadField)
     }
 
     fn matcher(&mut self) -> Field<Matcher> {

@@ -37,6 +37,14 @@ fn put_literal(bytes: &mut Vec<u8>, literal: Literal) {
         Literal::Nan => put_number(bytes, 2),
         Literal::Inf => put_number(bytes, 3),
         Literal::NegInf => put_number(bytes, 4),
+        Literal::Fraction {
+            minus,
+            digits,
+            places,
+        } => {
+            put_pair(bytes, if minus { 6 } else { 5 }, digits);
+            put_number(bytes, places);
+        }
     }
 }
 

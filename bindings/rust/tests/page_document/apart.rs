@@ -50,11 +50,11 @@ fn apart(text: &'static str) -> Apart {
     }
 }
 
-/// The three pages.
+/// The four pages.
 fn pages() -> Vec<Apart> {
     let sections = DOCUMENT.split("\n### ").skip(1);
     let pages: Vec<_> = sections.map(apart).collect();
-    assert_eq!(pages.len(), 3);
+    assert_eq!(pages.len(), 4);
     pages
 }
 

@@ -2,7 +2,8 @@
 
 use crate::answer;
 use crate::document::{number, rows};
-use sandzguli::page::{AtModifier, Code, Function, LabelModifier, Matcher, Page, Record, Variadic};
+use sandzguli::page::{AtModifier, BinModifier, Code, Function, LabelModifier, Literal, Matcher};
+use sandzguli::page::{Page, Record, Variadic};
 use sandzguli::Kind;
 
 fn up() -> Record {
@@ -54,6 +55,29 @@ fn of_elements(count: usize) -> Vec<Page> {
     ]
 }
 
+/// Pages with such a fraction: a number of either sign, and both fills.
+fn of_fraction(digits: u64, places: u64) -> Vec<Page> {
+    let [plus, minus] = [false, true].map(|minus| Literal::Fraction {
+        minus,
+        digits,
+        places,
+    });
+    let filled = |left_fill, right_fill| {
+        let modifier = BinModifier {
+            left_fill,
+            right_fill,
+            ..BinModifier::default()
+        };
+        Page::from([up(), up(), Record::binary_with(Code::Add, modifier)])
+    };
+    vec![
+        Page::from([Record::Number(plus)]),
+        Page::from([Record::Number(minus)]),
+        filled(Some(plus), None),
+        filled(None, Some(minus)),
+    ]
+}
+
 /// Pages that have just so many of what a row of the table names.
 fn pages_of(what: &str, many: u64) -> Vec<Page> {
     let count = many as usize;
@@ -72,6 +96,8 @@ fn pages_of(what: &str, many: u64) -> Vec<Page> {
             Page::from([up(), Record::At(AtModifier::After(many))]),
             Page::from([up(), Record::At(AtModifier::Before(many))]),
         ],
+        "digits of a fraction" => of_fraction(many, 1),
+        "places of a fraction" => of_fraction(1, many),
         "any number" => vec![
             Page::from([Record::whole(many)]),
             Page::from([up(), Record::Range(many)]),

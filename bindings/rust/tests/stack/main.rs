@@ -6,7 +6,8 @@
 //! - `OVER_RECORDS`: pairs of functions that go from a record to earlier ones. A chain of calls has each function of a
 //!   pair once for each record at most, all pairs together; only where it passes on to another pair a record counts for
 //!   both.
-//! - `OTHERS`: so many calls at most, by the groups of a number, its digits, and the levels of a text.
+//! - `OTHERS`: so many calls at most, by the groups of a number, its digits, its places (one call more, for the whole
+//!   part), and the levels of a text.
 //!
 //! Assumed is what memcpy and memset use.
 
@@ -26,9 +27,10 @@ const OVER_RECORDS: [&str; 5] = [
     "split::write::write_split",
 ];
 
-const OTHERS: [(&str, usize); 3] = [
+const OTHERS: [(&str, usize); 4] = [
     ("page::number::read_up_to", 8),
     ("leaves::decimal::put_decimal", 20),
+    ("leaves::decimal::put_expansion", 16),
     ("indented::put_spaces", 257),
 ];
 
