@@ -1,0 +1,6 @@
+pub mod LanguageLaws
+pub mod TreeLaws
+pub mod SearchLaws
+pub mod DecisionLaws
+pub mod PartLaws
+pub mod ItemsLaws

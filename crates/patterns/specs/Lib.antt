@@ -1,0 +1,6 @@
+pub mod Pattern
+pub mod Language
+pub mod Tree
+pub mod Search
+pub mod Answers
+pub mod EmptyTextExamples
