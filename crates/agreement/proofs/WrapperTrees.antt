@@ -16,7 +16,7 @@ use Rattle.records.specs.Record.{range, at, offset, unary, wrapper}
 use Rattle.ast.specs.Expr.{Expr, Aggregate, AggregateParam, Unary, Binary, Paren, Subquery, NumberLiteral}
 use Rattle.ast.specs.Expr.{StringLiteral, VectorSelector, MatrixSelector, Call, valueType, scalarValue, timesOf}
 use Rattle.ast.specs.Expr.{withTimes}
-use Rattle.records.specs.Matcher.{isNameMatcher, matchesEmpty}
+use Rattle.records.specs.Matcher.{isNameMatcher, matchesEmpty, hasWrongFlag}
 use Rattle.ast.specs.CheckAst.{checkAst, unaryRows, selectorRows}
 use Rattle.ast.proofs.ConstructLaws.{newMatrixSelector-by, atExpr-by, offsetExpr-by, timesOf-by}
 use Rattle.working_out.specs.Asked.{isNumeric}
@@ -29,6 +29,7 @@ use Rattle.agreement.proofs.TreeOf.{treeOf, isFormed, TreeClaim, fromFa
 
 selectorClaim : (s : Selector) → FaultClaim true true true (firstFault (selectorRows s))
 selectorClaim s =
+    row (any hasWrongFlag (s .matchers)) 41 _ (λ w k. absurd k) λ w.
     row (not (isEmpty (s .name)) && any isNameMatcher (s .matchers)) 33 _ (λ h k. absurd k) λ h.
     row (isEmpty (s .name) && all matchesEmpty (s .matchers)) 34 none (λ h′ k. absurd k) λ h′.
     fine (λ o. (tt, tt))

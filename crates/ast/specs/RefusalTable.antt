@@ -1,12 +1,14 @@
--- Document 01's table of refusals, row by row: what it refuses, its example, and where the definition of the row
--- stands. The check gives each example that number at that record, by one computed test. (5 needs a buffer:
--- outcomes/specs/Examples.)
+-- The table of refusals, row by row, document 01's and then document 02's: what it refuses, its example, and where the
+-- definition of the row stands. The check gives each example that number at that record, by one computed test. (5 needs
+-- a buffer: outcomes/specs/Examples.)
 use Prim.Native.Nat.{ℕ}
 use mathlib.Core.Bool.{Bool, false, _&&_, _||_}
 use mathlib.Core.List.{List, [], _∷_, _++_}
 use lib.ListN.{replicate}
 use lib.Dec.{T, eqb}
 use Rattle.page.specs.Bytes.{hex, all, any}
+use Rattle.patterns.specs.Pattern.{isSingle}
+use Rattle.patterns.specs.Search.{readChoice, matchesEmptyText}
 use Rattle.records.specs.Record.{readRecord, readPage}
 use Rattle.records.specs.Outcome.{Outcome, answer, refusal}
 use Rattle.ast.specs.CheckAst.{checkAst}
@@ -104,6 +106,8 @@ refusalTable =
     ∷ row 33 0 (hex "020275700100085f5f6e616d655f5f0161")
     -- 34: no name, and no matcher or only ones that accept empty text: `{a=""}` (`selectorRows`)
     ∷ row 34 0 (hex "02000100016100")
+    -- 41 (document 02, No. 7): the flag of a covered pattern is wrong: `up{a=~"x"}` with flag 1 (`selectorRows`)
+    ∷ row 41 0 (hex "0202757001020161017801")
     ∷ []
 
 abbrev isRefusal : ℕ → ℕ → Outcome → Bool
@@ -116,5 +120,5 @@ hasRow n = eqb n 5 || any (λ e. eqb n (e .number)) refusalTable
 
 -- every row of the table is here, and each example is refused so
 everyRow : T (all hasRow tableNumbers && all (λ e. isRefusal (e .number) (e .index) (check (e .page))) refusalTable)
-unfolding readRecord readPage checkAst apply checkPage
+unfolding readRecord readPage matchesEmptyText readChoice isSingle checkAst apply checkPage
 everyRow = tt

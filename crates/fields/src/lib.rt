@@ -67,13 +67,14 @@ pub fn function_of(page: &[u8], starts: &[u16], node: Node) -> page::Span
 
 // A selector of this name, with these matchers. What the check asks of matchers is of no use for texts.
 fn selector(name: page::Span, matchers: page::List) -> reader::Selector
-    ensures { λ r. ⌜ r ≡ record { name = name; matchers = matchers; named = false; empty = false } ⌝ }
+    ensures { λ r. ⌜ r ≡ record { name = name; matchers = matchers; named = false; empty = false; «wrong_flag» = false } ⌝ }
 {
     reader::Selector {
         name: name,
         matchers: matchers,
         named: false,
         empty: false,
+        wrong_flag: false,
     }
 }
 

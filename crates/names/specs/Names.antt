@@ -1,5 +1,5 @@
--- The names of kinds and refusals, for people who repair a page: document 01's words ('Refused when'), made to stand
--- alone.
+-- The names of kinds and refusals, for people who repair a page: the words of documents 01 and 02 ('Refused when'), made
+-- to stand alone.
 use Prim.Native.Nat.{ℕ}
 use Prim.Native.String.{String}
 use mathlib.Core.List.{List, [], _∷_}
@@ -10,7 +10,7 @@ use Rattle.page.specs.Bytes.{bytes}
 abbrev pub kindNames : List String
 kindNames = "vector" ∷ "scalar" ∷ "matrix" ∷ "string" ∷ []
 
--- by number; no refusal has the number 0
+-- by number; no refusal has the number 0, or one from 35 to 40
 abbrev pub refusalNames : List String
 refusalNames =
     ""
@@ -48,6 +48,8 @@ refusalNames =
     ∷ "subquery operand is no vector"
     ∷ "metric name and a __name__ matcher"
     ∷ "no name, and no matcher or only ones that accept empty text"
+    ∷ "" ∷ "" ∷ "" ∷ "" ∷ "" ∷ ""
+    ∷ "the flag of a pattern is wrong: 1 if it matches empty text, else 0"
     ∷ []
 
 -- the name of a number; empty where it has none

@@ -1,9 +1,9 @@
-// The names of refusals, by their numbers. No. 0 has none.
+// The names of refusals, by their numbers. 0 has none, and neither have 35 to 40.
 use crate::table::write_name;
 ghost use Rattle.names.specs.Names.{refusalName};
 ghost use Rattle.names.specs.Written.{nameWritten, DoesName};
 
-const LETTERS: [u8; 1229] = *b"\
+const LETTERS: [u8; 1295] = *b"\
     record cut short, bad number or code\
     operands missing, or not one expression at the end\
     a limit passed (page, records, text, list, count or time)\
@@ -37,9 +37,10 @@ const LETTERS: [u8; 1229] = *b"\
     unary operand is no scalar or vector\
     subquery operand is no vector\
     metric name and a __name__ matcher\
-    no name, and no matcher or only ones that accept empty text";
+    no name, and no matcher or only ones that accept empty text\
+    the flag of a pattern is wrong: 1 if it matches empty text, else 0";
 
-const STARTS: [u16; 36] = [
+const STARTS: [u16; 43] = [
     0,
     0,
     36,
@@ -76,6 +77,13 @@ const STARTS: [u16; 36] = [
     1136,
     1170,
     1229,
+    1229,
+    1229,
+    1229,
+    1229,
+    1229,
+    1229,
+    1295,
 ];
 
 pub fn refusal_name(number: u64, out: &mut [u8]) -> u64

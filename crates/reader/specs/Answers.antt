@@ -45,7 +45,7 @@ recordAt page (record-answer.Bad f) = refused (faultOf f)
 -- a selector's name lies on the page, its facts are those of its matchers, and these can all be read again
 pub record SelectorRead (page : List ℕ) (s : Selector) : Type 0 where
   pub name : Lies page (s .name)
-  pub facts : ListFacts (matchersOn page (s .matchers .start) (s .matchers .count)) (s .named) (s .empty)
+  pub facts : ListFacts (matchersOn page (s .matchers .start) (s .matchers .count)) (s .named) (s .empty) (s .«wrong_flag»)
   pub stored : AllRead matcher.readMatcher (s .matchers .count) (drop (s .matchers .start) page)
 
 -- a record's own texts lie on the page: a string, a selector's name, a function's name (with the count of its kinds);

@@ -32,12 +32,13 @@ ghost use Rattle.records.specs.Record.{operands, readCode, recordForms, readRec
 ghost use Rattle.reader.specs.Answers.{recordOn, recordAt, recordLies};
 
 // A selector: its name, a part without bytes where there is none, its matchers, and what the check asks of them:
-// whether one is named `__name__`, and whether all accept empty text.
+// whether one is named `__name__`, whether all accept empty text, and whether one has a wrong flag.
 pub struct Selector {
     pub name: page::Span,
     pub matchers: page::List,
     pub named: bool,
     pub empty: bool,
+    pub wrong_flag: bool,
 }
 
 pub enum Record {
@@ -146,6 +147,7 @@ fn read_selector(page: &[u8], at: usize) -> RecordField
                 list: matchers,
                 named,
                 empty,
+                wrong_flag,
                 next,
             } => RecordField::Got {
                 item: Record::Selector(Selector {
@@ -153,6 +155,7 @@ fn read_selector(page: &[u8], at: usize) -> RecordField
                     matchers: matchers,
                     named: named,
                     empty: empty,
+                    wrong_flag: wrong_flag,
                 }),
                 next,
             },

@@ -2,7 +2,7 @@
 -- facts: what was seen so far, and what is left of the list, decide together. Assumes nothing.
 use Prim.Native.Nat.{ℕ, zero, suc, _-_, _≤_, _<_}
 use mathlib.Core.Path.{_≡_, refl, sym, ap, _∙_}
-use mathlib.Core.Bool.{Bool, true, false, _&&_, _||_}
+use mathlib.Core.Bool.{Bool, true, false, _&&_, _||_, and-assoc, or-assoc, and-true, or-false}
 use mathlib.Core.List.{List, _∷_}
 use native.Mathlib.Omega.{arith}
 use Rattle.page.specs.Bytes.{all, any}
@@ -14,8 +14,8 @@ use Rattle.page.proofs.FieldLaws.{no-form}
 use Rattle.page.proofs.ListLaws.{passed, passed-more, listed-more, listed-none}
 use Rattle.records.specs.Field.{readFlag}
 use Rattle.records.specs.Matcher.{MatchOp, Matcher, matcherOf, equal, notEqual, re, notRe, matcherForms}
-use Rattle.records.specs.Matcher.{readMatcher, isMetricLabel, isNameMatcher, matchesEmpty}
-use Rattle.records.specs.MatcherFacts.{matcherFacts, readMatcherFacts, patternFacts, factForms, ListFacts}
+use Rattle.records.specs.Matcher.{readMatcher, isMetricLabel, isNameMatcher, matchesEmpty, hasWrongFlag}
+use Rattle.records.specs.MatcherFacts.{Facts, matcherFacts, readMatcherFacts, patternFacts, factForms, ListFacts}
 
 -- ## One matcher
 
@@ -61,7 +61,7 @@ facts-refused s op {f} h e =
     by-operator (λ k. andThen (readerAt matcherForms k s) (λ m u. got (matcherFacts m) u) ≡ refused f) (rw (← e)) (rw (← e)) (rw (← e)) (rw (← e)) op h
 
 -- the three ways to read a matcher's number and name for its facts
-abbrev withFacts : Read ℕ → Read (Bool × Bool)
+abbrev withFacts : Read ℕ → Read Facts
 withFacts m = andThen (andThen m (readerAt matcherForms)) (λ a u. got (matcherFacts a) u)
 
 pub facts-read : (op : ℕ) (n : Text) (p s t : List ℕ) → op ≤ 3 → got op s ≡ readNumber p → got n t ≡ readAnyText s
@@ -77,7 +77,7 @@ facts-no-form op p s h e =
 
 -- after the value of a pattern
 pub pattern-facts : (named : Bool) (v : Text) (s t : List ℕ) (op : ℕ) → op ≤ 3 → (op ≡ 0 → ⊥) → (op ≡ 1 → ⊥) → got v t ≡ readAnyText s
-    → readerAt (factForms named) op s ≡ patternFacts op named t
+    → readerAt (factForms named) op s ≡ patternFacts op named v t
 pattern-facts named v s t zero h none one e = absurd (none refl)
 pattern-facts named v s t (suc zero) h none one e = absurd (one refl)
 pattern-facts named v s t (suc (suc zero)) h none one e = rw (← e)
@@ -91,41 +91,25 @@ value-refused named s op {f} h e =
 -- ## A list of matchers
 
 -- some matchers of a list were seen; `left` of them, from t on, are still to come
-pub record FactsSoFar (n : ℕ) (s : List ℕ) (left : ℕ) (t : List ℕ) (named empty : Bool) : Type 0 where
+pub record FactsSoFar (n : ℕ) (s : List ℕ) (left : ℕ) (t : List ℕ) (named empty wrong : Bool) : Type 0 where
   pub passes : passed readMatcher n s ≡ passed readMatcher left t
   pub names : any isNameMatcher (listed readMatcher n s) ≡ named || any isNameMatcher (listed readMatcher left t)
   pub accept : all matchesEmpty (listed readMatcher n s) ≡ empty && all matchesEmpty (listed readMatcher left t)
-
-or-assoc : (a b c : Bool) → a || (b || c) ≡ (a || b) || c
-or-assoc true b c = refl
-or-assoc false b c = refl
-
-and-assoc : (a b c : Bool) → a && (b && c) ≡ (a && b) && c
-and-assoc true b c = refl
-and-assoc false b c = refl
-
-or-none : (a : Bool) → a || false ≡ a
-or-none true = refl
-or-none false = refl
-
-and-all : (a : Bool) → a && true ≡ a
-and-all true = refl
-and-all false = refl
+  pub flags : any hasWrongFlag (listed readMatcher n s) ≡ wrong || any hasWrongFlag (listed readMatcher left t)
 
 -- a matcher whose facts were read
-pub record MatcherWithFacts (s t : List ℕ) (name accepts : Bool) : Type 0 where
+pub record MatcherWithFacts (s t : List ℕ) (facts : Facts) : Type 0 where
   pub matcher : Matcher
   pub reads : got matcher t ≡ readMatcher s
-  pub names : name ≡ isNameMatcher matcher
-  pub accept : accepts ≡ matchesEmpty matcher
+  pub same : facts ≡ matcherFacts matcher
 
-matcher-of : (m : Read Matcher) {t : List ℕ} {name accepts : Bool} {s : List ℕ} → m ≡ readMatcher s
-    → got (name, accepts) t ≡ andThen m (λ a u. got (matcherFacts a) u) → MatcherWithFacts s t name accepts
+matcher-of : (m : Read Matcher) {t : List ℕ} {facts : Facts} {s : List ℕ} → m ≡ readMatcher s
+    → got facts t ≡ andThen m (λ a u. got (matcherFacts a) u) → MatcherWithFacts s t facts
 matcher-of (refused f) is e = let z : _≡_ {A = ℕ} 0 1 = cc in absurd (omega arith)
-matcher-of (got a u) {t} {name} {accepts} is e =
+matcher-of (got a u) {t} {facts} is e =
     let behind : u ≡ t = cc in
-    let same : (name, accepts) ≡ matcherFacts a = cc in
-    record { matcher = a; reads = rw (← behind) is; names = ap (λ (p : Bool × Bool). p .0) same; accept = ap (λ (p : Bool × Bool). p .1) same }
+    let same : facts ≡ matcherFacts a = cc in
+    record { matcher = a; reads = rw (← behind) is; same = same }
 
 refused-of : (m : Read Matcher) {f : FieldFault} → refused f ≡ andThen m (λ a u. got (matcherFacts a) u) → refused f ≡ m
 refused-of (refused g) {f} e = let same : f ≡ g = cc in ap refused same
@@ -134,25 +118,34 @@ refused-of (got a u) e = let z : _≡_ {A = ℕ} 0 1 = cc in absurd (omega arith
 pub readMatcherFacts-refused : (s : List ℕ) {f : FieldFault} → refused f ≡ readMatcherFacts s → refused f ≡ readMatcher s
 readMatcherFacts-refused s e = refused-of (readMatcher s) e
 
-pub facts-more : (n : ℕ) (s : List ℕ) (left : ℕ) (t u : List ℕ) (named empty name accepts : Bool) → FactsSoFar n s left t named empty → 0 < left
-    → got (name, accepts) u ≡ readMatcherFacts t → FactsSoFar n s (left - 1) u (named || name) (empty && accepts)
-facts-more n s left t u named empty name accepts inv h e =
-    let m : MatcherWithFacts t u name accepts = matcher-of (readMatcher t) refl e in
+-- a test that passes at some element of a list, when its first element was seen
+any-more : (test : Matcher → Bool) (seen one : Bool) {m : Matcher} {list later : List Matcher} → list ≡ m ∷ later → one ≡ test m
+    → seen || any test list ≡ (seen || one) || any test later
+any-more test seen one {m} {list} {later} more is =
+    ap (λ (l : List Matcher). seen || any test l) more ∙ sym (or-assoc seen (test m) (any test later))
+    ∙ ap (λ (b : Bool). (seen || b) || any test later) (sym is)
+
+pub facts-more : (n : ℕ) (s : List ℕ) (left : ℕ) (t u : List ℕ) (named empty wrong name accepts flag : Bool)
+    → FactsSoFar n s left t named empty wrong → 0 < left → got (name, accepts, flag) u ≡ readMatcherFacts t
+    → FactsSoFar n s (left - 1) u (named || name) (empty && accepts) (wrong || flag)
+facts-more n s left t u named empty wrong name accepts flag inv h e =
+    let m : MatcherWithFacts t u (name, accepts, flag) = matcher-of (readMatcher t) refl e in
     let more : listed readMatcher left t ≡ m .matcher ∷ listed readMatcher (left - 1) u = listed-more readMatcher left t h (m .reads) in
     record {
       passes = inv .passes ∙ passed-more readMatcher left t h (m .reads);
-      names = inv .names ∙ ap (λ (l : List Matcher). named || any isNameMatcher l) more
-          ∙ or-assoc named (isNameMatcher (m .matcher)) _
-          ∙ ap (λ (b : Bool). (named || b) || any isNameMatcher (listed readMatcher (left - 1) u)) (sym (m .names));
+      names = inv .names ∙ any-more isNameMatcher named name more (ap (λ (f : Facts). f .0) (m .same));
       accept = inv .accept ∙ ap (λ (l : List Matcher). empty && all matchesEmpty l) more
-          ∙ and-assoc empty (matchesEmpty (m .matcher)) _
-          ∙ ap (λ (b : Bool). (empty && b) && all matchesEmpty (listed readMatcher (left - 1) u)) (sym (m .accept));
+          ∙ sym (and-assoc empty (matchesEmpty (m .matcher)) _)
+          ∙ ap (λ (f : Facts). (empty && f .1) && all matchesEmpty (listed readMatcher (left - 1) u)) (sym (m .same));
+      flags = inv .flags ∙ any-more hasWrongFlag wrong flag more (ap (λ (f : Facts). f .2) (m .same));
     }
 
-pub facts-all : (n : ℕ) (s : List ℕ) (left : ℕ) (t : List ℕ) (named empty : Bool) → FactsSoFar n s left t named empty → left ≤ 0
-    → ListFacts (listed readMatcher n s) named empty
-facts-all n s left t named empty inv h =
+pub facts-all : (n : ℕ) (s : List ℕ) (left : ℕ) (t : List ℕ) (named empty wrong : Bool) → FactsSoFar n s left t named empty wrong
+    → left ≤ 0 → ListFacts (listed readMatcher n s) named empty wrong
+facts-all n s left t named empty wrong inv h =
+    let none-left = listed-none readMatcher left t h in
     record {
-      names = sym (inv .names ∙ rw (listed-none readMatcher left t h) (or-none named));
-      accept = sym (inv .accept ∙ rw (listed-none readMatcher left t h) (and-all empty));
+      names = sym (inv .names ∙ rw none-left (or-false named));
+      accept = sym (inv .accept ∙ rw none-left (and-true empty));
+      flags = sym (inv .flags ∙ rw none-left (or-false wrong));
     }

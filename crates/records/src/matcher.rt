@@ -1,13 +1,15 @@
 // Matchers (label/matcher.rs, `Matcher`, `MatchOp`) and lists of them.
 use crate::kind::Flag;
 use crate::kind::read_flag;
+use patterns::EmptyText;
+use patterns::matches_empty_text;
 ghost use mathlib.Core.Path.{_≡_};
 ghost use Prim.Native.Nat.{_≤_};
 ghost use lib.ListN.{drop};
 ghost use Rattle.page.specs.Read.{repeat, readerAt};
 ghost use Rattle.page.specs.Text.{readList};
 ghost use Rattle.page.specs.Answers.{spanOn, Lies};
-ghost use Rattle.records.specs.Matcher.{readMatcher, isMetricLabel};
+ghost use Rattle.records.specs.Matcher.{readMatcher, isMetricLabel, isWrongFlag};
 ghost use Rattle.records.specs.MatcherFacts.{readMatcherFacts, patternFacts, factForms, matcherFactsAt, matchersAt, matchersStored};
 
 // How a matcher compares; a pattern has the flag that it matches empty text.
@@ -25,12 +27,13 @@ pub struct Matcher {
     pub value: page::Span,
 }
 
-// What the check asks of a matcher: whether it is named `__name__`, whether it accepts empty text, and the position
-// after it.
+// What the check asks of a matcher: whether it is named `__name__`, whether it accepts empty text, whether the flag of
+// its pattern is wrong, and the position after it.
 pub enum MatcherFacts {
     Got {
         named: bool,
         empty: bool,
+        wrong_flag: bool,
         next: usize,
     },
     Bad(page::Fault),
@@ -43,22 +46,41 @@ fn is_metric_label(page: &[u8], name: page::Span) -> bool
     page::same_text(page::text_at(page, name), b"__name__")
 }
 
-// The flag of a pattern, inverted by `!~`.
-fn read_pattern_facts(page: &[u8], at: usize, op: u64, named: bool) -> MatcherFacts
-    ensures { λ r. ⌜ matcherFactsAt (now (page .entry)) r ≡ patternFacts op named (drop at (now (page .entry))) ⌝ }
+// Whether the flag of a covered pattern is not what the pattern says of empty text.
+fn is_wrong_flag(flag: bool, pattern: &[u8]) -> bool
+    ensures { λ r. ⌜ r ≡ isWrongFlag flag (now (pattern .entry)) ⌝ }
 {
-    match read_flag(page, at) {
+    match matches_empty_text(pattern) {
+        EmptyText::Covered(empty) => {
+            if flag {
+                return !empty;
+            }
+            empty
+        }
+        EmptyText::Uncovered => false,
+    }
+}
+
+// The flag after a pattern, inverted by `!~` where it says what the matcher accepts.
+fn read_pattern_facts(page: &[u8], value: page::Span, op: u64, named: bool) -> MatcherFacts
+    requires { ⌜ Lies (now page) value ⌝ }
+    ensures { λ r. ⌜ matcherFactsAt (now (page .entry)) r ≡ patternFacts op named (spanOn (now (page .entry)) value) (drop (value .end) (now (page .entry))) ⌝ }
+{
+    match read_flag(page, value.end) {
         Flag::Got { flag: flag, next } => {
+            let wrong_flag = is_wrong_flag(flag, page::text_at(page, value));
             if op == 2 {
                 return MatcherFacts::Got {
                     named,
                     empty: flag,
+                    wrong_flag,
                     next,
                 };
             }
             MatcherFacts::Got {
                 named,
                 empty: !flag,
+                wrong_flag,
                 next,
             }
         }
@@ -77,6 +99,7 @@ fn read_value_facts(page: &[u8], at: usize, op: u64, named: bool) -> MatcherFact
                 return MatcherFacts::Got {
                     named,
                     empty: value.start == value.end,
+                    wrong_flag: false,
                     next: value.end,
                 };
             }
@@ -84,10 +107,11 @@ fn read_value_facts(page: &[u8], at: usize, op: u64, named: bool) -> MatcherFact
                 return MatcherFacts::Got {
                     named,
                     empty: value.start != value.end,
+                    wrong_flag: false,
                     next: value.end,
                 };
             }
-            read_pattern_facts(page, value.end, op, named)
+            read_pattern_facts(page, value, op, named)
         }
         page::Text::Bad(f) => MatcherFacts::Bad(f),
     }
@@ -113,12 +137,14 @@ pub fn read_matcher_facts(page: &[u8], at: usize) -> MatcherFacts
     }
 }
 
-// Matchers, whether one is named `__name__`, whether all accept empty text, and the position after the last.
+// Matchers, whether one is named `__name__`, whether all accept empty text, whether one has a wrong flag, and the
+// position after the last.
 pub enum Matchers {
     Got {
         list: page::List,
         named: bool,
         empty: bool,
+        wrong_flag: bool,
         next: usize,
     },
     Bad(page::Fault),
@@ -133,15 +159,18 @@ pub fn matchers_from(page: &[u8], start: usize, count: usize) -> Matchers
     let mut at = start;
     let mut named = false;
     let mut empty = true;
+    let mut wrong_flag = false;
     while 0 < left {
         match read_matcher_facts(page, at) {
             MatcherFacts::Got {
                 named: name,
                 empty: accepts,
+                wrong_flag: wrong,
                 next,
             } => {
                 named = named | name;
                 empty = empty & accepts;
+                wrong_flag = wrong_flag | wrong;
                 at = next;
                 left = left - 1;
             }
@@ -155,6 +184,7 @@ pub fn matchers_from(page: &[u8], start: usize, count: usize) -> Matchers
         list,
         named,
         empty,
+        wrong_flag,
         next: at,
     }
 }

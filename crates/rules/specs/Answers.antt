@@ -23,7 +23,7 @@ operandMeant (Range a o) = spec.rangeOperand a o
 operandMeant (Subquery a o) = spec.subqueryOperand a o
 operandMeant (Other k) = spec.otherOperand (kindOf k)
 
--- document 01, 'Outcomes of a page', the refusal table
+-- document 01, 'Outcomes of a page', the refusal table, and document 02
 abbrev pub refusalNumber : Refusal → ℕ
 -- record cut short, bad number or code
 refusalNumber refusal.BadField = 1
@@ -93,6 +93,8 @@ refusalNumber refusal.SubqueryKind = 32
 refusalNumber refusal.NameTwice = 33
 -- no name, and no matcher or only ones that accept empty text
 refusalNumber refusal.EmptySelector = 34
+-- the flag of a covered pattern is wrong (document 02, No. 7)
+refusalNumber refusal.WrongFlag = 41
 
 abbrev pub verdictMeant : Verdict → ast.Result spec.Operand
 verdictMeant (Put x) = ast.ok (operandMeant x)

@@ -1,4 +1,4 @@
-// The 34 refusals of document 01's table, in its order, each named after its rule.
+// The refusals by their numbers: the 34 of document 01's table, then those of document 02. Each is named after its rule.
 use crate::operand::Operand;
 ghost use mathlib.Core.Path.{_≡_};
 ghost use Rattle.rules.specs.Answers.{refusalNumber};
@@ -38,6 +38,7 @@ pub enum Refusal {
     SubqueryKind,
     NameTwice,
     EmptySelector,
+    WrongFlag,
 }
 
 pub fn refusal_number(refusal: Refusal) -> u64
@@ -78,6 +79,7 @@ pub fn refusal_number(refusal: Refusal) -> u64
         Refusal::SubqueryKind => 32,
         Refusal::NameTwice => 33,
         Refusal::EmptySelector => 34,
+        Refusal::WrongFlag => 41,
     }
 }
 

@@ -1,11 +1,13 @@
 // The library's face for C: a slice passes as pointer and length, an outcome as one word.
 use crate::part::label_span;
+use crate::word::empty_text_word;
 use crate::word::outcome_word;
 use calls::canonical;
 use calls::copy;
 use calls::split;
 use names::kind::kind_name;
 use names::refusal::refusal_name;
+use patterns::matches_empty_text;
 use walk::check;
 ghost use mathlib.Core.Path.{_≡_};
 ghost use Rattle.ast.specs.CheckPage.{check};
@@ -14,11 +16,11 @@ ghost use Rattle.names.specs.Names.{kindName, refusalName};
 ghost use Rattle.names.specs.Written.{nameWritten, DoesName};
 ghost use Rattle.outcomes.specs.Calls.{copy, canonicalText, splitText};
 ghost use Rattle.sandzguli.specs.Version.{version};
-ghost use Rattle.sandzguli.specs.Words.{outcomeWord, labelWord, DoesWord};
+ghost use Rattle.sandzguli.specs.Words.{outcomeWord, labelWord, patternWord, DoesWord};
 
 const MAJOR: u64 = 0;
 
-const MINOR: u64 = 2;
+const MINOR: u64 = 3;
 
 const PATCH: u64 = 0;
 
@@ -63,6 +65,17 @@ pub extern "C" fn sandzguli_split(page: &[u8], out: &mut [u8]) -> u64
     ensures { λ r. ⌜ DoesWord (splitText (now (page .entry)) (now (out .entry))) r (now (out .exit)) ⌝ }
 {
     outcome_word(split(page, out))
+}
+
+// Whether a pattern is covered and matches empty text. No matcher holds one that is longer than a text may be.
+#[no_mangle]
+pub extern "C" fn sandzguli_pattern(pattern: &[u8]) -> u64
+    ensures { λ r. ⌜ r ≡ patternWord (now (pattern .entry)) ⌝ }
+{
+    if page::TEXT_LIMIT < pattern.len() {
+        return 2;
+    }
+    empty_text_word(matches_empty_text(pattern))
 }
 
 #[no_mangle]

@@ -11,14 +11,14 @@ use Rattle.records.proofs.matcher.matchers_from.Statement.{statement}
 use Rattle.records.proofs.matcher.matchers_from.Tie as tie
 
 abbrev Inv-loop : tie.InvT-loop
-Inv-loop page start count left₀ at₀ named₀ empty₀ left at named empty =
-    FactsSoFar count (drop start page) left (drop at page) named empty
+Inv-loop page start count left₀ at₀ named₀ empty₀ wrong-flag₀ left at named empty wrong-flag =
+    FactsSoFar count (drop start page) left (drop at page) named empty wrong-flag
 
 abbrev μ-loop : tie.MeasureT-loop
-μ-loop page start count left₀ at₀ named₀ empty₀ left at named empty = left
+μ-loop page start count left₀ at₀ named₀ empty₀ wrong-flag₀ left at named empty wrong-flag = left
 
 loop-holds : tie.Need-loop-holds Inv-loop μ-loop
-loop-holds c = record { passes = refl; names = refl; accept = refl }
+loop-holds c = record { passes = refl; names = refl; accept = refl; flags = refl }
 
 read-matcher-facts-requires : tie.Need-read-matcher-facts-requires Inv-loop μ-loop
 read-matcher-facts-requires c κs = search needs
@@ -41,7 +41,7 @@ loop-again c =
     let e = rw (c .before .name .given .1) at (at-read-matcher-facts .read-matcher-facts .ensures) in
     facts-more (at-start .args .count) (drop (at-start .args .start) (now (at-start .args .page)))
     (at-loop .loop .left) (drop (at-loop .loop .at) (now (at-start .args .page))) _ (at-loop .loop .named)
-    (at-loop .loop .empty) _ _ (at-loop .loop .inv) (at-loop-test .loop-test .taken) e
+    (at-loop .loop .empty) (at-loop .loop .wrong-flag) _ _ _ (at-loop .loop .inv) (at-loop-test .loop-test .taken) e
 
 enum-known-f : tie.Need-enum-known-f Inv-loop μ-loop
 enum-known-f c = search needs
@@ -69,8 +69,8 @@ returns-2 c =
       e,
       (
         facts-all (at-start .args .count) (drop (at-start .args .start) (now (at-start .args .page)))
-            (at-loop .loop .left) _ (at-loop .loop .named) (at-loop .loop .empty) (at-loop .loop .inv)
-            (c .loop-test .left),
+            (at-loop .loop .left) _ (at-loop .loop .named) (at-loop .loop .empty) (at-loop .loop .wrong-flag)
+            (at-loop .loop .inv) (c .loop-test .left),
         read-length readMatcher (at-start .args .count) (drop (at-start .args .start) (now (at-start .args .page)))
             e,
       ),

@@ -32,7 +32,10 @@ returns-2 c =
     simp (c .before .if2 .taken, ← e, ← span-test _ _ lies)
 
 read-pattern-facts-requires : tie.Need-read-pattern-facts-requires
-read-pattern-facts-requires c κs = search needs
+read-pattern-facts-requires c κs =
+    let at-value = c .before .before .before in
+    let at-read-text = at-value .before .before in
+    rw (at-value .value .given .1) at (at-read-text .read-text .ensures .1)
 
 enum-known-f : tie.Need-enum-known-f
 enum-known-f c = search needs

@@ -105,6 +105,9 @@ enum-told-33 c = search needs
 enum-told-34 : tie.Need-enum-told-34
 enum-told-34 c = search needs
 
+enum-told-35 : tie.Need-enum-told-35
+enum-told-35 c = search needs
+
 returns : tie.Need-returns
 returns c = rw (c .enum-told .given .1)
 
@@ -207,6 +210,9 @@ returns-33 c = rw (c .enum-told33 .given .1)
 returns-34 : tie.Need-returns-34
 returns-34 c = rw (c .enum-told34 .given .1)
 
+returns-35 : tie.Need-returns-35
+returns-35 c = rw (c .enum-told35 .given .1)
+
 pub refusal-number-spec : {M : Type 1} → statement M
 refusal-number-spec =
     tie.close
@@ -245,6 +251,7 @@ refusal-number-spec =
     enum-told-32
     enum-told-33
     enum-told-34
+    enum-told-35
     returns
     returns-2
     returns-3
@@ -278,4 +285,5 @@ refusal-number-spec =
     returns-31
     returns-32
     returns-33
-    returns-34)
+    returns-34
+    returns-35)
