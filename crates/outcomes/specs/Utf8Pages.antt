@@ -8,6 +8,8 @@ use lib.ListN.{replicate, length}
 use lib.Dec.{T, eqb}
 use Rattle.page.specs.Bytes.{bytes, hex, all}
 use Rattle.page.specs.Bytes.{equal as equalBytes}
+use Rattle.patterns.specs.Pattern.{isSingle}
+use Rattle.patterns.specs.Search.{readChoice, matchesEmptyText}
 use Rattle.records.specs.Kind.{Kind, vector, string, equalKind}
 use Rattle.records.specs.Outcome.{Outcome, answer, refusal}
 use Rattle.records.specs.Record.{readRecord, readPage}
@@ -116,7 +118,7 @@ unfolding flatten readRecord readPage checkAst apply checkPage escapeByte escape
 everyString = tt
 
 everyOther : T (all holds others)
-unfolding readRecord readPage checkAst apply checkPage escapeByte escape quote displayLabel displayLabels displayMatcher
+unfolding readRecord readPage matchesEmptyText readChoice isSingle checkAst apply checkPage escapeByte escape quote displayLabel displayLabels displayMatcher
     atMost insert sort joinedByCommas displayMatchers display
 everyOther = tt
 

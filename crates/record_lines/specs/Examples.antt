@@ -51,7 +51,7 @@ abbrev twoMatchers : List ℕ
 twoMatchers = hex "0200020101610162030161016201"
 
 abbrev selector : Record
-selector = code.Selector (record { name = span 2 2; matchers = list 3 2; named = false; empty = false })
+selector = code.Selector (record { name = span 2 2; matchers = list 3 2; named = false; empty = false; «wrong_flag» = false })
 
 -- on (a), group_right (), a left fill of 5
 abbrev modified : Record
