@@ -1,5 +1,5 @@
 -- A page that the check refuses with 19 has its label at the part that `labelPart` answers: the record named is a
--- binary record with a label in both lists (`apply-refuses`), and `readJoint` at that record finds the first one, with
+-- binary record with a label in both lists (`check-refuses`), and `readJoint` at that record finds the first one, with
 -- its place (`readJoint-written`). Assumes nothing.
 use Prim.Native.Nat.{ℕ, zero, suc, _+_, _-_, _≤_}
 use mathlib.Core.Path.{_≡_, refl, sym, ap, ap₂, _∙_, subst}
@@ -12,7 +12,7 @@ use lib.Seq.{take-append-seam, drop-append-seam, length-take-le}
 use borrow.Author.Tests.{ne-eqb}
 use lib.Dec.{T}
 use Rattle.page.specs.Bytes.{pick, all, any}
-use Rattle.page.specs.Read.{badField, pastLimit, badText, got}
+use Rattle.page.specs.Read.{got}
 use Rattle.page.specs.Number.{writeNumber}
 use Rattle.page.specs.Text.{Text, isText, writeText, writeAll}
 use Rattle.page.specs.Allowed.{Each}
@@ -20,57 +20,19 @@ use Rattle.page.proofs.NumberLaws.{left-of, right-of, isByte}
 use Rattle.records.specs.Literal.{writeLiteral}
 use Rattle.records.specs.Field.{Labels, writeFlag, writeOption}
 use Rattle.records.specs.Modifier.{BinModifier, Cardinality, oneToOne, manyToMany, manyToOne, oneToMany, writeLabelModifier, writeCardinality}
-use Rattle.records.specs.Record.{Record, leaf, wrapper, binary, aggregate, call, readRecord, writeRecord, Ending, end, unreadable, readPage}
+use Rattle.records.specs.Record.{number, string, selector}
+use Rattle.records.specs.Record.{Record, leaf, wrapper, binary, aggregate, call, readRecord, writeRecord, readPage}
 use Rattle.records.specs.Outcome.{Outcome, refusal}
 use Rattle.records.specs.Allowed.{IsAnyText, IsCardinality, IsAllowed}
 use Rattle.records.proofs.PageLaws.{readPage-allowed}
-use Rattle.ast.specs.Refusal.{Result}
-use Rattle.ast.specs.Expr.{Expr}
-use Rattle.ast.specs.CheckAst.{hasLabel, onLabels, groupLabels, checkAst}
-use Rattle.ast.specs.Walk.{Walked, stack, stopped, atEnd, finished, walk}
-use Rattle.ast.specs.CheckPage.{apply, checkPage, outcomeOf, check}
+use Rattle.ast.specs.CheckAst.{hasLabel, onLabels, groupLabels, isJoint, checkAst}
+use Rattle.ast.specs.CheckPage.{apply, checkPage, check}
 use Rattle.ast.specs.Part.{Part, emptyPart, partOf, fromRecord, Placed, readJoint, partIn, labelPart, writeGroupHead, writtenBefore, HoldsJointLabel}
 use Rattle.ast.specs.PartExample.{jointPage}
-use Rattle.ast.proofs.RefusalLaws.{RefusedIn, isOfRecord, apply-refuses}
-use Rattle.ast.proofs.WalkLaws.{StoppedAt, walk-stops}
+use Rattle.ast.proofs.RefusalLaws.{isOfRecord}
+use Rattle.ast.proofs.CheckLaws.{check-refuses}
 use Rattle.ast.proofs.RecordAtLaws.{RecordAt, readPage-at}
 use Rattle.ast.proofs.PlaceLaws.{toFills, readJoint-written, Shared, first-shared}
-
--- ## The record that is refused with 19
-
--- a record at an index that can be refused with 19
-abbrev Named : List Record → ℕ → Type 0
-Named rs i = (r : Record) × (later : List Record) × (drop i rs ≡ r ∷ later) × T (isOfRecord r 19)
-
--- 1 to 4 stand after the last record
-end-not-19 : (e : Ending) (n i : ℕ) (s : List Expr) → outcomeOf (atEnd e n s) ≡ refusal 19 i → ⊥
-end-not-19 (unreadable badField) n i s q = let z : _≡_ {A = ℕ} 1 19 = cc in omega arith
-end-not-19 (unreadable pastLimit) n i s q = let z : _≡_ {A = ℕ} 3 19 = cc in omega arith
-end-not-19 (unreadable badText) n i s q = let z : _≡_ {A = ℕ} 4 19 = cc in omega arith
-end-not-19 end n i [] q = let z : _≡_ {A = ℕ} 2 19 = cc in omega arith
-end-not-19 end n i (e ∷ []) q = let z : _≡_ {A = ℕ} 0 1 = cc in omega arith
-end-not-19 end n i (e ∷ x ∷ s) q = let z : _≡_ {A = ℕ} 2 19 = cc in omega arith
-
-named : (e : Ending) (n i : ℕ) (rs : List Record) (w : Walked Expr) → StoppedAt apply 0 rs w → outcomeOf (finished e n w) ≡ refusal 19 i → Named rs i
-named e n i rs (stack s) h q = absurd (end-not-19 e n i s q)
-named e n i rs (stopped k j) h q =
-    let number : k ≡ 19 = cc in
-    let index : h .0 ≡ i = omega (arith, same) in (
-      h .1,
-      h .2,
-      subst (λ (x : ℕ). drop x rs ≡ h .1 ∷ h .2) index (h .5),
-      subst (λ (x : ℕ). T (isOfRecord (h .1) x)) number
-          (subst (λ (x : Result (List Expr)). RefusedIn (isOfRecord (h .1)) x) (h .6) (apply-refuses (h .1) (h .3))),
-    )
-  where
-    same : j ≡ i
-    same = cc
-
-check-named : (page : List ℕ) (i : ℕ) → check page ≡ refusal 19 i → Named (readPage page .records) i
-unfolding checkPage
-check-named page i =
-    named (readPage page .ending) (length (readPage page .records)) i (readPage page .records) (walk apply 0 [] (readPage page .records))
-    (walk-stops apply (readPage page .records) 0 [])
 
 -- ## Its label
 
@@ -193,10 +155,12 @@ module _ (page : List ℕ) (bytes : T (all isByte page)) (i : ℕ) where
 
   record-found : (r : Record) (later : List Record) → drop i (readPage page .records) ≡ r ∷ later
       → T (isOfRecord r 19) → HoldsJointLabel page i (labelPart page (refusal 19 i))
-  record-found (leaf l) later e h = absurd h
+  record-found (leaf (number l)) later e h = absurd h
+  record-found (leaf (string t)) later e h = absurd h
+  record-found (leaf (selector s)) later e h = absurd h
   record-found (wrapper w) later e h = absurd h
   record-found (binary c none) later e h = absurd h
-  record-found (binary c (some m)) later e h = part-found c m later e h
+  record-found (binary c (some m)) later e h = part-found c m later e (left-of (isJoint (some m)) true h)
   record-found (aggregate c m n) later e h = absurd h
   record-found (call f n) later e h = absurd h
 
@@ -204,8 +168,9 @@ module _ (page : List ℕ) (bytes : T (all isByte page)) (i : ℕ) where
   -- stands in the group list
   pub labelPart-joint : check page ≡ refusal 19 i → HoldsJointLabel page i (labelPart page (check page))
   labelPart-joint e =
-      let n = check-named page i e in
-      subst (λ (o : Outcome). HoldsJointLabel page i (labelPart page o)) (sym e) (record-found (n .0) (n .1) (n .2) (n .3))
+      let refuses = check-refuses page 19 i (omega arith) e in
+      let found = record-found (refuses .0 .refusedRecord) (refuses .0 .later) (refuses .0 .isRecord) (refuses .1) in
+      subst (λ (o : Outcome). HoldsJointLabel page i (labelPart page o)) (sym e) found
 
 -- any other outcome has an empty part
 pub labelPart-otherwise : (page : List ℕ) (i n : ℕ) → (n ≡ 19 → ⊥) → labelPart page (refusal n i) ≡ emptyPart

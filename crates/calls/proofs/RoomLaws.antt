@@ -18,7 +18,7 @@ use Rattle.ast.specs.Walk.{Walked, stack, stopped, Checked, accepted, refusedAt
 use Rattle.ast.specs.CheckPage.{apply, checkPage}
 use Rattle.ast.specs.Table.{isOfCheck}
 use Rattle.ast.specs.Tables.{Tables}
-use Rattle.ast.proofs.WalkLaws.{CheckedIn, checkPage-in}
+use Rattle.ast.proofs.CheckLaws.{CheckedIn, checkPage-in}
 use Rattle.walk.specs.Answers.{Accepts}
 use Rattle.text.specs.Display.{display}
 use Rattle.text.proofs.RoomLaws.{display-room}

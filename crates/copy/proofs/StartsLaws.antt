@@ -25,7 +25,8 @@ use Rattle.ast.specs.Expr.{Expr}
 use Rattle.ast.specs.Walk.{accepted}
 use Rattle.ast.specs.CheckPage.{checkPage}
 use Rattle.ast.specs.Tables.{Tables}
-use Rattle.ast.proofs.WalkLaws.{CheckedIn, checkPage-in, page-limit}
+use Rattle.ast.proofs.CheckLaws.{CheckedIn, checkPage-in}
+use Rattle.ast.proofs.WalkLaws.{page-limit}
 use Rattle.ast.proofs.TablesLaws.{fromRecord-next}
 use Rattle.copy.specs.Copy.{copyRecords, copyPage}
 use Rattle.copy.specs.RecordCopy.{copyOfRead, recordCopy, absorbedRead, absorbedOf}

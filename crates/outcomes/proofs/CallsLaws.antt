@@ -16,7 +16,8 @@ use Rattle.ast.specs.Expr.{Expr, valueType}
 use Rattle.ast.specs.Walk.{Checked, accepted, refusedAt}
 use Rattle.ast.specs.CheckPage.{checkPage, outcomeOf}
 use Rattle.ast.specs.Table.{tableNumbers, isInTable, recordCount, InTable}
-use Rattle.ast.proofs.WalkLaws.{CheckedIn, checkPage-in, page-limit}
+use Rattle.ast.proofs.CheckLaws.{CheckedIn, checkPage-in}
+use Rattle.ast.proofs.WalkLaws.{page-limit}
 use Rattle.copy.specs.Copy.{copyPage}
 use Rattle.text.specs.Display.{display}
 use Rattle.text.specs.Pretty.{prettify}
