@@ -1,4 +1,4 @@
--- Demand 1 for the three calls that write (`check` writes nothing: `WalkLaws.check-in`). Assumes nothing.
+-- Demand 1 for the three calls that write (`check` writes nothing: `CheckLaws.check-in`). Assumes nothing.
 use Prim.Native.Nat.{ℕ, _+_, _-_, _≤_}
 use mathlib.Core.Path.{_≡_, refl, ap, _∙_}
 use mathlib.Core.Bool.{Bool, true, false, _||_, not}

@@ -4,3 +4,4 @@ pub mod Output
 pub mod Examples
 pub mod Utf8Pages
 pub mod FractionPages
+pub mod PatternPages

@@ -10,7 +10,7 @@ use Rattle.records.specs.Kind.{Kind, vector, scalar, matrix, string, kindNumber
 use Rattle.records.specs.Outcome.{Outcome, answer, refusal}
 use Rattle.ast.specs.CheckPage.{check}
 use Rattle.ast.specs.Table.{isInTable, isOfCheck, InTable}
-use Rattle.ast.proofs.WalkLaws.{check-in}
+use Rattle.ast.proofs.CheckLaws.{check-in}
 use Rattle.outcomes.specs.Calls.{Called}
 use Rattle.outcomes.specs.Demand1.{Demand1}
 use Rattle.outcomes.proofs.CallsLaws.{isInTable-small, inTable-record}
