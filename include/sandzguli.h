@@ -3,8 +3,8 @@
  * A page holds a query as records in postfix order. Four calls take any byte string as a page and need no check before
  * them: check, copy, canonical text, split text. Each answers with one word: the kind of the query and the count of
  * bytes written, or why the page is refused and the index of the record that breaks the rule, counted from 0. A fifth
- * call finds the label of refusal 19. Names of kinds and refusals, and the version, need no page. docs/REFUSALS.md has
- * an example page for each refusal.
+ * call finds the label of refusal 19. A sixth takes a pattern and tells its flag. Names of kinds and refusals, and the
+ * version, need no page. docs/REFUSALS.md has an example page for each refusal.
  *
  * String literals, labels, and the names and values of matchers may hold UTF-8 (RFC 3629). Where they are ill-formed,
  * as those that end inside a character, they are refused with 4; so are metric and function names that are no ASCII
@@ -17,7 +17,14 @@
  * others are refused with 1. It is held exactly, and printed with all its places and without an exponent, as 0.95 and
  * 0.000001. Times and durations are whole milliseconds.
  *
- * The page is only read. It may be at any address; NULL is allowed where its length is 0.
+ * A matcher `=~` or `!~` has a flag beside its pattern: 1 if the pattern matches empty text, else 0, for both
+ * operations. Where the pattern is covered, the flag is tested, and a page with a wrong one is refused with 41. Covered
+ * is a choice: sequences with `|` between them. A sequence is items one after the other, or none. An item is an ASCII
+ * letter, a digit, `_`, `-`, `.`, or a choice in round brackets; then nothing, or one of `*`, `+` and `?`. All other
+ * patterns, as `a**`, `(?:a)`, `(a`, `[a]`, `a{2}` and `\d`, are not covered: there the flag is believed, so keep it
+ * true. sandzguli_pattern tells the flag of a covered pattern, and which patterns are not covered.
+ *
+ * Page and pattern are only read. They may be at any address; NULL is allowed where the length is 0.
  *
  * The buffer `out` is lent for the call. An accepted call writes the bytes that it reports, from the start of `out`,
  * and leaves the rest of `out` as it was; no terminating zero is written. A refused call changes no byte of it. NULL is
@@ -37,7 +44,8 @@
  * after refusal 5, as examples/c/print_query.c does.
  *
  * Calls keep nothing between them, allocate nothing and use no global state: any thread may call at any time, with a
- * page that no one writes to meanwhile. Both texts recurse over the records of a page: see SANDZGULI_STACK_BYTES.
+ * page that no one writes to meanwhile. All calls on a page recurse over the bytes of its patterns, and both texts over
+ * its records: see SANDZGULI_STACK_BYTES.
  */
 #ifndef SANDZGULI_H
 #define SANDZGULI_H
@@ -55,7 +63,7 @@ extern "C" {
 
 /* The version of this header. sandzguli_version tells that of the archive, as one number of the same form. */
 #define SANDZGULI_VERSION_MAJOR 0
-#define SANDZGULI_VERSION_MINOR 2
+#define SANDZGULI_VERSION_MINOR 3
 #define SANDZGULI_VERSION_PATCH 0
 #define SANDZGULI_VERSION \
     (SANDZGULI_VERSION_MAJOR * 65536 + SANDZGULI_VERSION_MINOR * 256 + SANDZGULI_VERSION_PATCH)
@@ -97,8 +105,8 @@ enum sandzguli_kind {
     SANDZGULI_STRING = 3
 };
 
-/* Why a page is refused, each with its name. An archive that is newer than this header may have more of them:
- * sandzguli_refusal_name has their names. */
+/* Why a page is refused, each with its name; 35 to 40 are no refusals. An archive that is newer than this header may
+ * have more of them: sandzguli_refusal_name has their names. */
 enum sandzguli_refusal {
     SANDZGULI_BAD_FIELD = 1,                /* record cut short, bad number or code */
     SANDZGULI_OPERANDS_MISSING = 2,         /* operands missing, or not one expression at the end */
@@ -133,7 +141,15 @@ enum sandzguli_refusal {
     SANDZGULI_UNARY_KIND = 31,              /* unary operand is no scalar or vector */
     SANDZGULI_SUBQUERY_KIND = 32,           /* subquery operand is no vector */
     SANDZGULI_NAME_TWICE = 33,              /* metric name and a __name__ matcher */
-    SANDZGULI_EMPTY_SELECTOR = 34           /* no name, and no matcher or only ones that accept empty text */
+    SANDZGULI_EMPTY_SELECTOR = 34,          /* no name, and no matcher or only ones that accept empty text */
+    SANDZGULI_WRONG_FLAG = 41               /* the flag of a covered pattern is wrong */
+};
+
+/* What sandzguli_pattern answers. The first two are the flag that stands beside the pattern on a page. */
+enum sandzguli_pattern_answer {
+    SANDZGULI_PATTERN_MISSES_EMPTY = 0,  /* covered, and does not match empty text */
+    SANDZGULI_PATTERN_MATCHES_EMPTY = 1, /* covered, and matches empty text */
+    SANDZGULI_PATTERN_NOT_COVERED = 2    /* not covered, or above 255 bytes, which no page holds */
 };
 
 /* The kind of the query, or why it is refused. Writes nothing; the count of bytes is 0. */
@@ -151,6 +167,10 @@ sandzguli_outcome sandzguli_split(const uint8_t *page, size_t page_len, uint8_t 
 /* Where the label of refusal 19 lies in the page: the first group label that is also in the on list, in UTF-8. 0 where
  * the page is not refused with 19. A label may be empty, so that only check tells whether there is one. */
 sandzguli_label sandzguli_joint_label(const uint8_t *page, size_t page_len);
+
+/* The flag of a covered pattern, or that it is not covered: an enum sandzguli_pattern_answer. Any byte string may be
+ * asked about. Callers set the flag on a page with it. */
+uint64_t sandzguli_pattern(const uint8_t *pattern, size_t pattern_len);
 
 /* The name of a kind or of a refusal, in ASCII, for any number: `vector`, `a side is a string or a matrix`. Nothing is
  * written, and the count of bytes is 0, where the number has no name. Refused with 5 at 0 where the name does not fit.
