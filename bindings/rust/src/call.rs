@@ -10,7 +10,7 @@ extern "C" {
     fn sandzguli_copy(page: *const u8, page_len: usize, out: *mut u8, out_len: usize) -> u64;
 }
 
-type Asks = unsafe extern "C" fn(*const u8, usize) -> u64;
+pub(crate) type Asks = unsafe extern "C" fn(*const u8, usize) -> u64;
 pub(crate) type Writes = unsafe extern "C" fn(*const u8, usize, *mut u8, usize) -> u64;
 
 /// What an accepted call wrote.
@@ -35,9 +35,9 @@ pub(crate) fn outcome(word: u64) -> Result<Written, Refusal> {
     Ok(Written { kind, bytes })
 }
 
-fn asked(call: Asks, page: &[u8]) -> u64 {
-    // SAFETY: the page is a slice.
-    unsafe { call(page.as_ptr(), page.len()) }
+pub(crate) fn asked(call: Asks, bytes: &[u8]) -> u64 {
+    // SAFETY: the bytes are a slice.
+    unsafe { call(bytes.as_ptr(), bytes.len()) }
 }
 
 pub(crate) fn written(call: Writes, page: &[u8], out: &mut [u8]) -> Result<Written, Refusal> {

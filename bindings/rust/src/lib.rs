@@ -52,14 +52,29 @@
 //! A number or a fill may be a fraction of at most 15 digits and 15 places, which is held exactly and printed as a
 //! decimal: [`page::Literal::fraction`] makes 0.95 of the digits 95 and 2 places.
 //!
+//! The flag of a pattern tells whether it matches empty text. [`matches_empty`] knows it of covered patterns, and
+//! [`page::Matcher::covered_re`] sets it; of any other pattern the caller gives it, and it is believed.
+//!
+//! ```
+//! use sandzguli::page::{Matcher, Page, Record};
+//! use sandzguli::Rule;
+//!
+//! assert_eq!(sandzguli::matches_empty("x*"), Some(true));
+//! let wrong = Matcher::re("job", "x*", false);
+//! let page = Page::from([Record::selector("up", [wrong])]).to_bytes();
+//! assert_eq!(sandzguli::check(&page).unwrap_err().rule, Rule::WrongFlag);
+//! ```
+//!
 //! The calls are those of the proved library `libsandzguli.a`, which keep nothing between them and allocate nothing:
-//! any thread may call at any time. The functions that answer with an owned value allocate it. The texts recurse over
-//! the records of a page; no call uses more than [`STACK_BYTES`] of stack.
+//! any thread may call at any time. The functions that answer with an owned value allocate it. All calls on a page
+//! recurse over the bytes of its patterns, and the texts over its records; none uses more than [`STACK_BYTES`] of
+//! stack.
 
 mod call;
 mod kind;
 mod name;
 pub mod page;
+mod pattern;
 mod refusal;
 mod size;
 mod text;
@@ -67,6 +82,7 @@ mod text;
 pub use call::{check, copy, copy_into, joint_label, Written};
 pub use kind::Kind;
 pub use name::{kind_name, kind_name_into, refusal_name, refusal_name_into, version};
+pub use pattern::matches_empty;
 pub use refusal::{Refusal, Rule};
 pub use size::{CANONICAL_BYTES, COPY_BYTES, NAME_BYTES, PAGE_BYTES, RECORDS, STACK_BYTES};
 pub use text::{canonical, canonical_into, canonical_str, split, split_into, split_str};

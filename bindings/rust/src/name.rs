@@ -80,7 +80,7 @@ pub fn refusal_name_into(number: u64, out: &mut [u8]) -> Result<usize, Refusal> 
 /// The version of the archive: major, minor and patch.
 ///
 /// ```
-/// assert!(sandzguli::version() >= (0, 2, 0));
+/// assert!(sandzguli::version() >= (0, 3, 0));
 /// ```
 pub fn version() -> (u64, u64, u64) {
     // SAFETY: the function takes nothing.

@@ -139,6 +139,9 @@ rules! {
     32 SubqueryKind "subquery operand is no vector",
     33 NameTwice "metric name and a __name__ matcher",
     34 EmptySelector "no name, and no matcher or only ones that accept empty text",
+    /// [`matches_empty`](crate::matches_empty) tells the right one, and
+    /// [`Matcher::covered_re`](crate::page::Matcher::covered_re) sets it.
+    41 WrongFlag "the flag of a covered pattern is wrong",
 }
 
 impl Rule {
@@ -149,6 +152,9 @@ impl Rule {
     ///
     /// assert_eq!(Rule::of_number(22), Some(Rule::SideKind));
     /// assert_eq!(Rule::of_number(0), None);
+    /// // Not all numbers up to the highest are rules.
+    /// assert_eq!(Rule::of_number(40), None);
+    /// assert_eq!(Rule::of_number(41), Some(Rule::WrongFlag));
     /// ```
     pub fn of_number(number: u64) -> Option<Self> {
         let has_number = |rule: &Rule| rule.number() == number;

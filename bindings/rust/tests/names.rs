@@ -8,6 +8,10 @@ const HEADER: &str = include_str!("../../../include/sandzguli.h");
 const NAMES: &str = include_str!("../../../crates/names/specs/Table.antt");
 const CODES: &str = include_str!("../../../crates/records/specs/Code.antt");
 
+extern "C" {
+    fn sandzguli_pattern(pattern: *const u8, pattern_len: usize) -> u64;
+}
+
 /// `TwoWords` as `SANDZGULI_TWO_WORDS`.
 fn constant(case: &str) -> String {
     let mut constant = "SANDZGULI".to_string();
@@ -58,10 +62,13 @@ fn rules_have_the_librarys_cases_and_numbers() {
     }
     let count = LIBRARY.matches("        Refusal::").count();
     assert_eq!(Rule::ALL.len(), count);
+}
+
+/// 35 to 40 are numbers of no rule yet.
+#[test]
+fn rules_have_the_numbers_1_to_34_and_41() {
     let numbers: Vec<_> = Rule::ALL.iter().map(|rule| rule.number()).collect();
-    assert_eq!(numbers, (1..=count as u64).collect::<Vec<_>>());
-    assert_eq!(Rule::of_number(0), None);
-    assert_eq!(Rule::of_number(count as u64 + 1), None);
+    assert_eq!(numbers, (1..=34).chain([41]).collect::<Vec<_>>());
 }
 
 /// For every number that a word can hold, and some above.
@@ -88,7 +95,27 @@ fn the_header_has_the_same_kinds_and_refusals() {
         words: rule.name().into(),
     });
     let expected: Vec<_> = kinds.into_iter().chain(rules).collect();
-    assert_eq!(constants(), expected);
+    assert_eq!(constants()[..expected.len()], expected);
+}
+
+/// After these: what is said of a letter, an optional one, and a class of letters.
+#[test]
+fn the_header_has_the_archives_answers_to_patterns() {
+    let patterns = [
+        ("MISSES_EMPTY", "a"),
+        ("MATCHES_EMPTY", "a?"),
+        ("NOT_COVERED", "[a]"),
+    ];
+    let expected = patterns.map(|(name, pattern)| {
+        // SAFETY: the pattern is lent with its length.
+        let word = unsafe { sandzguli_pattern(pattern.as_ptr(), pattern.len()) };
+        (format!("SANDZGULI_PATTERN_{name}"), word)
+    });
+    let answers = constants().split_off(Kind::ALL.len() + Rule::ALL.len());
+    let answers = answers
+        .into_iter()
+        .map(|answer| (answer.name, answer.number));
+    assert_eq!(answers.collect::<Vec<_>>(), expected);
 }
 
 #[test]

@@ -128,6 +128,16 @@ fn refusals(code: Code) -> [u64; 4] {
 }
 
 #[test]
+fn patterns_have_their_words() {
+    for [patterns, word] in rows(["Patterns", "Word"]) {
+        for pattern in quoted(patterns) {
+            let given = sandzguli::matches_empty(pattern).map_or(2, u64::from);
+            assert_eq!(given, number(word), "{pattern}");
+        }
+    }
+}
+
+#[test]
 fn codes_have_their_words_and_act_so() {
     let mut found = Vec::new();
     for [class, list] in rows(["Codes of", "Codes and words"]) {

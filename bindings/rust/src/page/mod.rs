@@ -65,9 +65,9 @@ impl Page {
         self
     }
 
-    /// The bytes of the page, every number in its shortest form. What no page may hold, such as a text of 256 bytes or
-    /// a metric name with an accent, is written too: [`check`](crate::check) refuses it. Texts of strings, labels and
-    /// matchers are refused for their length only, since a [`String`] is well-formed UTF-8.
+    /// The bytes of the page, every number in its shortest form. What no page may hold, such as a text of 256 bytes, a
+    /// metric name with an accent or a wrong flag, is written too: [`check`](crate::check) refuses it. Texts of
+    /// strings, labels and matchers are refused for their length only, since a [`String`] is well-formed UTF-8.
     pub fn to_bytes(&self) -> Vec<u8> {
         let mut bytes = Vec::new();
         for record in &self.records {

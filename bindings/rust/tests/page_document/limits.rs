@@ -19,6 +19,11 @@ fn accents(count: usize) -> String {
     "é".repeat(count / 2) + &letters(count % 2)
 }
 
+/// A matcher with a pattern of so many letters.
+fn pattern(count: usize) -> Matcher {
+    Matcher::re("a", letters(count), false)
+}
+
 /// A record in so many parens.
 fn in_parens(record: Record, parens: usize) -> Page {
     let mut records = vec![record];
@@ -89,6 +94,7 @@ fn pages_of(what: &str, many: u64) -> Vec<Page> {
             Page::from([Record::string(letters(count))]),
             Page::from([Record::string(accents(count))]),
             Page::from([Record::selector(letters(count), [])]),
+            Page::from([Record::selector("up", [pattern(count)])]),
         ],
         "bytes of a function name" => vec![Page::from([Record::call(name(), 0)])],
         "matchers, labels, kinds or arguments; number of extra 2" => of_elements(count),

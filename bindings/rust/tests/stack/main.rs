@@ -7,7 +7,10 @@
 //!   pair once for each record at most, all pairs together; only where it passes on to another pair a record counts for
 //!   both.
 //! - `OTHERS`: so many calls at most, by the groups of a number, its digits, its places (one call more, for the whole
-//!   part), and the levels of a text.
+//!   part), the levels of a text, and the positions in a pattern (one call more, at its end). The three functions over
+//!   a pattern call each other: from call to call the position grows, or it stays and a choice goes to a sequence, or
+//!   that to an item. So a chain of calls has each of them once for each position at most, however many of them the
+//!   compiler leaves.
 //!
 //! Assumed is what memcpy and memset use.
 
@@ -27,11 +30,24 @@ const OVER_RECORDS: [&str; 5] = [
     "split::write::write_split",
 ];
 
-const OTHERS: [(&str, usize); 4] = [
+const OTHERS: [(&str, usize); 7] = [
     ("page::number::read_up_to", 8),
     ("leaves::decimal::put_decimal", 20),
     ("leaves::decimal::put_expansion", 16),
     ("indented::put_spaces", 257),
+    ("patterns::choice", 256),
+    ("patterns::sequence", 256),
+    ("patterns::item", 256),
+];
+
+/// The calls that read patterns.
+const READING_PATTERNS: [&str; 6] = [
+    "sandzguli_canonical",
+    "sandzguli_check",
+    "sandzguli_copy",
+    "sandzguli_joint_label",
+    "sandzguli_pattern",
+    "sandzguli_split",
 ];
 
 const LIBC: [&str; 2] = ["memcpy", "memset"];
@@ -138,10 +154,34 @@ fn no_call_uses_more_stack_than_is_said() {
     // The texts go over all records, so that their sums are large; a listing that is not read has none.
     assert!(sums["sandzguli_canonical"] > 100 * RECORDS);
     assert!(sums["sandzguli_split"] > sums["sandzguli_canonical"]);
+    // Over all positions of a pattern, with 16 bytes at each at the very least.
+    assert!(sums["sandzguli_pattern"] > 16 * 256);
+    let is_over_pattern = |name: &&str| name.starts_with("patterns::");
+    let reads = |call: &&str| code.reached(call).iter().any(is_over_pattern);
+    let reading: Vec<_> = sums.into_keys().filter(reads).collect();
+    assert_eq!(reading, READING_PATTERNS);
 }
 
-/// A function that calls itself over records, and another such one after it.
+/// A function that calls itself over records, and another such one after it; two that call each other over a pattern.
 const MADE: &str = "
+0000000000000000 <sandzguli_pattern>:
+   0:	jmp    5 <sandzguli_pattern+0x5>
+			1: R_X86_64_PLT32	.text.patterns::choice-0x4
+
+0000000000000000 <patterns::choice>:
+   0:	sub    $0x18,%rsp
+   4:	call   9 <patterns::choice+0x9>
+			5: R_X86_64_PLT32	.text.patterns::item-0x4
+   9:	add    $0x18,%rsp
+   d:	ret
+
+0000000000000000 <patterns::item>:
+   0:	push   %rbx
+   1:	call   6 <patterns::item+0x6>
+			2: R_X86_64_PLT32	.text.patterns::choice-0x4
+   6:	pop    %rbx
+   7:	ret
+
 0000000000000000 <sandzguli_made>:
    0:	sub    $0x18,%rsp
    4:	call   9 <sandzguli_made+0x9>
@@ -180,4 +220,7 @@ fn a_made_listing_is_added_up() {
         (32, 16, 48)
     );
     assert_eq!(code.deepest("sandzguli_made", 0), 32 + 16 + 48 + 255 * 48);
+    let turn = bytes("patterns::choice") + bytes("patterns::item");
+    assert_eq!(turn, 32 + 16);
+    assert_eq!(code.deepest("sandzguli_pattern", 0), 8 + 256 * turn);
 }
