@@ -26,6 +26,7 @@ static void test_null(void) {
     expect(is_refused_with(sandzguli_canonical(NULL, 0, NULL, 0), SANDZGULI_OPERANDS_MISSING, 0), "canonical takes NULL");
     expect(is_refused_with(sandzguli_split(NULL, 0, NULL, 0), SANDZGULI_OPERANDS_MISSING, 0), "split takes NULL");
     expect(sandzguli_joint_label(NULL, 0) == 0, "joint_label takes NULL");
+    expect(sandzguli_pattern(NULL, 0) == SANDZGULI_PATTERN_MATCHES_EMPTY, "pattern takes NULL, as the empty pattern");
 }
 
 /* `up`: 5 with too little room and an unchanged buffer, then its text and nothing after it. */
@@ -91,6 +92,47 @@ static void test_label(void) {
     expect(sandzguli_label_start(label) == 21 && sandzguli_label_length(label) == 1, "the label is the byte at 21");
 }
 
+/* A pattern in memory of exactly its length. */
+static void test_pattern(const char *pattern, enum sandzguli_pattern_answer answer) {
+    size_t length = strlen(pattern);
+    uint8_t *bytes = (uint8_t *)malloc(length);
+    expect(bytes != NULL, "there is memory");
+    memcpy(bytes, pattern, length);
+    expect(sandzguli_pattern(bytes, length) == answer, pattern);
+    free(bytes);
+}
+
+static void test_patterns(void) {
+    uint8_t longest[256];
+    memset(longest, 'a', sizeof longest);
+    test_pattern("5..", SANDZGULI_PATTERN_MISSES_EMPTY);
+    test_pattern("(a|b)?c", SANDZGULI_PATTERN_MISSES_EMPTY);
+    test_pattern("(a|b?)c*", SANDZGULI_PATTERN_MATCHES_EMPTY);
+    test_pattern("a|", SANDZGULI_PATTERN_MATCHES_EMPTY);
+    test_pattern("(a", SANDZGULI_PATTERN_NOT_COVERED);
+    test_pattern("(a|(b", SANDZGULI_PATTERN_NOT_COVERED);
+    test_pattern("a*?", SANDZGULI_PATTERN_NOT_COVERED);
+    test_pattern("[a]*", SANDZGULI_PATTERN_NOT_COVERED);
+    test_pattern("\xc3\xa9", SANDZGULI_PATTERN_NOT_COVERED);
+    expect(sandzguli_pattern(longest, 255) == SANDZGULI_PATTERN_MISSES_EMPTY, "255 bytes are read");
+    expect(sandzguli_pattern(longest, 256) == SANDZGULI_PATTERN_NOT_COVERED, "256 bytes are not covered");
+}
+
+/* `up{a=~"x"}` with either flag, which is tested; then `up{a=~"["}` with either, which is believed. */
+static void test_flag(void) {
+    uint8_t page[] = {0x02, 0x02, 'u', 'p', 0x01, 0x02, 0x01, 'a', 0x01, 'x', 0x00};
+    uint8_t *pattern = &page[9], *flag = &page[10];
+    expect(!sandzguli_is_refused(sandzguli_check(page, sizeof page)), "a right flag passes");
+    *flag = 1;
+    expect(is_refused_with(sandzguli_check(page, sizeof page), SANDZGULI_WRONG_FLAG, 0), "a wrong flag does not");
+    sandzguli_outcome outcome = sandzguli_split(page, sizeof page, NULL, 0);
+    expect(is_refused_with(outcome, SANDZGULI_WRONG_FLAG, 0), "a wrong flag comes before a short buffer");
+    *pattern = '[';
+    expect(!sandzguli_is_refused(sandzguli_check(page, sizeof page)), "flag 1 is believed");
+    *flag = 0;
+    expect(!sandzguli_is_refused(sandzguli_check(page, sizeof page)), "flag 0 is believed");
+}
+
 static void test_longest_page(void) {
     static uint8_t page[SANDZGULI_PAGE_BYTES + 1];
     expect(is_refused_with(sandzguli_check(page, sizeof page), SANDZGULI_PAST_LIMIT, 0), "a longer page is refused with 3");
@@ -124,8 +166,12 @@ static void test_names(void) {
     test_name(sandzguli_kind_name, SANDZGULI_STRING, "string");
     test_name(sandzguli_refusal_name, SANDZGULI_BAD_FIELD, "record cut short, bad number or code");
     test_name(sandzguli_refusal_name, SANDZGULI_SIDE_KIND, "a side is a string or a matrix");
+    test_name(sandzguli_refusal_name, SANDZGULI_WRONG_FLAG, "the flag of a covered pattern is wrong");
     test_no_name(sandzguli_kind_name, 4);
     test_no_name(sandzguli_refusal_name, 0);
+    test_no_name(sandzguli_refusal_name, 35);
+    test_no_name(sandzguli_refusal_name, 40);
+    test_no_name(sandzguli_refusal_name, 42);
     test_no_name(sandzguli_refusal_name, 255);
     test_no_name(sandzguli_refusal_name, UINT64_MAX);
     expect(is_refused_with(sandzguli_refusal_name(1, NULL, 0), SANDZGULI_OUTPUT_TOO_SHORT, 0), "a name needs room");
@@ -154,6 +200,8 @@ int main(void) {
     test_copy();
     test_fraction();
     test_label();
+    test_patterns();
+    test_flag();
     test_longest_page();
     test_names();
     test_name_bytes();

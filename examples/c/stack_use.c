@@ -1,6 +1,7 @@
 /* Measures how much stack each call uses, and fails where one uses more than SANDZGULI_STACK_BYTES: the most over the
- * kept list (standard input) and over pages that nest as deep as 256 records can, in every form around several leaves.
- * A call runs in a thread whose stack was painted before; the paint that is gone afterwards was used. */
+ * kept list (standard input), over pages that nest as deep as 256 records can, in every form around several leaves, and
+ * over the longest patterns, alone and on a page. A call runs in a thread whose stack was painted before; the paint
+ * that is gone afterwards was used. */
 #define _POSIX_C_SOURCE 200112L
 #include "kept_list.h"
 #include "sandzguli.h"
@@ -40,6 +41,12 @@ static sandzguli_outcome check(const uint8_t *page, size_t page_len, uint8_t *ou
 static sandzguli_outcome joint_label(const uint8_t *page, size_t page_len, uint8_t *out, size_t out_len) {
     (void)out, (void)out_len;
     return sandzguli_joint_label(page, page_len);
+}
+
+/* Any byte string may be asked about, as a pattern too. */
+static sandzguli_outcome pattern(const uint8_t *page, size_t page_len, uint8_t *out, size_t out_len) {
+    (void)out, (void)out_len;
+    return sandzguli_pattern(page, page_len);
 }
 
 /* Any number, by the page's length: kinds and refusals, and numbers without a name. */
@@ -143,6 +150,28 @@ static void add_deepest(void) {
     }
 }
 
+/* The longest pattern, and a selector as far as its bytes. */
+#define PATTERN_BYTES 255
+#define MATCHED "\x02\x02up\x01\x02\x01" "a\xff\x01"
+
+/* So many brackets that open, so many that close, and letters between them; alone, and on a page with the flag 0. */
+static void add_pattern(size_t opening, size_t closing) {
+    struct part page = {NULL, 0};
+    struct part pattern = new_part(PATTERN_BYTES);
+    memset(pattern.bytes, 'a', PATTERN_BYTES);
+    memset(pattern.bytes, '(', opening);
+    memset(pattern.bytes + PATTERN_BYTES - closing, ')', closing);
+    const struct records parts[] = {
+        RECORDS(1, MATCHED), {(const char *)pattern.bytes, pattern.length, 0}, RECORDS(0, "\x00"),
+    };
+    for (size_t index = 0; index < sizeof parts / sizeof *parts; index++) {
+        append(&page, &parts[index], 1);
+    }
+    expect(!sandzguli_is_refused(sandzguli_check(page.bytes, page.length)), "a page with a pattern is accepted");
+    add_page(pattern);
+    add_page(page);
+}
+
 /* Where the stack of the thread's own function lies; what a call uses lies below it. */
 static uintptr_t start;
 
@@ -186,11 +215,14 @@ static void add_kept(void) {
 int main(void) {
     const struct { const char *name; call *each; } calls[] = {
         {"check", check}, {"joint_label", joint_label}, {"copy", sandzguli_copy},
-        {"canonical", sandzguli_canonical}, {"split", sandzguli_split},
+        {"canonical", sandzguli_canonical}, {"split", sandzguli_split}, {"pattern", pattern},
         {"kind_name", kind_name}, {"refusal_name", refusal_name},
     };
     add_kept();
     add_deepest();
+    add_pattern(PATTERN_BYTES, 0);
+    add_pattern(PATTERN_BYTES / 2, PATTERN_BYTES / 2);
+    add_pattern(0, 0);
     size_t measured = used(known);
     expect(measured >= KNOWN_BYTES && measured < KNOWN_BYTES + 1024, "a known use is measured");
     printf("%zu pages; a call that uses %d bytes: %zu\n", page_count, KNOWN_BYTES, measured);
