@@ -142,7 +142,7 @@ enum sandzguli_refusal {
     SANDZGULI_SUBQUERY_KIND = 32,           /* subquery operand is no vector */
     SANDZGULI_NAME_TWICE = 33,              /* metric name and a __name__ matcher */
     SANDZGULI_EMPTY_SELECTOR = 34,          /* no name, and no matcher or only ones that accept empty text */
-    SANDZGULI_WRONG_FLAG = 41               /* the flag of a covered pattern is wrong */
+    SANDZGULI_WRONG_FLAG = 41               /* the flag of a pattern is wrong: 1 if it matches empty text, else 0 */
 };
 
 /* What sandzguli_pattern answers. The first two are the flag that stands beside the pattern on a page. */

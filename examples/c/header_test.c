@@ -166,7 +166,8 @@ static void test_names(void) {
     test_name(sandzguli_kind_name, SANDZGULI_STRING, "string");
     test_name(sandzguli_refusal_name, SANDZGULI_BAD_FIELD, "record cut short, bad number or code");
     test_name(sandzguli_refusal_name, SANDZGULI_SIDE_KIND, "a side is a string or a matrix");
-    test_name(sandzguli_refusal_name, SANDZGULI_WRONG_FLAG, "the flag of a covered pattern is wrong");
+    test_name(sandzguli_refusal_name, SANDZGULI_WRONG_FLAG,
+              "the flag of a pattern is wrong: 1 if it matches empty text, else 0");
     test_no_name(sandzguli_kind_name, 4);
     test_no_name(sandzguli_refusal_name, 0);
     test_no_name(sandzguli_refusal_name, 35);

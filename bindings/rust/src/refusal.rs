@@ -141,7 +141,7 @@ rules! {
     34 EmptySelector "no name, and no matcher or only ones that accept empty text",
     /// [`matches_empty`](crate::matches_empty) tells the right one, and
     /// [`Matcher::covered_re`](crate::page::Matcher::covered_re) sets it.
-    41 WrongFlag "the flag of a covered pattern is wrong",
+    41 WrongFlag "the flag of a pattern is wrong: 1 if it matches empty text, else 0",
 }
 
 impl Rule {
