@@ -9,16 +9,13 @@ use std::io::{stdout, Write};
 
 const MINUTE: u64 = 60_000;
 
-/// Status codes by a pattern that does not match empty text. Where it is not covered, the library has to believe that.
-fn codes(pattern: &str) -> Matcher {
-    let covered = Matcher::covered_re("code", pattern);
-    covered.unwrap_or_else(|| Matcher::re("code", pattern, false))
-}
-
 /// Requests a second with these status codes, by service.
 fn requests(pattern: &str) -> [Record; 4] {
     let rate = Function::fixed("rate", [Kind::Matrix], Kind::Vector);
-    let matchers = [Matcher::equal("job", "api"), codes(pattern)];
+    let matchers = [
+        Matcher::equal("job", "api"),
+        Matcher::re("code", pattern, false),
+    ];
     [
         Record::selector("http_requests_total", matchers),
         Record::Range(5 * MINUTE),

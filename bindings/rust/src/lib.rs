@@ -53,14 +53,14 @@
 //! decimal: [`page::Literal::fraction`] makes 0.95 of the digits 95 and 2 places.
 //!
 //! The flag of a pattern tells whether it matches empty text. [`matches_empty`] knows it of covered patterns, and
-//! [`page::Matcher::covered_re`] sets it; of any other pattern the caller gives it, and it is believed.
+//! [`page::Matcher::re`] sets it by itself; of any other pattern the caller gives it, and it is believed.
 //!
 //! ```
-//! use sandzguli::page::{Matcher, Page, Record};
+//! use sandzguli::page::{MatchOp, Matcher, Page, Record};
 //! use sandzguli::Rule;
 //!
 //! assert_eq!(sandzguli::matches_empty("x*"), Some(true));
-//! let wrong = Matcher::re("job", "x*", false);
+//! let wrong = Matcher::new(MatchOp::Re { matches_empty: false }, "job", "x*");
 //! let page = Page::from([Record::selector("up", [wrong])]).to_bytes();
 //! assert_eq!(sandzguli::check(&page).unwrap_err().rule, Rule::WrongFlag);
 //! ```

@@ -139,8 +139,8 @@ rules! {
     32 SubqueryKind "subquery operand is no vector",
     33 NameTwice "metric name and a __name__ matcher",
     34 EmptySelector "no name, and no matcher or only ones that accept empty text",
-    /// [`matches_empty`](crate::matches_empty) tells the right one, and
-    /// [`Matcher::covered_re`](crate::page::Matcher::covered_re) sets it.
+    /// [`matches_empty`](crate::matches_empty) tells the right one, and [`Matcher::re`](crate::page::Matcher::re) sets
+    /// it.
     41 WrongFlag "the flag of a pattern is wrong: 1 if it matches empty text, else 0",
 }
 

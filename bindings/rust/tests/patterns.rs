@@ -4,7 +4,7 @@
 #[path = "patterns/pages.rs"]
 mod pages;
 
-use pages::{selector, unread, written};
+use pages::{not_re, re, selector, unread, written};
 use sandzguli::matches_empty;
 use sandzguli::page::{Matcher, Page};
 use sandzguli::{Refusal, Rule};
@@ -61,7 +61,7 @@ fn judged_by_flag(pattern: &str, known: Option<bool>) {
         let is_right = known.is_none() || known == Some(flag);
         let refusal = Refusal::new(Rule::WrongFlag, 0);
         let expected = is_right.then_some(()).ok_or(refusal);
-        for matcher in [Matcher::re, Matcher::not_re] {
+        for matcher in [re, not_re] {
             let page = selector("up", [matcher("a", pattern, flag)]);
             judged(&page.to_bytes(), expected);
             assert_eq!(Page::read(&page.to_bytes()), Ok(page));
@@ -79,10 +79,13 @@ fn the_call_knows_covered_patterns() {
 #[test]
 fn the_builder_sets_the_flag_of_covered_patterns() {
     for (pattern, known) in known() {
-        let expected = known.map(|flag| Matcher::re("a", pattern, flag));
-        assert_eq!(Matcher::covered_re("a", pattern), expected);
-        let expected = known.map(|flag| Matcher::not_re("a", pattern, flag));
-        assert_eq!(Matcher::covered_not_re("a", pattern), expected);
+        for believed in [false, true] {
+            let flag = known.unwrap_or(believed);
+            let matcher = Matcher::re("a", pattern, believed);
+            assert_eq!(matcher, re("a", pattern, flag));
+            let matcher = Matcher::not_re("a", pattern, believed);
+            assert_eq!(matcher, not_re("a", pattern, flag));
+        }
     }
 }
 
@@ -128,8 +131,9 @@ fn longer_patterns_are_not_covered() {
         for (pattern, _) in longest() {
             let longer = pattern + more;
             assert_eq!(matches_empty(&longer), None, "{longer}");
-            assert_eq!(Matcher::covered_re("a", &longer), None);
-            let page = selector("up", [Matcher::re("a", &longer, true)]);
+            let matcher = Matcher::re("a", &longer, true);
+            assert_eq!(matcher, re("a", &longer, true));
+            let page = selector("up", [matcher]);
             judged(&page.to_bytes(), Err(Refusal::new(Rule::PastLimit, 0)));
         }
     }

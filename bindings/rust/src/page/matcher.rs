@@ -56,59 +56,31 @@ impl Matcher {
         Self::new(MatchOp::NotEqual, name, value)
     }
 
-    /// `name=~"pattern"` with the flag that the library knows. `None` where the pattern is not covered: then
-    /// [`Matcher::re`] takes the caller's flag.
+    /// `name=~"pattern"`. Of a covered pattern the library knows the flag, and it is set so; of any other it is
+    /// `believed`, whether the pattern matches empty text: keep it true.
     ///
     /// ```
     /// use sandzguli::page::{Matcher, Page, Record};
     ///
     /// // None of these patterns matches empty text. Of the second the library has to believe it.
-    /// let code = |pattern| {
-    ///     let covered = Matcher::covered_re("code", pattern);
-    ///     covered.unwrap_or_else(|| Matcher::re("code", pattern, false))
-    /// };
     /// for pattern in ["5..", "[45].."] {
-    ///     let page = Page::from([Record::selector("", [code(pattern)])]).to_bytes();
+    ///     let selector = Record::selector("", [Matcher::re("code", pattern, false)]);
+    ///     let page = Page::from([selector]).to_bytes();
     ///     assert_eq!(sandzguli::canonical(&page).unwrap(), format!(r#"{{code=~"{pattern}"}}"#));
     /// }
-    /// assert_eq!(Matcher::covered_re("code", "5.."), Some(Matcher::re("code", "5..", false)));
-    /// assert_eq!(Matcher::covered_re("code", "[45].."), None);
+    /// // What is said of a covered pattern does not matter.
+    /// assert_eq!(Matcher::re("code", "5..", true), Matcher::re("code", "5..", false));
     /// ```
-    pub fn covered_re(name: impl Into<String>, pattern: impl Into<String>) -> Option<Self> {
+    pub fn re(name: impl Into<String>, pattern: impl Into<String>, believed: bool) -> Self {
         let pattern = pattern.into();
-        let matches_empty = matches_empty(&pattern)?;
-        Some(Self::re(name, pattern, matches_empty))
-    }
-
-    /// `name!~"pattern"` with the flag that the library knows. `None` where the pattern is not covered: then
-    /// [`Matcher::not_re`] takes the caller's flag.
-    pub fn covered_not_re(name: impl Into<String>, pattern: impl Into<String>) -> Option<Self> {
-        let pattern = pattern.into();
-        let matches_empty = matches_empty(&pattern)?;
-        Some(Self::not_re(name, pattern, matches_empty))
-    }
-
-    /// `name=~"pattern"` with any flag, which is written as it is given.
-    ///
-    /// ```
-    /// use sandzguli::page::{Matcher, Page, Record};
-    /// use sandzguli::Rule;
-    ///
-    /// let selector = |flag| Record::selector("", [Matcher::re("job", "a|b", flag)]);
-    /// let page = |flag| Page::from([selector(flag)]).to_bytes();
-    /// assert_eq!(sandzguli::canonical(&page(false)).unwrap(), r#"{job=~"a|b"}"#);
-    /// assert_eq!(sandzguli::canonical(&page(true)).unwrap_err().rule, Rule::WrongFlag);
-    /// ```
-    pub fn re(name: impl Into<String>, pattern: impl Into<String>, matches_empty: bool) -> Self {
+        let matches_empty = matches_empty(&pattern).unwrap_or(believed);
         Self::new(MatchOp::Re { matches_empty }, name, pattern)
     }
 
-    /// `name!~"pattern"` with any flag, which is written as it is given.
-    pub fn not_re(
-        name: impl Into<String>,
-        pattern: impl Into<String>,
-        matches_empty: bool,
-    ) -> Self {
+    /// `name!~"pattern"`. The flag is set as [`Matcher::re`] sets it: it is the pattern's own.
+    pub fn not_re(name: impl Into<String>, pattern: impl Into<String>, believed: bool) -> Self {
+        let pattern = pattern.into();
+        let matches_empty = matches_empty(&pattern).unwrap_or(believed);
         Self::new(MatchOp::NotRe { matches_empty }, name, pattern)
     }
 }

@@ -1,6 +1,6 @@
 //! Pages with patterns: their records, the bytes that stand for them, and what is answered.
 
-use sandzguli::page::{Matcher, Page, Record};
+use sandzguli::page::{MatchOp, Matcher, Page, Record};
 use sandzguli::Rule;
 
 /// A page, and its bytes in hexadecimal.
@@ -11,17 +11,27 @@ pub fn selector(name: &str, matchers: impl IntoIterator<Item = Matcher>) -> Page
     Page::from([Record::selector(name, matchers)])
 }
 
+/// A matcher `=~` with any flag.
+pub fn re(name: &str, pattern: &str, matches_empty: bool) -> Matcher {
+    Matcher::new(MatchOp::Re { matches_empty }, name, pattern)
+}
+
+/// A matcher `!~` with any flag.
+pub fn not_re(name: &str, pattern: &str, matches_empty: bool) -> Matcher {
+    Matcher::new(MatchOp::NotRe { matches_empty }, name, pattern)
+}
+
 fn matches(pattern: &str, flag: bool) -> Page {
-    selector("up", [Matcher::re("a", pattern, flag)])
+    selector("up", [re("a", pattern, flag)])
 }
 
 fn matches_not(pattern: &str, flag: bool) -> Page {
-    selector("up", [Matcher::not_re("a", pattern, flag)])
+    selector("up", [not_re("a", pattern, flag)])
 }
 
 /// A selector without a name.
 fn nameless(pattern: &str, flag: bool) -> Page {
-    selector("", [Matcher::re("a", pattern, flag)])
+    selector("", [re("a", pattern, flag)])
 }
 
 /// Right flags of covered patterns, both flags of others, and a value that is no pattern.
@@ -43,10 +53,10 @@ fn passing() -> Vec<Row> {
 /// Wrong flags, the last four beside what is refused with 34, with 33, with 33 again, and beside a right flag.
 fn wrong() -> Vec<Row> {
     let name = Matcher::equal("__name__", "a");
-    let named = selector("up", [name, Matcher::re("b", "x", true)]);
-    let named_by_pattern = selector("up", [Matcher::re("__name__", "x", true)]);
-    let first = Matcher::re("a", "x", false);
-    let second = selector("up", [first, Matcher::not_re("b", "(y|z)?", false)]);
+    let named = selector("up", [name, re("b", "x", true)]);
+    let named_by_pattern = selector("up", [re("__name__", "x", true)]);
+    let first = re("a", "x", false);
+    let second = selector("up", [first, not_re("b", "(y|z)?", false)]);
     vec![
         (matches("x", true), "0202757001020161017801"),
         (matches("x*", false), "020275700102016102782a00"),
