@@ -10,15 +10,15 @@ use native.Mathlib.Omega.{arith}
 use lib.ListN.{length, drop}
 use lib.Dec.{T}
 use Rattle.page.specs.Allowed.{Each}
-use Rattle.page.specs.Bytes.{any}
-use Rattle.patterns.specs.Pattern.{Covered}
-use Rattle.patterns.specs.Search.{matchesEmptyText}
+use Rattle.page.specs.Bytes.{hex, any}
+use Rattle.patterns.specs.Pattern.{Covered, isSingle}
+use Rattle.patterns.specs.Search.{readChoice, matchesEmptyText}
 use Rattle.patterns.proofs.DecisionLaws.{matchesEmptyText-covered, matchesEmptyText-language}
 use Rattle.records.specs.Kind.{Kind}
 use Rattle.records.specs.Matcher.{MatchOp, equal, notEqual, re, notRe, Matcher, Selector, differs, isWrongFlag, wrongFlagOf, hasWrongFlag}
 use Rattle.records.specs.Outcome.{answer, refusal}
 use Rattle.records.specs.Record.{number, string, selector, Record, leaf, wrapper, binary, aggregate, call}
-use Rattle.records.specs.Record.{readPage}
+use Rattle.records.specs.Record.{readRecord, readPage}
 use Rattle.ast.specs.Refusal.{orElse, when, ok, unless, andThen}
 use Rattle.ast.specs.Expr.{Expr, VectorSelector}
 use Rattle.ast.specs.Construct.{noTimes}
@@ -192,3 +192,29 @@ flag-refused page i e =
     by (binary c m) later is h = absurd h
     by (aggregate c m k) later is h = absurd h
     by (call f k) later is h = absurd h
+
+-- ## What the two statements rule out
+
+each-at : (earlier : List Matcher) (m : Matcher) (more : List Matcher) → Each FlagTrue (earlier ++ (m ∷ more)) → FlagTrue m
+each-at [] m more h = h .0
+each-at (x ∷ earlier) m more h = each-at earlier m more (h .1)
+
+-- no page has true flags alone and a wrong one
+pub flags-apart : (page : List ℕ) (i : ℕ) → FlagsTrue page → WrongFlagAt page i → ⊥
+flags-apart page i true· w =
+    let each = subst (Each FlagTrue) (w .isMatcher) (true· i (w .refusedSelector) (w .later) (w .isRecord)) in
+    w .isWrong (each-at (w .earlier) (w .matcher) (w .more) each (w .flag) (w .isFlag) (w .isCovered))
+
+-- `up{a=~"x"}` with flag 1, and `up{a!~"x*"}` with flag 0
+abbrev wrongRe : List ℕ
+wrongRe = hex "0202757001020161017801"
+
+abbrev wrongNotRe : List ℕ
+wrongNotRe = hex "020275700103016102782a00"
+
+pub flags-told : (FlagsTrue wrongRe → ⊥) × (FlagsTrue wrongNotRe → ⊥)
+unfolding readRecord readPage matchesEmptyText readChoice isSingle checkAst apply checkPage
+flags-told = (
+  λ h. flags-apart wrongRe 0 h (flag-refused wrongRe 0 refl),
+  λ h. flags-apart wrongNotRe 0 h (flag-refused wrongNotRe 0 refl),
+)
