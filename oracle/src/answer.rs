@@ -1,9 +1,10 @@
-//! What document 01 answers to a page: outcome, label part of 19, copy, canonical text, split text.
+//! What documents 01 and 02 answer to a page: outcome, label part of 19, copy, canonical text, split text.
 
 use crate::copy;
 use crate::page::read::{NumberField, Reader, TextField};
 use crate::page::record::{Kind, Record};
 use crate::page::{write, MAX_PAGE_BYTES, MAX_RECORDS};
+use crate::refusal::WRONG_FLAG;
 use crate::tree::{self, Pattern, Stop};
 use promql_parser::parser::Expr;
 
@@ -40,7 +41,8 @@ impl Part {
     }
 }
 
-/// Whether document 01 lets the page be compared with the Rust; if not, flags alone decide about patterns.
+/// Whether document 01 lets the page be compared with the Rust; if not, flags alone decide about patterns. A wrong flag
+/// of a covered pattern is inside: the page is refused by No. 7 of document 02, whatever the Rust would say.
 #[derive(Debug, Clone, Copy, PartialEq, Eq)]
 pub enum Domain {
     Inside,
@@ -146,7 +148,7 @@ struct Walk<'a> {
     literal: Option<NumberField>,
 }
 
-/// A refusal by document 01, about which the Rust has nothing to say.
+/// A refusal by document 01 or 02, about which the Rust has nothing to say.
 fn refused(number: u8) -> Stop {
     Stop::Refused {
         number,
@@ -184,6 +186,9 @@ impl<'a> Walk<'a> {
             .len()
             .checked_sub(record.operands())
             .ok_or(refused(2))?;
+        if tree::has_wrong_flag(record) {
+            return Err(refused(WRONG_FLAG));
+        }
         let operands = self.stack.split_off(kept);
         let result = tree::apply(record, operands)?;
         copy::take_over(&mut self.copied, record, &result);
@@ -200,7 +205,7 @@ fn domain(records: &[Record]) -> Domain {
     let mut domain = Domain::Inside;
     for matcher in matchers {
         match tree::pattern(matcher) {
-            Pattern::FlagTrue => {}
+            Pattern::FlagTrue | Pattern::FlagWrong => {}
             Pattern::FlagUntrue => domain = Domain::FlagUntrue,
             Pattern::NotTaken => return Domain::PatternNotTaken,
         }

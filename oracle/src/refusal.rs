@@ -1,5 +1,13 @@
 //! The Rust's messages and the refusal numbers of document 01: each message belongs to one check of one record.
 
+/// The flag of a covered pattern is wrong (document 02, No. 7). The Rust has no flag, and so no message.
+pub const WRONG_FLAG: u8 = 41;
+
+/// All numbers that there are: those of document 01, and what document 02 has added so far.
+pub fn numbers() -> impl Iterator<Item = u8> {
+    (1..=34).chain([WRONG_FLAG])
+}
+
 /// Where a message came from: a record's constructor, or `check_ast` of what it built.
 #[derive(Debug, Clone, Copy, PartialEq, Eq)]
 pub enum Stage {

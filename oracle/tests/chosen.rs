@@ -1,7 +1,8 @@
 //! Every row of the refusal table, every bench example and every page of the readings has its answer.
 
 use oracle::answer::{answer, Domain, Outcome};
-use oracle::{chosen, hex};
+use oracle::chosen::Row;
+use oracle::{chosen, hex, refusal};
 
 #[test]
 fn every_chosen_page_has_its_answer() {
@@ -18,21 +19,28 @@ fn every_chosen_page_is_inside_the_domain() {
     }
 }
 
+/// Their patterns are not covered (document 02, No. 7), or 41 would say so.
 #[test]
-fn pages_outside_the_domain_have_an_untrue_flag() {
+fn pages_outside_the_domain_have_a_flag_that_is_believed() {
+    let domain = |row: &Row| answer(&row.bytes()).expect("the Rust is foreseen").domain;
+    let mut untrue = 0;
     for row in chosen::outside() {
-        let domain = answer(&row.bytes()).expect("the Rust is foreseen").domain;
-        assert_eq!(domain, Domain::FlagUntrue, "{}", row.words);
+        let domain = domain(row);
+        assert_ne!(domain, Domain::Inside, "{}", row.words);
+        untrue += usize::from(domain == Domain::FlagUntrue);
     }
+    let not_taken = chosen::outside().count() - untrue;
+    assert!(untrue > 20 && not_taken > 8, "{untrue}, {not_taken}");
 }
 
 #[test]
-fn the_refusal_table_has_34_rows_in_order() {
+fn the_refusal_table_has_a_row_for_each_number() {
     let table = chosen::refusal_table();
-    assert_eq!(table.len(), 34);
-    for (index, row) in table.iter().enumerate() {
-        assert!(row.words.starts_with(&format!("{}: ", index + 1)));
-    }
+    let numbers = table.iter().map(|row| {
+        let (number, _) = row.words.split_once(": ").expect("a number and words");
+        number.parse::<u8>().expect("a number")
+    });
+    assert!(numbers.eq(refusal::numbers()));
 }
 
 #[test]

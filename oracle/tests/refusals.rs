@@ -2,7 +2,7 @@
 //! table of refusals has.
 
 use oracle::answer::{self, Outcome};
-use oracle::{chosen, hex};
+use oracle::{chosen, hex, refusal};
 
 const DOCUMENT: &str = include_str!("../../docs/REFUSALS.md");
 const DEFINITIONS: &str = include_str!("../../crates/ast/specs/RefusalTable.antt");
@@ -76,8 +76,7 @@ fn named(name: &str) -> Vec<u8> {
 #[test]
 fn the_document_has_the_definitions_examples() {
     let told = told();
-    let numbers: Vec<_> = told.iter().map(|row| row.number).collect();
-    assert_eq!(numbers, (1..=34).collect::<Vec<_>>());
+    assert!(told.iter().map(|row| row.number).eq(refusal::numbers()));
     let without_5: Vec<_> = told.into_iter().filter(|row| row.number != 5).collect();
     assert_eq!(without_5, defined());
 }

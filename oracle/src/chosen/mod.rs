@@ -3,8 +3,10 @@
 
 mod bench;
 mod characters;
+mod flags;
 mod fractions;
 mod long;
+mod patterns;
 mod printed;
 mod readings;
 mod refusals;
@@ -68,6 +70,8 @@ pub fn rows() -> impl Iterator<Item = &'static Row> {
         long::ROWS,
         characters::ROWS,
         fractions::ROWS,
+        flags::ROWS,
+        patterns::ROWS,
     ]
     .into_iter()
     .flatten()
@@ -75,10 +79,11 @@ pub fn rows() -> impl Iterator<Item = &'static Row> {
 
 /// Rows outside document 01's domain: the page's flag decides what the pattern says about empty text.
 pub fn outside() -> impl Iterator<Item = &'static Row> {
-    characters::OUTSIDE.iter()
+    let lists = [characters::OUTSIDE, flags::OUTSIDE, patterns::OUTSIDE];
+    lists.into_iter().flatten()
 }
 
-/// The rows of the refusal table, No. 1 to 34.
+/// The rows of the refusal table: No. 1 to 34, and 41.
 pub fn refusal_table() -> &'static [Row] {
     refusals::ROWS
 }

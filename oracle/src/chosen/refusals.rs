@@ -1,4 +1,4 @@
-//! The refusal table of document 01: the example of each row.
+//! The refusal table of document 01, and the numbers that document 02 adds: the example of each row.
 
 use super::{row, Expected::*, Row};
 
@@ -38,4 +38,5 @@ pub const ROWS: &[Row] = &[
     row("32: 1[5m:]", "000001 04 #300000; 00", Refused(32, 1)),
     row("33: up{__name__=\"a\"}", "0202757001 00085f5f6e616d655f5f0161", Refused(33, 0)),
     row("34: {a=\"\"}", "02000100016100", Refused(34, 0)),
+    row("41: up{a=~\"x\"}, flag 1", "0202757001020161017801", Refused(41, 0)),
 ];

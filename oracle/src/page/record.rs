@@ -46,6 +46,16 @@ pub enum Operation {
     NotRegex(bool),
 }
 
+impl Operation {
+    /// The flag of a pattern; `=` and `!=` have none.
+    pub fn flag(self) -> Option<bool> {
+        match self {
+            Operation::Equal | Operation::NotEqual => None,
+            Operation::Regex(flag) | Operation::NotRegex(flag) => Some(flag),
+        }
+    }
+}
+
 #[derive(Debug, Clone, PartialEq)]
 pub struct Matcher<'a> {
     pub operation: Operation,

@@ -8,7 +8,7 @@ mod ready;
 
 pub use guard::Stop;
 pub use joint::joint_labels;
-pub use pattern::{matcher, matches_empty, pattern, Pattern};
+pub use pattern::{has_wrong_flag, matcher, matches_empty, pattern, Pattern};
 pub use ready::Ready;
 
 use crate::page::record::*;

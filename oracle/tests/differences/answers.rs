@@ -131,19 +131,6 @@ pub fn with_true_flags(records: &[Record]) -> Option<Vec<u8>> {
 }
 
 #[test]
-fn row_4a_the_rust_asks_the_pattern() {
-    let page = row("4a").page;
-    let true_page = with_true_flags(&worked(&page).records).expect("the pattern is taken");
-    assert_eq!(hex::text(&true_page), "02000102000001");
-    let outcome = worked(&true_page).outcome;
-    let refused = Outcome::Refused {
-        number: 34,
-        record: 0,
-    };
-    assert_eq!(outcome, refused);
-}
-
-#[test]
 fn row_4b_the_rust_makes_no_matcher() {
     let made = Matcher::new_matcher(T_EQL_REGEX, String::new(), "(".into());
     let message = made.expect_err("the pattern is not taken");

@@ -3,6 +3,7 @@
 mod also;
 mod answers;
 mod document;
+mod flags;
 mod queries;
 mod records;
 mod search;

@@ -10,7 +10,7 @@ use crate::search::{beginnings, search, worked};
 use oracle::answer::Worked;
 use oracle::page::write;
 
-const TEXTS: &[&str] = &["", "a", "b", "aa", "(", "a{,3}"];
+const TEXTS: &[&str] = &["", "a", "b", "aa", "(", "^", "a{,3}"];
 
 /// The page of the row shows the difference; no shorter one does that ends in a record of this kind.
 fn is_smallest(number: &str, kind: u8, shows: fn(&Worked) -> bool) {

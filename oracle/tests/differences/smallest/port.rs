@@ -1,4 +1,4 @@
-//! Rows 1 to 5 and 9: the port and the Rust.
+//! Rows 1 to 5, 9 and 10: the port and the Rust.
 
 use super::{is_smallest, TEXTS};
 use crate::answers::with_true_flags;
@@ -7,7 +7,7 @@ use crate::records::Records;
 use crate::search::{beginnings, expressions, worked};
 use oracle::answer::{Domain, Outcome, Worked};
 use oracle::page::record::*;
-use oracle::{generate, hex, tree};
+use oracle::{generate, hex, refusal, tree};
 use std::collections::HashSet;
 
 fn is_refused(worked: &Worked, refusal: u8) -> bool {
@@ -119,4 +119,9 @@ fn is_no_float(page: &Worked) -> bool {
 #[test]
 fn row_9_fraction_that_is_no_float() {
     is_smallest("9", 0, is_no_float);
+}
+
+#[test]
+fn row_10_wrong_flag() {
+    is_smallest("10", 2, |page| is_refused(page, refusal::WRONG_FLAG));
 }
