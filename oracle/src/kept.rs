@@ -1,10 +1,11 @@
 //! The kept list: pages with the Rust's answers, for programs that replay them (`KEPT.md` has the format).
 
 use crate::answer::{self, Answer, Domain, Failure, Outcome};
+use crate::chosen;
 use crate::generate::stream::{self, Sample};
 use crate::generate::{
-    bytes, counted_bytes, damaged, fault, fractions, good, ill_formed, long_texts, well_formed,
-    Scope,
+    bytes, counted_bytes, damaged, fault, fractions, good, ill_formed, long_texts, patterns,
+    well_formed, Scope,
 };
 use crate::random::Random;
 use std::collections::HashSet;
@@ -17,20 +18,24 @@ const SEED: u64 = 20_261_115;
 /// The longest split text: it fills the program's buffer.
 const MAX_SPLIT: usize = 65_536;
 
-/// The pages in order: chosen ones first, then generated ones; each once.
-fn pages() -> impl Iterator<Item = Vec<u8>> {
-    let mut seen = HashSet::new();
-    stream::fixed()
+/// The pages in order: chosen ones first, then generated ones, those about flags last; each with whether it may be
+/// outside document 01's domain. Of those about flags some are: No. 7 of document 02 says that they are believed.
+fn pages() -> impl Iterator<Item = (Vec<u8>, bool)> {
+    let mut random = Random::new(SEED);
+    let inside = stream::fixed()
         .map(|sample: Sample| sample.page)
-        .chain(generated(&mut Random::new(SEED)))
-        .filter(move |page| seen.insert(page.clone()))
+        .chain(generated(&mut random))
+        .map(|page| (page, false));
+    let flagged = flagged(&mut random).into_iter().map(|page| (page, true));
+    inside.chain(flagged)
 }
 
-/// Pages of ASCII first, then pages with characters beyond it, then pages with fractions too.
+/// Pages of ASCII first, then pages with characters beyond it, then with fractions too, then with covered patterns.
 fn generated(random: &mut Random) -> Vec<Vec<u8>> {
     let mut pages = ascii(random);
     pages.extend(beyond_ascii(random));
     pages.extend(with_fractions(random));
+    pages.extend(with_patterns(random));
     pages
 }
 
@@ -79,9 +84,28 @@ fn with_fractions(random: &mut Random) -> Vec<Vec<u8>> {
     pages
 }
 
+/// As many of these with covered patterns and wrong flags.
+fn with_patterns(random: &mut Random) -> Vec<Vec<u8>> {
+    let mut pages = Vec::new();
+    for _ in 0..3 {
+        pages.extend(whole(random, Scope::Patterns));
+    }
+    let broken = broken(random, &pages);
+    pages.extend(broken);
+    pages
+}
+
+/// Patterns and flags by themselves, such as are believed among them.
+fn flagged(random: &mut Random) -> Vec<Vec<u8>> {
+    let chosen = chosen::outside().map(|row| row.bytes());
+    let fixed = patterns::fixed().map(|made| made.page);
+    let random = (0..300).map(|_| patterns::random(random).page);
+    chosen.chain(fixed).chain(random).collect()
+}
+
 /// Each refusal once, good pages of 1 to 10, 20 and 40 records.
 fn whole(random: &mut Random, scope: Scope) -> Vec<Vec<u8>> {
-    let planted = fault::numbers().map(|number| fault::planted(random, scope, number).page);
+    let planted = fault::numbers(scope).map(|number| fault::planted(random, scope, number).page);
     let mut pages: Vec<_> = planted.collect();
     let sizes = (0..40).map(|size| 1 + size % 10).chain([20, 40]);
     pages.extend(sizes.map(|size| good(random, scope, size).0));
@@ -97,12 +121,15 @@ fn broken(random: &mut Random, pages: &[Vec<u8>]) -> Vec<Vec<u8>> {
 /// A page of the list and its answer.
 pub type Entry = (Vec<u8>, Answer);
 
-/// The pages of the list with their answers: inside the domain, and of moderate length.
+/// The pages of the list with their answers, each page once: inside the domain unless they are about flags, and of
+/// moderate length.
 pub fn entries() -> Result<Vec<Entry>, Failure> {
     let mut entries = Vec::new();
-    for page in pages() {
+    let mut seen = HashSet::new();
+    for (page, may_be_outside) in pages() {
         let answer = answer::answer(&page)?;
-        if answer.domain == Domain::Inside && answer.split.len() <= MAX_SPLIT {
+        let is_listed = may_be_outside || answer.domain == Domain::Inside;
+        if is_listed && answer.split.len() <= MAX_SPLIT && seen.insert(page.clone()) {
             entries.push((page, answer));
         }
     }

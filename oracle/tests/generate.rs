@@ -10,7 +10,7 @@ fn outcome(page: &[u8]) -> Outcome {
     answer::answer(page).expect("the Rust is foreseen").outcome
 }
 
-const SCOPES: [Scope; 3] = [Scope::Base, Scope::Utf8, Scope::Fractions];
+const SCOPES: [Scope; 4] = [Scope::Base, Scope::Utf8, Scope::Fractions, Scope::Patterns];
 
 fn assert_made(made: &Made) {
     let page = &made.page;
@@ -26,7 +26,7 @@ fn good_pages_pass() {
             1..=5 => 40,
             size => 1 + size % 12,
         };
-        let (page, kind) = generate::good(random, SCOPES[round % 3], size);
+        let (page, kind) = generate::good(random, SCOPES[round / 100 % 4], size);
         let answer = answer::answer(&page).expect("the Rust is foreseen");
         assert_eq!(
             answer.outcome,
@@ -42,8 +42,9 @@ fn good_pages_pass() {
 fn planted_faults_are_found() {
     let random = &mut Random::new(2);
     for round in 0..600 {
-        for number in fault::numbers() {
-            assert_made(&fault::planted(random, SCOPES[round % 3], number));
+        let scope = SCOPES[round % 4];
+        for number in fault::numbers(scope) {
+            assert_made(&fault::planted(random, scope, number));
         }
     }
 }
@@ -58,7 +59,7 @@ fn limits_hold() {
 #[test]
 fn long_texts_are_refused_by_one_byte() {
     let random = &mut Random::new(4);
-    let made = (0..6000).map(|round| long_texts::random(random, SCOPES[round % 3]));
+    let made = (0..6000).map(|round| long_texts::random(random, SCOPES[round % 4]));
     for text in long_texts::fixed().chain(made) {
         assert_made(&text);
     }

@@ -2,8 +2,8 @@
 
 use oracle::answer;
 use oracle::coverage::Coverage;
-use oracle::generate::{counted_bytes, fractions, ill_formed, well_formed, Made};
-use oracle::kept;
+use oracle::generate::{counted_bytes, fractions, ill_formed, patterns, well_formed, Made};
+use oracle::{chosen, kept};
 use std::collections::HashSet;
 
 #[test]
@@ -27,9 +27,13 @@ fn the_list_reaches_every_class() {
 
 /// So many pages at least are on the list, and so among those that fuzzing starts from.
 fn assert_kept(made: impl Iterator<Item = Made>, least: usize) {
+    assert_pages_kept(made.map(|made| made.page), least);
+}
+
+fn assert_pages_kept(pages: impl Iterator<Item = Vec<u8>>, least: usize) {
     let entries = kept::entries().expect("the Rust is foreseen");
     let kept: HashSet<_> = entries.into_iter().map(|(page, _)| page).collect();
-    let pages: Vec<_> = made.map(|made| made.page).collect();
+    let pages: Vec<_> = pages.collect();
     assert!(pages.len() > least && pages.iter().all(|page| kept.contains(page)));
 }
 
@@ -46,4 +50,12 @@ fn the_list_has_the_towns() {
 #[test]
 fn the_list_has_the_fractions() {
     assert_kept(fractions::fixed(), 1000);
+}
+
+/// Patterns with right and wrong flags, and such as are believed.
+#[test]
+fn the_list_has_the_patterns() {
+    assert_kept(patterns::fixed(), 800);
+    let chosen = chosen::outside().map(|row| row.bytes());
+    assert_pages_kept(chosen, 40);
 }

@@ -1,6 +1,7 @@
 //! The classes that a run must reach.
 
-use super::{characters, fractions, ill_formed, words};
+use super::{characters, fractions, ill_formed, patterns, words};
+use crate::refusal;
 
 /// The record kinds, by their number on the page.
 pub const RECORDS: [&str; 12] = [
@@ -69,7 +70,7 @@ const SPLITS: &[&str] = &[
 
 pub fn all() -> Vec<String> {
     let mut classes: Vec<String> = Vec::new();
-    classes.extend((1..=34).map(|number| format!("refusal {number:02}")));
+    classes.extend(refusal::numbers().map(|number| format!("refusal {number:02}")));
     classes.extend(RECORDS.iter().map(|record| format!("record {record}")));
     for kind in ["Vector", "Scalar", "Matrix", "String"] {
         classes.push(format!("kind {kind}"));
@@ -90,5 +91,6 @@ pub fn all() -> Vec<String> {
     classes.extend(characters::classes());
     classes.extend(ill_formed::classes());
     classes.extend(fractions::classes());
+    classes.extend(patterns::classes());
     classes
 }

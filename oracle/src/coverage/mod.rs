@@ -1,10 +1,12 @@
 //! Which classes of document 01 a run of pages reached: refusals, kinds, the parts of records, the rules of both texts;
-//! and of document 02 texts by words (No. 4), fractions (No. 5), characters beyond ASCII and ill-formed texts (No. 10).
+//! and of document 02 texts by words (No. 4), fractions (No. 5), patterns and their flags (No. 7), characters beyond
+//! ASCII and ill-formed texts (No. 10).
 
 mod characters;
 mod classes;
 mod fractions;
 mod ill_formed;
+mod patterns;
 mod records;
 mod split;
 mod texts;
@@ -55,6 +57,7 @@ impl Coverage {
         self.characters(worked);
         self.unread_text(worked);
         self.fractions(worked, answer);
+        self.patterns(worked);
         match worked.outcome {
             Outcome::Refused { number, .. } => self.hit(format!("refusal {number:02}")),
             Outcome::Accepted(kind) => {

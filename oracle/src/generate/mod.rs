@@ -1,5 +1,6 @@
 //! Pages from a seed: good ones, planted faults, damaged copies, sizes at the limits, long texts, characters beyond
-//! ASCII and ill-formed ones, fractions and what is none, deep nesting, short and random bytes.
+//! ASCII and ill-formed ones, fractions and what is none, patterns with right and wrong flags, deep nesting, short and
+//! random bytes.
 
 pub mod alphabet;
 mod call;
@@ -16,6 +17,7 @@ pub mod limits;
 pub mod long_texts;
 pub mod nesting;
 mod parts;
+pub mod patterns;
 mod scope;
 pub mod stream;
 mod texts;

@@ -10,4 +10,6 @@ pub enum Scope {
     Utf8,
     /// Numbers that are fractions (No. 5).
     Fractions,
+    /// Patterns that are covered by construction, and wrong flags beside them (No. 7).
+    Patterns,
 }

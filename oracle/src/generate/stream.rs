@@ -3,10 +3,11 @@
 use super::{
     bytes, codes, counted_bytes, damaged, fault, fractions, good, ill_formed, limits, long_texts,
 };
-use super::{nesting, shortest, well_formed, Made, Scope};
+use super::{nesting, patterns, shortest, well_formed, Made, Scope};
 use crate::answer::Outcome;
 use crate::chosen;
 use crate::random::Random;
+use crate::refusal::WRONG_FLAG;
 
 /// A page, and its outcome where the page was made for one.
 pub struct Sample {
@@ -37,7 +38,7 @@ impl From<Made> for Sample {
 }
 
 /// Chosen pages, the limits, every code and every kind of operand, deep nesting, long values, characters beyond ASCII,
-/// fractions.
+/// fractions, patterns with their flags.
 pub fn fixed() -> impl Iterator<Item = Sample> {
     let rows = chosen::rows().chain(chosen::outside());
     let chosen = rows.map(|row| Sample::any(row.bytes()));
@@ -52,9 +53,9 @@ pub fn fixed() -> impl Iterator<Item = Sample> {
         .chain(counted_bytes::fixed())
         .chain(ill_formed::fixed())
         .map(Sample::from);
-    let fractions = fractions::fixed().map(Sample::from);
+    let requests = fractions::fixed().chain(patterns::fixed());
     let pages = chosen.chain(limits).chain(swept).chain(nested);
-    pages.chain(texts).chain(fractions)
+    pages.chain(texts).chain(requests.map(Sample::from))
 }
 
 /// Every byte string of at most two bytes.
@@ -65,17 +66,19 @@ pub fn short() -> impl Iterator<Item = Sample> {
 /// Pages with long texts in a round.
 const LONG_TEXTS: usize = 14;
 
-/// One round: pages of ASCII, then pages with characters beyond it, then pages with fractions too.
+/// One round: pages of ASCII, then pages with characters beyond it, then with fractions too, then with covered patterns
+/// and wrong flags.
 pub fn round(random: &mut Random) -> Vec<Sample> {
     let mut samples = ascii(random);
     samples.extend(beyond_ascii(random));
     samples.extend(with_fractions(random));
+    samples.extend(with_patterns(random));
     samples
 }
 
 /// Each planted fault, good pages of several sizes, damaged copies of all of them, random bytes, long texts.
 fn ascii(random: &mut Random) -> Vec<Sample> {
-    let numbers: Vec<u8> = fault::numbers().collect();
+    let numbers: Vec<u8> = fault::numbers(Scope::Base).collect();
     let mut samples = whole_and_damaged(random, Scope::Base, &numbers, 40);
     samples.extend((0..20).map(|_| Sample::any(bytes(random))));
     let long = (0..LONG_TEXTS).map(|_| long_texts::random(random, Scope::Base));
@@ -84,15 +87,15 @@ fn ascii(random: &mut Random) -> Vec<Sample> {
 }
 
 /// Eight of the faults.
-fn some_numbers(random: &mut Random) -> [u8; 8] {
-    let numbers: Vec<u8> = fault::numbers().collect();
+fn some_numbers(random: &mut Random, scope: Scope) -> [u8; 8] {
+    let numbers: Vec<u8> = fault::numbers(scope).collect();
     [0; 8].map(|_| *random.pick(&numbers))
 }
 
 /// Some planted faults, good pages, damaged copies of these, long texts; ill-formed texts, texts at their limits, names
 /// that are none.
 fn beyond_ascii(random: &mut Random) -> Vec<Sample> {
-    let numbers = some_numbers(random);
+    let numbers = some_numbers(random, Scope::Utf8);
     let mut samples = whole_and_damaged(random, Scope::Utf8, &numbers, 16);
     let long = (0..LONG_TEXTS).map(|_| long_texts::random(random, Scope::Utf8));
     samples.extend(long.map(Sample::from));
@@ -106,9 +109,18 @@ fn beyond_ascii(random: &mut Random) -> Vec<Sample> {
 
 /// Some planted faults, good pages, damaged copies of these; fractions by themselves, and what is none.
 fn with_fractions(random: &mut Random) -> Vec<Sample> {
-    let numbers = some_numbers(random);
+    let numbers = some_numbers(random, Scope::Fractions);
     let mut samples = whole_and_damaged(random, Scope::Fractions, &numbers, 16);
     samples.extend((0..62).map(|_| Sample::from(fractions::random(random))));
+    samples
+}
+
+/// Some planted faults, wrong flags among them, good pages, damaged copies of these; patterns and flags by themselves.
+fn with_patterns(random: &mut Random) -> Vec<Sample> {
+    let mut numbers = some_numbers(random, Scope::Patterns).to_vec();
+    numbers.extend([WRONG_FLAG; 2]);
+    let mut samples = whole_and_damaged(random, Scope::Patterns, &numbers, 16);
+    samples.extend((0..63).map(|_| Sample::from(patterns::random(random))));
     samples
 }
 

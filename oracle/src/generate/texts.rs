@@ -1,5 +1,6 @@
 //! Names, labels, values and patterns.
 
+use super::patterns::spelling::covered;
 use super::{alphabet, Generator, Scope};
 use crate::page::record::{Operation, Text};
 use crate::tree;
@@ -111,12 +112,7 @@ impl Generator<'_> {
     /// A pattern that the Rust's regex takes, and whether it matches empty text.
     pub fn pattern(&mut self) -> (Text<'static>, bool) {
         loop {
-            let pieces = if self.random.chance(70) {
-                1
-            } else {
-                self.random.between(2, 4)
-            };
-            let pattern: String = (0..pieces).map(|_| self.piece()).collect();
+            let pattern = self.any_pattern();
             if pattern.len() > self.room.max(12) {
                 continue;
             }
@@ -124,6 +120,20 @@ impl Generator<'_> {
                 return (Text::from(pattern.as_str()), flag);
             }
         }
+    }
+
+    /// Pieces of patterns one after the other; in the scope of No. 7 as often a covered pattern.
+    fn any_pattern(&mut self) -> String {
+        if self.scope >= Scope::Patterns && self.random.chance(50) {
+            let most = self.length(0).max(12);
+            return covered(self.random, most);
+        }
+        let pieces = if self.random.chance(70) {
+            1
+        } else {
+            self.random.between(2, 4)
+        };
+        (0..pieces).map(|_| self.piece()).collect()
     }
 
     /// A piece of a pattern.

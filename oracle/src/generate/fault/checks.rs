@@ -1,9 +1,10 @@
-//! Faults that the constructors and `check_ast` find: refusals 6 to 34, and 2 by missing operands.
+//! Faults that the constructors and `check_ast` find: refusals 6 to 34, and 2 by missing operands; and wrong flags, 41.
 
 use super::super::{Generator, Records};
 use super::Fault;
 use crate::page::record::*;
 use crate::page::write;
+use crate::refusal::WRONG_FLAG;
 
 pub(super) const NOT_VECTOR: &[Kind] = &[Kind::Scalar, Kind::Matrix, Kind::String];
 const NOT_NUMERIC: &[Kind] = &[Kind::Matrix, Kind::String];
@@ -24,6 +25,7 @@ pub(super) fn fault(generator: &mut Generator, number: u8) -> Fault {
         31 => (generator.negatable_by_form(), Record::Unary),
         32 => (generator.one_of(NOT_VECTOR), generator.subquery_record()),
         33 => (Vec::new(), generator.named_twice()),
+        WRONG_FLAG => (Vec::new(), generator.wrongly_flagged()),
         _ => (Vec::new(), generator.accepts_all()),
     };
     let mut bytes = Vec::new();

@@ -12,10 +12,16 @@ use crate::answer::Outcome;
 use crate::page::record::Kind;
 use crate::page::write;
 use crate::random::Random;
+use crate::refusal::{self, WRONG_FLAG};
 
-/// The numbers that a page itself can be refused with: 5 depends on the buffer.
-pub fn numbers() -> impl Iterator<Item = u8> {
-    (1..=34).filter(|number| *number != 5)
+/// The numbers that a page of this scope can be refused with: 5 depends on the buffer.
+pub fn numbers(scope: Scope) -> impl Iterator<Item = u8> {
+    let has_flags = scope >= Scope::Patterns;
+    refusal::numbers().filter(move |number| match *number {
+        5 => false,
+        WRONG_FLAG => has_flags,
+        _ => true,
+    })
 }
 
 /// A faulty record on the stack that `before` leaves.

@@ -2,6 +2,7 @@
 //! the first faulty one decides.
 
 mod field;
+mod partly;
 
 pub use field::{Fault, NumberField, Reader, TextField};
 
