@@ -2,9 +2,9 @@
 //!
 //! `library` is the library's face, `memory` lends it pages and buffers between guards, `judge` compares what it
 //! answers and what it writes, `run` goes over generated pages in several threads, `resume` over many of them with
-//! stops, `short_texts` over all short texts, `fractions` over many fractions, `bench` measures, with `ends` as its
-//! floor, `beside` measures two archives in one run, `instructions` counts on fixed pages, with `callgrind`.
-//! `text_test` runs and times the test of texts by itself.
+//! stops, `short_texts` over all short texts, `fractions` over many fractions, `patterns` over all short patterns and
+//! many others, `bench` measures, with `ends` as its floor, `beside` measures two archives in one run, `instructions`
+//! counts on fixed pages, with `callgrind`. `text_test` runs and times the test of texts by itself.
 
 pub mod bench;
 pub mod beside;
@@ -16,6 +16,7 @@ pub mod instructions;
 pub mod judge;
 pub mod library;
 pub mod memory;
+pub mod patterns;
 pub mod resume;
 pub mod run;
 pub mod short_texts;

@@ -1,6 +1,6 @@
-//! The library's face: five C functions; a slice passes as pointer and length.
+//! The library's face: six C functions; a slice passes as pointer and length.
 
-/// `sandzguli_check`, `sandzguli_joint_label`.
+/// `sandzguli_check`, `sandzguli_joint_label`; `sandzguli_pattern`, of which the bytes are a pattern.
 pub type Asks = unsafe extern "C" fn(page: *const u8, page_len: usize) -> u64;
 
 /// `sandzguli_copy`, `sandzguli_canonical`, `sandzguli_split`.
@@ -15,6 +15,7 @@ pub struct Library {
     pub copy: Writes,
     pub canonical: Writes,
     pub split: Writes,
+    pub pattern: Asks,
 }
 
 #[cfg(feature = "library")]
@@ -24,6 +25,7 @@ extern "C" {
     fn sandzguli_copy(page: *const u8, page_len: usize, out: *mut u8, out_len: usize) -> u64;
     fn sandzguli_canonical(page: *const u8, page_len: usize, out: *mut u8, out_len: usize) -> u64;
     fn sandzguli_split(page: *const u8, page_len: usize, out: *mut u8, out_len: usize) -> u64;
+    fn sandzguli_pattern(pattern: *const u8, pattern_len: usize) -> u64;
 }
 
 #[cfg(feature = "library")]
@@ -36,6 +38,7 @@ impl Library {
             copy: sandzguli_copy,
             canonical: sandzguli_canonical,
             split: sandzguli_split,
+            pattern: sandzguli_pattern,
         }
     }
 }
@@ -59,6 +62,13 @@ impl Library {
             copy: before_copy,
             canonical: before_canonical,
             split: before_split,
+            pattern: missing,
         }
     }
+}
+
+/// The earliest archives have no such call, and no earlier one is asked.
+#[cfg(feature = "before")]
+unsafe extern "C" fn missing(_: *const u8, _: usize) -> u64 {
+    panic!("an earlier archive is not asked about patterns")
 }

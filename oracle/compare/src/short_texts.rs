@@ -4,10 +4,12 @@
 use crate::library::Library;
 use crate::trap;
 use oracle::answer::{self, Outcome};
+use oracle::covered;
 use oracle::generate::carriers::Page;
 use oracle::hex;
 use oracle::page::record::Kind;
 use oracle::page::text_kind::TextKind;
+use oracle::refusal::WRONG_FLAG;
 use std::str::from_utf8;
 
 /// How many pages were tried without a difference.
@@ -59,7 +61,7 @@ fn strings(library: Library, length: usize) -> Result<u64, String> {
     Ok(count.into())
 }
 
-/// All texts of one and two bytes as this kind.
+/// All texts of one and two bytes as this kind; a pattern has the flag 0.
 fn of_kind(library: Library, kind: TextKind) -> Result<u64, String> {
     let around = Page::of(kind);
     let mut count = 0;
@@ -69,6 +71,9 @@ fn of_kind(library: Library, kind: TextKind) -> Result<u64, String> {
             let page = around.with(text, &[]);
             let expected = match from_utf8(text) {
                 _ if kind.is_name() => answer::answer(&page).map_err(|failure| failure.0)?.outcome,
+                Ok(_) if kind.is_pattern() && covered::word(text) == 1 => {
+                    around.refused(WRONG_FLAG)
+                }
                 Ok(_) => around.accepted(),
                 Err(_) => around.refused(4),
             };

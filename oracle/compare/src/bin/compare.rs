@@ -6,9 +6,11 @@
 //!                                         the same with progress, resumed from the file STATE if the run was stopped
 //!     compare texts                       all short texts through `check`: strings of up to three bytes, others of two
 //!     compare fractions [COUNT]           many fractions through canonical text, so many of them random ones
+//!     compare patterns [COUNT]            all short patterns, nests that fill 255 bytes and so many random ones
 
 use compare::fractions::{self, Sizes};
 use compare::library::Library;
+use compare::patterns;
 use compare::resume::Run;
 use compare::run::{self, Tally};
 use compare::short_texts;
@@ -16,7 +18,8 @@ use std::path::Path;
 use std::process::ExitCode;
 
 const USAGE: &str =
-    "usage: compare fixed | seeds FIRST LAST THREADS [STATE] | texts | fractions [COUNT]";
+    "usage: compare fixed | seeds FIRST LAST THREADS [STATE] | texts | fractions [COUNT]
+       | patterns [COUNT]";
 
 /// Seeds between two states: some ten seconds.
 const BLOCK: u64 = 1000;
@@ -34,6 +37,8 @@ fn main() -> ExitCode {
         ["texts"] => short_texts::compare(library).map(report_texts),
         ["fractions"] => fractions::compare(library, Sizes::USUAL).map(report_fractions),
         ["fractions", count] => many_fractions(library, count).map(report_fractions),
+        ["patterns"] => patterns::compare(library, patterns::Sizes::USUAL).map(report_patterns),
+        ["patterns", count] => many_patterns(library, count).map(report_patterns),
         _ => Err(USAGE.into()),
     };
     match result {
@@ -98,4 +103,30 @@ fn report_fractions(tally: fractions::Tally) {
         "{} fractions in order, {} at random, {} pairs of fills: no difference",
         tally.listed, tally.random, tally.pairs
     );
+}
+
+fn many_patterns(library: Library, count: &str) -> Result<patterns::Tally, String> {
+    let random = count.parse().map_err(|_| USAGE)?;
+    let sizes = patterns::Sizes {
+        random,
+        ..patterns::Sizes::USUAL
+    };
+    patterns::compare(library, sizes)
+}
+
+fn report_patterns(tally: patterns::Tally) {
+    let parts = [
+        ("of up to seven signs", tally.listed),
+        ("at random", tally.random),
+        ("nested and long", tally.nests),
+    ];
+    for (words, count) in parts {
+        println!(
+            "{} {words}, {} covered, {} of these match empty text; {} pages",
+            count.patterns, count.covered, count.matching, count.pages
+        );
+    }
+    let patterns: u64 = parts.iter().map(|(_, count)| count.patterns).sum();
+    let pages: u64 = parts.iter().map(|(_, count)| count.pages).sum();
+    println!("{patterns} patterns, {pages} pages: no difference");
 }

@@ -1,6 +1,7 @@
 //! The comparison itself, with stand-ins for the library.
 
 mod fractions;
+mod patterns;
 mod planted;
 mod resume;
 mod standin;

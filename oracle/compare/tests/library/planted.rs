@@ -1,7 +1,8 @@
 //! The comparison passes a library that answers by the oracle, and finds every planted fault.
 
-use crate::standin::{self, fraction_texts, fractions, straying, texts};
+use crate::standin::{self, flags, fraction_texts, fractions, straying, texts};
 use compare::library::Library;
+use compare::patterns::{self, Sizes};
 use compare::run;
 use oracle::generate;
 use std::env;
@@ -52,6 +53,20 @@ fn planted_fractions_are_found() {
     }
 }
 
+/// Wrong flags are found by the fixed pages with patterns alone.
+#[test]
+fn planted_flags_are_found() {
+    let compared = |library| {
+        let pages = generate::patterns::fixed().map(|made| made.page);
+        run::pages(library, pages)
+    };
+    compared(standin::whole()).expect("no difference");
+    compared(flags::sound()).expect("no difference");
+    for (words, library) in flags::faulty() {
+        assert_found(words, "check,", compared(library));
+    }
+}
+
 /// Starts this program again, with the one test that runs a straying library.
 fn started_with(library: &str) -> Output {
     Command::new(env::current_exe().expect("this program has a path"))
@@ -64,7 +79,14 @@ fn started_with(library: &str) -> Output {
 #[test]
 fn a_straying_library_runs() {
     if let Ok(library) = env::var(STRAYS) {
-        let _ = compared(straying::library(&library));
+        let library = straying::library(&library);
+        let _ = compared(library);
+        let sizes = Sizes {
+            signs: 2,
+            signs_in_pages: 0,
+            random: 0,
+        };
+        let _ = patterns::compare(library, sizes);
     }
 }
 

@@ -8,6 +8,8 @@ use oracle::answer::Outcome;
 use oracle::page::read::{Reader, TextField};
 use oracle::page::record::Kind;
 use oracle::page::text_kind::TextKind;
+use oracle::refusal::WRONG_FLAG;
+use oracle::tree;
 use std::slice;
 
 const TEXT: u8 = 4;
@@ -21,17 +23,19 @@ fn read(start: *const u8, length: usize, forgives: fn(TextKind, &[u8]) -> bool) 
     } else {
         Kind::Vector
     };
+    let is_forgiven = |text: &TextField| forgives(text.kind, text.bytes(page));
     let mut reader = Reader::new(page);
     let mut record = 0;
     while !reader.is_at_end() {
-        if let Err(number) = reader.record() {
-            let is_forgiven = |text: &TextField| forgives(text.kind, text.bytes(page));
-            if number != TEXT || !reader.text.as_ref().is_some_and(is_forgiven) {
+        match reader.record() {
+            Ok(read) if tree::has_wrong_flag(&read) => {
+                let number = WRONG_FLAG;
                 return Outcome::Refused { number, record }.word(0);
             }
-            break;
+            Ok(_) => record += 1,
+            Err(TEXT) if reader.text.as_ref().is_some_and(is_forgiven) => break,
+            Err(number) => return Outcome::Refused { number, record }.word(0),
         }
-        record += 1;
     }
     Outcome::Accepted(kind).word(0)
 }

@@ -13,10 +13,11 @@ use crate::uncovered::Uncovered;
 
 /// The covered patterns of the request's list, and others.
 #[rustfmt::skip]
-const COVERED: [&str; 44] = [
+const COVERED: [&str; 48] = [
     "", "a*", "a?", ".*", "a|", "|a", "|", "()", "()+", "(|)", "(a)*", "(a*)+", "(a|b?)c*", "(a|)(b|)", "a", "a+", ".",
     ".+", "a|b", "(a|b)?c", "((a))", "5..", "a-b_C9", "x-y*", "a|b*|c", "a*|b|c", "a|b|c*", "a||b", "(a)+", "(a|b)",
-    "(a)?", "()*", "()?", "a*b", "ab*", "a*bc*", "a*b*c", "a*b*c*", "(a*)*", ".?", "9+", "_*", "-*", "Z",
+    "(a)?", "()*", "()?", "a*b", "ab*", "a*bc*", "a*b*c", "a*b*c*", "(a*)*", ".?", "9+", "9*", "9?", "_*", "_?",
+    "-*", "-+", "Z",
 ];
 
 fn equal(value: &str) -> Matcher<'static> {
@@ -29,13 +30,14 @@ fn equal(value: &str) -> Matcher<'static> {
 
 /// Matchers of every form, with flags that are right or believed.
 fn others(count: usize) -> impl Iterator<Item = Matcher<'static>> {
-    let four = [
+    let forms = [
         Pattern::Regex.matcher("x", false),
         equal("x*"),
         Pattern::NotRegex.matcher("(y|z)?", true),
         Pattern::Regex.matcher("[x]", true),
+        Pattern::NotRegex.matcher("(x", true),
     ];
-    four.into_iter().cycle().take(count)
+    forms.into_iter().cycle().take(count)
 }
 
 /// A pattern with the flag that it must not have.
@@ -106,19 +108,21 @@ impl Generator<'_> {
     }
 
     fn flagged_matchers(&mut self) -> Vec<Matcher<'static>> {
-        let count = match self.random.below(4) {
-            0 => self.random.between(1, 16),
+        let count = match self.random.below(8) {
+            0 => 16,
+            1 => self.random.between(1, 16),
             _ => self.random.between(1, 4),
         };
-        let mut matchers: Vec<_> = (0..count).map(|_| self.believed_matcher()).collect();
         let wrong = match self.random.below(10) {
             0..=3 => 0,
             4..=7 => 1,
-            _ => self.random.between(2, 16),
+            8 => self.random.between(1, count),
+            _ => count,
         };
+        let mut matchers: Vec<_> = (wrong..count).map(|_| self.believed_matcher()).collect();
         for _ in 0..wrong {
-            let place = self.random.below(count);
-            matchers[place] = self.wrong_matcher();
+            let place = self.random.between(0, matchers.len());
+            matchers.insert(place, self.wrong_matcher());
         }
         if self.random.chance(10) {
             let place = self.random.below(count);

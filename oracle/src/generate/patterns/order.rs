@@ -45,9 +45,11 @@ fn before_faults() -> impl Iterator<Item = Made> {
     })
 }
 
-/// Records before and after a selector with a wrong flag; the outcome.
+/// Records before and after a selector with a wrong flag; the number and the record of the outcome.
+type Around = (&'static str, &'static str, u8, usize);
+
 #[rustfmt::skip]
-const AROUND: &[(&str, &str, u8, usize)] = &[
+const AROUND: &[Around] = &[
     ("020000", "", 34, 0), ("02027570010008 5f5f6e616d655f5f0161", "", 33, 0), ("01016107", "", 6, 1),
     ("07", "", 2, 0), ("090100", "", 2, 0), ("0202757000 090100", "", 2, 1), ("63", "", 1, 0), ("0202396100", "", 4, 0),
     ("020011", "", 3, 0), ("0202757001 020161017900", "", WRONG_FLAG, 1), ("0202757000", "", WRONG_FLAG, 1),
@@ -57,11 +59,9 @@ const AROUND: &[(&str, &str, u8, usize)] = &[
     ("0202757000 08*255;", "", 3, 256), ("000001 010161 0202757000", "0501", WRONG_FLAG, 3),
 ];
 
-fn around() -> impl Iterator<Item = Made> {
-    AROUND.iter().map(|(before, after, number, record)| {
-        let page = hex::bytes(&format!("{before} {SELECTOR} {after}"));
-        refused(page, *number, *record)
-    })
+fn surrounded((before, after, number, record): &Around) -> Made {
+    let page = hex::bytes(&format!("{before} {SELECTOR} {after}"));
+    refused(page, *number, *record)
 }
 
 /// Selectors that 33 or 34 would refuse too; the name is `up` or none, the matchers stand in either order.
@@ -91,7 +91,7 @@ fn on_name() -> impl Iterator<Item = Made> {
 
 pub(super) fn fixed() -> impl Iterator<Item = Made> {
     before_faults()
-        .chain(around())
+        .chain(AROUND.iter().map(surrounded))
         .chain(before_other_rows())
         .chain(on_name())
 }
@@ -99,6 +99,9 @@ pub(super) fn fixed() -> impl Iterator<Item = Made> {
 impl Generator<'_> {
     /// A wrong flag and another fault: in a later matcher, in a record before, in one behind it.
     pub(super) fn flag_beside_fault(&mut self) -> Made {
+        if self.random.chance(10) {
+            return surrounded(self.random.pick(AROUND));
+        }
         let records = context(self, 2);
         let mut page = write::page(&records);
         let record = records.len();

@@ -1,12 +1,15 @@
 //! A library that answers by the oracle itself, whole or with one planted fault.
 
+pub mod flags;
 pub mod fraction_texts;
 pub mod fractions;
+pub mod patterns;
 pub mod straying;
 pub mod texts;
 
 use compare::library::Library;
 use oracle::answer::{self, Answer, Outcome};
+use oracle::covered;
 
 pub fn whole() -> Library {
     Library {
@@ -15,6 +18,7 @@ pub fn whole() -> Library {
         copy,
         canonical,
         split,
+        pattern,
     }
 }
 
@@ -85,6 +89,10 @@ extern "C" fn canonical(page: *const u8, length: usize, out: *mut u8, out_length
 extern "C" fn split(page: *const u8, length: usize, out: *mut u8, out_length: usize) -> u64 {
     let answer = answer(page, length);
     write(&answer, &answer.split, buffer(out, out_length))
+}
+
+extern "C" fn pattern(pattern: *const u8, length: usize) -> u64 {
+    covered::word(slice(pattern, length))
 }
 
 extern "C" fn check_late(page: *const u8, length: usize) -> u64 {

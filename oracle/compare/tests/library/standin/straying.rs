@@ -1,6 +1,6 @@
 //! Libraries that read or write where they must not: the machine stops them.
 
-use super::{check, copy, whole};
+use super::{check, copy, patterns, whole};
 use compare::library::Library;
 
 pub fn library(name: &str) -> Library {
@@ -22,15 +22,25 @@ pub fn library(name: &str) -> Library {
             copy: writes_page,
             ..whole
         },
+        "reads behind the pattern" => Library {
+            pattern: patterns::reads_behind,
+            ..whole
+        },
+        "writes to the pattern" => Library {
+            pattern: patterns::writes_pattern,
+            ..whole
+        },
         _ => panic!("no such library"),
     }
 }
 
-pub const ALL: [&str; 4] = [
+pub const ALL: [&str; 6] = [
     "reads behind the page",
     "reads before the page",
     "writes behind the buffer",
     "writes to the page",
+    "reads behind the pattern",
+    "writes to the pattern",
 ];
 
 extern "C" fn reads_behind(page: *const u8, length: usize) -> u64 {
