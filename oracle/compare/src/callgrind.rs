@@ -27,6 +27,25 @@ fn overhead(function: &str) -> Option<u64> {
 
 /// Runs the program with these words; only what it executes inside the function is counted.
 pub fn count(function: &str, program: &Path, words: &[&str]) -> Result<Profile, String> {
+    let written = watched(function, program, words, &[])?;
+    parse(&written, &program.to_string_lossy())
+        .map_err(|found| format!("{program:?} {words:?}: {found}"))
+}
+
+/// The instructions of each call of the function, in order, with all that it calls.
+pub fn count_each(function: &str, program: &Path, words: &[&str]) -> Result<Vec<u64>, String> {
+    let at_each = format!("--dump-after={function}");
+    let written = watched(function, program, words, &["--combine-dumps=yes", &at_each])?;
+    parse_each(&written).ok_or(format!("{program:?} {words:?}: the counts are missing"))
+}
+
+/// What callgrind writes of a program's run, with further words for callgrind.
+fn watched(
+    function: &str,
+    program: &Path,
+    words: &[&str],
+    further: &[&str],
+) -> Result<String, String> {
     let mut command = Command::new("valgrind");
     command
         .args([
@@ -36,18 +55,28 @@ pub fn count(function: &str, program: &Path, words: &[&str]) -> Result<Profile, 
         ])
         .args(["--compress-strings=no", "--compress-pos=no"])
         .arg(format!("--toggle-collect={function}"))
+        .args(further)
         .arg(program)
         .args(words);
     let output = command
         .output()
         .map_err(|error| format!("valgrind: {error}"))?;
-    let said = String::from_utf8_lossy(&output.stderr);
     if !output.status.success() {
+        let said = String::from_utf8_lossy(&output.stderr);
         return Err(format!("{command:?}: {}\n{said}", output.status));
     }
-    let written = String::from_utf8_lossy(&output.stdout);
-    parse(&written, &program.to_string_lossy())
-        .map_err(|words| format!("{command:?}: {words}\n{said}"))
+    Ok(String::from_utf8_lossy(&output.stdout).into_owned())
+}
+
+/// The totals of all parts but the last one, which is of the program's end and has counted nothing.
+pub fn parse_each(written: &str) -> Option<Vec<u64>> {
+    let totals = written
+        .lines()
+        .filter_map(|line| line.strip_prefix("totals: "));
+    let mut counts: Vec<u64> = totals
+        .map(|count| count.parse().ok())
+        .collect::<Option<_>>()?;
+    (counts.pop() == Some(0) && !counts.contains(&0)).then_some(counts)
 }
 
 /// The counts in what callgrind wrote. It is a fault if anything was executed outside the program's own file.

@@ -2,6 +2,7 @@
 //! archive has the same counts in every run.
 
 use crate::callgrind::{self, Profile};
+use crate::pattern_costs;
 use oracle::generate::fractions::fills;
 use oracle::generate::long_texts;
 use oracle::hex;
@@ -82,8 +83,11 @@ fn filled(name: &str) -> Option<Vec<u8>> {
     Some(fills::repeated(fills, 60))
 }
 
-/// The pages of a column: of so many records, the one with so many values, or the one with such fills.
+/// The pages of a column: of so many records, the one with so many patterns or values, or the one with such fills.
 pub fn pages(name: &str) -> Option<Vec<Vec<u8>>> {
+    if let Some(page) = pattern_costs::page(name) {
+        return Some(vec![page]);
+    }
     if let Some((count, length)) = name.split_once(" of ") {
         let page = long_texts::values(count.parse().ok()?, length.parse().ok()?);
         return Some(vec![page]);
@@ -136,7 +140,7 @@ fn line(first: &str, cells: impl Iterator<Item = String>) -> String {
 }
 
 /// The number with a comma before every three digits.
-fn grouped(number: u64) -> String {
+pub(crate) fn grouped(number: u64) -> String {
     match number {
         0..1000 => number.to_string(),
         _ => format!("{},{:03}", grouped(number / 1000), number % 1000),

@@ -1,11 +1,15 @@
-//! What libFuzzer runs on each input: the library's five calls on it as a page, held against the oracle as `compare` does.
+//! What libFuzzer runs on each input: the library's five calls on it as a page, and the call for patterns on it and on
+//! the values of its matchers, held against the oracle as `compare` does.
 
 #[cfg(feature = "planted")]
 mod planted;
 
 use compare::judge::Judge;
 use compare::library::Library;
-use oracle::{answer, hex};
+use compare::patterns::Asker;
+use oracle::answer::{self, Worked};
+use oracle::hex;
+use oracle::page::record::Record;
 use std::cell::RefCell;
 use std::ffi::c_int;
 
@@ -22,10 +26,25 @@ fn library() -> Library {
 fn compare(page: &[u8]) -> Result<(), String> {
     thread_local! {
         static JUDGE: RefCell<Judge> = RefCell::new(Judge::new(library(), SEED));
+        static ASKER: RefCell<Asker> = RefCell::new(Asker::new(library()));
     }
-    let answer = answer::answer(page)
+    let worked = answer::work(page)
         .map_err(|failure| format!("{}\npage: {}", failure.0, hex::text(page)))?;
-    JUDGE.with_borrow_mut(|judge| judge.compare(page, &answer))
+    let answer = answer::of_worked(&worked);
+    JUDGE.with_borrow_mut(|judge| judge.compare(page, &answer))?;
+    ASKER.with_borrow_mut(|asker| {
+        asker.compare(page)?;
+        values(&worked).try_for_each(|value| asker.compare(value))
+    })
+}
+
+/// The values of all matchers that were read.
+fn values<'w>(worked: &'w Worked) -> impl Iterator<Item = &'w [u8]> {
+    let matchers = worked.records.iter().flat_map(|record| match record {
+        Record::Selector { matchers, .. } => matchers.as_slice(),
+        _ => &[],
+    });
+    matchers.map(|matcher| matcher.value.text.as_bytes())
 }
 
 /// Ends the program at a difference, so that libFuzzer keeps the page.

@@ -2,17 +2,20 @@
 //!
 //!     instructions               prints the tables, and fails where a figure is more than 1 % above docs/SPEED.md
 //!     instructions fills         prints a table of pages with 120 fills, whole numbers and fractions
+//!     instructions patterns      prints tables of the call for patterns, and of check on sixteen patterns
 //!     instructions CALL PAGES    what valgrind runs: the call on each page of so many records, or on one with so many
-//!                                values or with such fills (`5`, `16 of 255`, `whole, 1 digit`), once
+//!                                values, patterns or such fills (`5`, `16 of 255`, `stars, 16 of 255`, `whole, 1
+//!                                digit`), once; the call for patterns on each of them (`families`, `short`)
 
-use compare::instructions;
+use compare::instructions::Set;
 use compare::library::Library;
+use compare::{instructions, pattern_costs};
 use std::arch::global_asm;
 use std::process::ExitCode;
 use std::{env, fs};
 
 const DOCUMENT: &str = concat!(env!("CARGO_MANIFEST_DIR"), "/../../docs/SPEED.md");
-const USAGE: &str = "usage: instructions [fills | CALL PAGES]";
+const USAGE: &str = "usage: instructions [fills | patterns | CALL PAGES]";
 
 /// Room for every text of the pages.
 const BUFFER_BYTES: usize = 1 << 16;
@@ -45,7 +48,9 @@ fn main() -> ExitCode {
     let words: Vec<&str> = arguments.iter().map(String::as_str).collect();
     let result = match words.as_slice() {
         [] => compare(),
-        ["fills"] => print_fills(),
+        ["fills"] => print_set(&instructions::FILLS),
+        ["patterns"] => print_patterns(),
+        ["pattern", patterns] => run_patterns(patterns),
         [call, pages] => run(call, pages),
         _ => Err(USAGE.into()),
     };
@@ -74,10 +79,28 @@ fn compare() -> Result<(), String> {
     Ok(())
 }
 
-fn print_fills() -> Result<(), String> {
+fn print_set(set: &Set) -> Result<(), String> {
     let program = env::current_exe().map_err(|error| error.to_string())?;
-    let columns = instructions::count(&instructions::FILLS, &program)?;
-    print!("{}", instructions::tables(&instructions::FILLS, &columns));
+    let columns = instructions::count(set, &program)?;
+    print!("{}", instructions::tables(set, &columns));
+    Ok(())
+}
+
+fn print_patterns() -> Result<(), String> {
+    let program = env::current_exe().map_err(|error| error.to_string())?;
+    println!("{}", pattern_costs::table(&program)?);
+    print_set(&pattern_costs::PAGES)
+}
+
+fn run_patterns(patterns: &str) -> Result<(), String> {
+    let library = Library::linked();
+    for pattern in pattern_costs::patterns(patterns).ok_or(USAGE)? {
+        // SAFETY: the pattern is a slice.
+        let word = unsafe { (library.pattern)(pattern.as_ptr(), pattern.len()) };
+        if word > 2 {
+            return Err(format!("{patterns}: the word {word:#x}"));
+        }
+    }
     Ok(())
 }
 

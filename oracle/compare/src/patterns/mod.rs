@@ -8,6 +8,7 @@ mod nests;
 mod random;
 
 pub use asker::Asker;
+pub use listed::{every, signs_below};
 
 use crate::library::Library;
 use std::sync::atomic::{AtomicBool, AtomicU64, Ordering};
