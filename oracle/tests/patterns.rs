@@ -1,37 +1,14 @@
-//! Patterns and their flags (document 02, No. 7): two ways of telling which patterns are covered agree, every covered
-//! one is taken by the Rust's regex, what is generated has the outcome that it was made for, and the sentences of the
-//! request are true of the oracle's answers.
+//! Patterns (document 02, No. 7): two ways of telling which are covered agree, and every covered one is taken by the
+//! Rust's regex.
 
-use oracle::answer::{self, Answer, Domain, Outcome};
 use oracle::covered;
-use oracle::generate::patterns::{self, full, near_misses::near_miss, spelling};
-use oracle::generate::{damaged, good, Made, Scope};
-use oracle::hex;
-use oracle::page::record::{Matcher, Operation, Record};
-use oracle::page::write;
+use oracle::generate::damaged;
+use oracle::generate::patterns::{full, near_misses::near_miss, spelling};
 use oracle::random::Random;
-use oracle::tree::{self, Pattern};
+use oracle::tree;
 use oracle::uncovered::{is_foreign, Found, Uncovered};
 
 const SIGNS: &[u8; 8] = b"a.|()*+?";
-
-fn answer(page: &[u8]) -> Answer {
-    answer::answer(page).expect("the Rust is foreseen")
-}
-
-fn assert_made(made: &Made) {
-    let page = &made.page;
-    assert_eq!(answer(page).outcome, made.expected, "{}", hex::text(page));
-}
-
-#[test]
-fn generated_patterns_have_their_outcome() {
-    let random = &mut Random::new(10);
-    patterns::fixed().for_each(|made| assert_made(&made));
-    for _ in 0..20_000 {
-        assert_made(&patterns::random(random));
-    }
-}
 
 /// Both ways agree, and the Rust's regex takes what is covered; whether it is.
 fn is_covered(pattern: &str) -> bool {
@@ -167,90 +144,4 @@ fn longer_patterns_have_the_word_2() {
         [254, 255, 256].map(|length| covered::word(&vec![b'|'; length])),
         [1, 1, 2]
     );
-}
-
-/// The page with the flag of one matcher turned.
-fn turned<'r>(records: &[Record<'r>], record: usize, place: usize) -> Vec<u8> {
-    let mut records = records.to_vec();
-    if let Record::Selector { matchers, .. } = &mut records[record] {
-        match &mut matchers[place].operation {
-            Operation::Regex(flag) | Operation::NotRegex(flag) => *flag = !*flag,
-            Operation::Equal | Operation::NotEqual => {}
-        }
-    }
-    write::page(&records)
-}
-
-fn matchers<'r, 'a>(record: &'r Record<'a>) -> &'r [Matcher<'a>] {
-    match record {
-        Record::Selector { matchers, .. } => matchers,
-        _ => &[],
-    }
-}
-
-/// "The flag must be 1 when, and only when, empty text is in the pattern's language": in an accepted page the flag of a
-/// covered pattern is true, and turned it is 41 at its record. "Any other pattern keeps its flag untested": never 41.
-#[test]
-fn turned_flags_are_refused_where_the_pattern_is_covered() {
-    let random = &mut Random::new(13);
-    let mut counts = [0; 2];
-    for _ in 0..2_000 {
-        let (page, _) = good(random, Scope::Patterns, 6);
-        let worked = answer::work(&page).expect("the Rust is foreseen");
-        for (index, record) in worked.records.iter().enumerate() {
-            for (place, matcher) in matchers(record).iter().enumerate() {
-                let Some(flag) = matcher.operation.flag() else {
-                    continue;
-                };
-                let truth = covered::matches_empty(matcher.value.text.as_bytes());
-                assert!(truth.is_none_or(|truth| truth == flag));
-                let answer = answer(&turned(&worked.records, index, place));
-                let wrong = Outcome::Refused {
-                    number: 41,
-                    record: index,
-                };
-                assert_eq!(
-                    answer.outcome == wrong,
-                    truth.is_some(),
-                    "{}",
-                    hex::text(&page)
-                );
-                counts[usize::from(truth.is_some())] += 1;
-            }
-        }
-    }
-    assert!(counts.iter().all(|count| *count > 500), "{counts:?}");
-}
-
-/// Pages with a wrong flag are inside the compared domain; those with an untrue flag of another pattern are not.
-#[test]
-fn wrong_flags_are_inside_the_domain() {
-    for (page, pattern, domain) in [
-        (
-            "0202757001 0201610178 01",
-            Pattern::FlagWrong,
-            Domain::Inside,
-        ),
-        (
-            "0202757001 0201610178 00",
-            Pattern::FlagTrue,
-            Domain::Inside,
-        ),
-        (
-            "0202757001 020161035b785d 01",
-            Pattern::FlagUntrue,
-            Domain::FlagUntrue,
-        ),
-        (
-            "0202757001 020161022861 01",
-            Pattern::NotTaken,
-            Domain::PatternNotTaken,
-        ),
-    ] {
-        let page = hex::bytes(page);
-        let worked = answer::work(&page).expect("the Rust is foreseen");
-        assert_eq!(tree::pattern(&matchers(&worked.records[0])[0]), pattern);
-        assert_eq!(worked.domain, domain);
-        assert_eq!(worked.message, None);
-    }
 }

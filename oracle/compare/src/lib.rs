@@ -4,8 +4,8 @@
 //! answers and what it writes, `run` goes over generated pages in several threads, `resume` over many of them with
 //! stops, `short_texts` over all short texts, `fractions` over many fractions, `patterns` over all short patterns and
 //! many others, `bench` measures, with `ends` as its floor, `beside` measures two archives in one run, `instructions`
-//! counts on fixed pages and `pattern_costs` on patterns, with `callgrind`. `text_test` runs and times the test of texts
-//! by itself.
+//! counts on fixed pages and `pattern_costs` on patterns, with `callgrind`. `text_test` runs and times the test of
+//! texts by itself.
 
 pub mod bench;
 pub mod beside;

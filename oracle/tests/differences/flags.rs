@@ -53,7 +53,7 @@ fn entry_10_patterns_that_keep_their_flag() {
     }
 }
 
-/// The counts of the document.
+/// The counts of the document, and that the regex takes each.
 #[test]
 fn entry_10_short_patterns_that_are_covered() {
     let signs: [char; 8] = ['a', '.', '|', '(', ')', '*', '+', '?'];
@@ -63,7 +63,10 @@ fn entry_10_short_patterns_that_are_covered() {
             let sign = |place: usize| signs[number >> (3 * place) & 7];
             let pattern: String = (0..length).map(sign).collect();
             patterns += 1;
-            covered += usize::from(covered::is_covered(&pattern));
+            if covered::is_covered(&pattern) {
+                covered += 1;
+                assert!(tree::matches_empty(&pattern).is_some(), "{pattern}");
+            }
         }
     }
     assert_eq!((patterns, covered), (2_396_745, 68_628));

@@ -1,5 +1,5 @@
-//! Nests of every depth that fill 255 bytes, whole and with a bracket too few or too many; runs of 254 to 300 bytes, and
-//! far longer ones.
+//! Nests of every depth that fill 255 bytes, whole and with a bracket too few or too many; runs of 254 to 300 bytes,
+//! and far longer ones.
 
 use super::{Asker, Count};
 use oracle::generate::patterns::full;

@@ -69,12 +69,15 @@ fn several() -> impl Iterator<Item = Made> {
 
 /// Without a name, where the flag decides about 34 too.
 fn unnamed() -> impl Iterator<Item = Made> {
-    let patterns = Pattern::BOTH.into_iter().flat_map(|operation| {
-        ["x", "x*", "", "[x]"].map(|pattern| [false, true].map(|f| operation.matcher(pattern, f)))
-    });
-    patterns
-        .flatten()
-        .map(|matcher| after(Records::new(), "", vec![matcher]))
+    let patterns = ["x", "x*", "", "[x]"].into_iter();
+    let operations =
+        patterns.flat_map(|pattern| Pattern::BOTH.map(|operation| (pattern, operation)));
+    operations.flat_map(|(pattern, operation)| {
+        [false, true].map(|flag| {
+            let matcher = operation.matcher(pattern, flag);
+            after(Records::new(), "", vec![matcher])
+        })
+    })
 }
 
 pub(super) fn fixed() -> impl Iterator<Item = Made> {

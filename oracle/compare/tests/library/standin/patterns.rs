@@ -52,7 +52,8 @@ const FAULTS: [(Fault, &str); 15] = [
     (Fault::Shallow, "nothing covered below a hundred brackets"),
 ];
 
-/// Reads a pattern as it must be read, but for the fault: whether it matches empty text, or nothing if it is not covered.
+/// Reads a pattern as it must be read, but for the fault: whether it matches empty text, or nothing if it is not
+/// covered.
 struct Reader<'a> {
     rest: &'a [u8],
     fault: Fault,
