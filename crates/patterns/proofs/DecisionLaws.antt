@@ -81,14 +81,18 @@ unique-choice c d r t h k e =
 pub writeChoice-one : (c d : Choice) → writeChoice c ≡ writeChoice d → c ≡ d
 writeChoice-one c d e = unique-choice c d [] [] tt tt (append-nil (writeChoice c) ∙ e ∙ sym (append-nil (writeChoice d))) .0
 
+-- ## readChoice
+
+pub readChoice-written : (c : Choice) → readChoice (3 * length (writeChoice c) + 3) (writeChoice c) ≡ found c []
+readChoice-written c =
+    let depth : ℕ = 3 * length (writeChoice c) + 3 in
+    ap (readChoice depth) (sym (append-nil (writeChoice c))) ∙ complete-choice c [] depth tt (omega (arith, bound-choice c))
+
 -- ## matchesEmptyText
 
 pub matchesEmptyText-written : (c : Choice) → matchesEmptyText (writeChoice c) ≡ some (emptyChoice c)
 unfolding matchesEmptyText
-matchesEmptyText-written c =
-    let depth : ℕ = 3 * length (writeChoice c) + 3 in
-    ap whole (ap (readChoice depth) (sym (append-nil (writeChoice c)))
-    ∙ complete-choice c [] depth tt (omega (arith, bound-choice c)))
+matchesEmptyText-written c = ap whole (readChoice-written c)
 
 pub matchesEmptyText-tree : (p : List ℕ) (b : Bool) → matchesEmptyText p ≡ some b
     → (c : Choice) × (writeChoice c ≡ p) × (emptyChoice c ≡ b)

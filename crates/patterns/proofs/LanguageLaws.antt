@@ -12,16 +12,16 @@ use Rattle.patterns.specs.Search.{emptyRepeated, emptyChoice, emptySeque
 
 -- ## Tests
 
-or-in : {A B : Type 0} (a b : Bool) → (T a → A) → (T b → B) → T (a || b) → A ⊎ B
+pub or-in : {A B : Type 0} (a b : Bool) → (T a → A) → (T b → B) → T (a || b) → A ⊎ B
 or-in true b f g h = inl (f tt)
 or-in false b f g h = inr (g h)
 
-or-out : {A B : Type 0} (a b : Bool) → (A → T a) → (B → T b) → A ⊎ B → T (a || b)
+pub or-out : {A B : Type 0} (a b : Bool) → (A → T a) → (B → T b) → A ⊎ B → T (a || b)
 or-out true b f g h = tt
 or-out false b f g (inl x) = absurd (f x)
 or-out false b f g (inr y) = g y
 
-and-both : (a b : Bool) → T a → T b → T (a && b)
+pub and-both : (a b : Bool) → T a → T b → T (a && b)
 and-both true b h k = k
 and-both false b h k = absurd h
 

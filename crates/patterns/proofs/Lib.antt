@@ -4,3 +4,5 @@ pub mod SearchLaws
 pub mod DecisionLaws
 pub mod PartLaws
 pub mod ItemsLaws
+pub mod AcceptsLaws
+pub mod LanguageExamplesLaws

@@ -26,7 +26,7 @@ full p = is p (some false)
 abbrev uncovered : String → Example
 uncovered p = is p none
 
-abbrev same : Option Bool → Option Bool → Bool
+abbrev pub same : Option Bool → Option Bool → Bool
 same none none = true
 same none (some b) = false
 same (some a) none = false

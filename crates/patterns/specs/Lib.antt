@@ -4,3 +4,5 @@ pub mod Tree
 pub mod Search
 pub mod Answers
 pub mod EmptyTextExamples
+pub mod Accepts
+pub mod LanguageExamples
