@@ -1,23 +1,22 @@
 -- `matchesEmptyText` against the language: it answers for the covered patterns alone, and true where empty text is in
 -- the language alone. A pattern is written from at most one tree, since the search finds every tree that is written.
 -- Assumes nothing.
-use Prim.Native.Nat.{ℕ, zero, suc, _+_, _*_, _≤_}
+use Prim.Native.Nat.{ℕ, suc, _+_, _*_, _≤_}
 use mathlib.Core.Path.{_≡_, refl, sym, ap, subst, _∙_}
-use mathlib.Core.Bool.{Bool, true, false}
+use mathlib.Core.Bool.{Bool}
 use mathlib.Core.Logic.{_↔_}
-use mathlib.Core.List.{List, [], _∷_, _++_, append-assoc, append-nil}
+use mathlib.Core.List.{List, [], _∷_, _++_, append-nil}
 use mathlib.Core.Option.{Option, none, some}
 use native.Mathlib.Omega.{arith}
 use lib.ListN.{length, length-append}
 use lib.Dec.{T}
-use Rattle.patterns.specs.Pattern.{isSingle, Repeat, once, star, plus, optional, Choice, last, or, Sequence, done}
+use Rattle.patterns.specs.Pattern.{Choice, last, or, Sequence, done}
 use Rattle.patterns.specs.Pattern.{then, Item, single, any, group, writeRepeat, writeChoice, writeSequence}
 use Rattle.patterns.specs.Pattern.{writeItem, Covered}
 use Rattle.patterns.specs.Language.{Matches}
 use Rattle.patterns.specs.Search.{Found, missing, found, readChoice, readSequence, readItem, emptyChoice, whole, matchesEmptyText}
 use Rattle.patterns.specs.Tree.{endsSequence, endsChoice, repeatOf, takesAll}
-use Rattle.patterns.proofs.TreeLaws.{T-true, true-T}
-use Rattle.patterns.proofs.LanguageLaws.{choice-in, choice-out}
+use Rattle.patterns.proofs.LanguageLaws.{emptyChoice-language}
 use Rattle.patterns.proofs.SearchLaws.{depthChoice, depthSequence, depthItem, complete-choice, complete-sequence, complete-item, sound-choice}
 
 -- ## Three calls for each byte are enough
@@ -135,10 +134,11 @@ matchesEmptyText-language p b e = (there, back)
     there : T b → Matches p []
     there h =
         let tree = matchesEmptyText-tree p b e in
-        (tree .0, tree .1, choice-in (tree .0) (subst (λ (x : Bool). T x) (sym (tree .2)) h))
+        (tree .0, tree .1, emptyChoice-language (tree .0) .0 (subst T (sym (tree .2)) h))
 
     back : Matches p [] → T b
     back m =
-        let found : some (emptyChoice (m .0)) ≡ some b = sym (matchesEmptyText-written (m .0)) ∙ ap matchesEmptyText (m .1) ∙ e in
+        let answered : some (emptyChoice (m .0)) ≡ some b =
+        sym (matchesEmptyText-written (m .0)) ∙ ap matchesEmptyText (m .1) ∙ e in
         let same : emptyChoice (m .0) ≡ b = cc in
-        subst (λ (x : Bool). T x) same (choice-out (m .0) (m .2))
+        subst T same (emptyChoice-language (m .0) .1 (m .2))

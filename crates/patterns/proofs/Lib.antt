@@ -2,7 +2,8 @@ pub mod LanguageLaws
 pub mod TreeLaws
 pub mod SearchLaws
 pub mod DecisionLaws
-pub mod PartLaws
-pub mod ItemsLaws
+pub mod ItemLaws
+pub mod SequenceLaws
+pub mod ChoiceLaws
 pub mod AcceptsLaws
 pub mod LanguageExamplesLaws

@@ -1,11 +1,10 @@
 -- The search finds a tree exactly where the pattern is one written: it finds every tree that is written (`complete-`), with enough depth, and
 -- what it finds is written (`sound-`). So a pattern is the writing of at most one tree. Assumes nothing.
-use Prim.Native.Nat.{ℕ, zero, suc, _+_, _*_, _≤_}
-use mathlib.Core.Path.{_≡_, refl, sym, ap, subst, _∙_}
+use Prim.Native.Nat.{ℕ, zero, suc, _+_, _≤_}
+use mathlib.Core.Path.{_≡_, refl, sym, ap, _∙_}
 use mathlib.Core.Bool.{Bool, true, false, _||_, not}
 use mathlib.Core.List.{List, [], _∷_, _++_, append-assoc}
 use native.Mathlib.Omega.{arith}
-use lib.ListN.{length, length-append}
 use lib.Dec.{T, eqb, eqb→eq}
 use Rattle.page.specs.Bytes.{pick}
 use Rattle.patterns.specs.Pattern.{isSingle, Repeat, once, star, plus, optional, Choice, last, or, Sequence, done}
@@ -13,8 +12,8 @@ use Rattle.patterns.specs.Pattern.{then, Item, single, any, group, write
 use Rattle.patterns.specs.Pattern.{writeItem}
 use Rattle.patterns.specs.Search.{Found, missing, found, ofTest, repeated, closed, following, items, another}
 use Rattle.patterns.specs.Search.{alternatives, readChoice, readSequence, readItem}
-use Rattle.patterns.specs.Tree.{endsSequence, endsChoice, isRepeat, beginsWithRepeat, repeatOf, takesAll}
-use Rattle.patterns.proofs.TreeLaws.{T-true, true-T, not-both, apart, fails-at-two, choice-ends-sequence, item-stays, sequence-plain, plain-takes}
+use Rattle.patterns.specs.Tree.{endsSequence, endsChoice, isRepeat, repeatOf, takesAll}
+use Rattle.patterns.proofs.TreeLaws.{true-T, apart, choice-ends-sequence, item-stays, sequence-plain, plain-takes}
 
 -- ## How deep the calls go
 

@@ -5,10 +5,10 @@ use mathlib.Core.Bool.{Bool, true, false, _||_, not}
 use mathlib.Core.List.{List, [], _∷_, _++_}
 use native.Mathlib.Omega.{arith}
 use lib.Dec.{T, eqb, eqb→eq}
-use Rattle.patterns.specs.Pattern.{isSingle, Repeat, once, star, plus, optional, Choice, last, or, Sequence, done}
-use Rattle.patterns.specs.Pattern.{then, Item, single, any, group, writeRepeat, writeChoice, writeSequence}
+use Rattle.patterns.specs.Pattern.{isSingle, Repeat, once, star, plus, optional, Sequence, done}
+use Rattle.patterns.specs.Pattern.{then, Item, single, any, group, writeRepeat, writeSequence}
 use Rattle.patterns.specs.Pattern.{writeItem}
-use Rattle.patterns.specs.Tree.{endsSequence, endsChoice, isRepeat, beginsWithRepeat, repeatOf, takesAll}
+use Rattle.patterns.specs.Tree.{endsSequence, endsChoice, isRepeat, beginsWithRepeat, takesAll}
 
 -- ## Tests
 

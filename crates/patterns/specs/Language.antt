@@ -6,6 +6,7 @@ use mathlib.Core.Bool.{Bool, _&&_, not}
 use mathlib.Core.Logic.{_⊎_}
 use mathlib.Core.List.{List, [], _∷_, _++_, flatten}
 use lib.Dec.{T, eqb}
+use Rattle.page.specs.Allowed.{Each}
 use Rattle.page.specs.Encoding.{isScalar}
 use Rattle.patterns.specs.Pattern.{Repeat, once, star, plus, optional, Choice, last, or, Sequence, done, then}
 use Rattle.patterns.specs.Pattern.{Item, single, any, group, writeChoice}
@@ -13,11 +14,6 @@ use Rattle.patterns.specs.Pattern.{Item, single, any, group, writeChoice
 -- characters by their numbers
 abbrev pub Characters : Type 0
 Characters = List ℕ
-
--- each of these texts is in the language
-abbrev pub Each : (Characters → Type 0) → List Characters → Type 0
-Each L [] = Unit {0}
-Each L (t ∷ ts) = L t × Each L ts
 
 -- the text of this one character
 abbrev pub Just : ℕ → Characters → Type 0

@@ -1,15 +1,13 @@
--- The proof of the cycle {choice, item, sequence}. The measures:
--- three for each byte that is left, and the level: 2 for a
--- choice, 1 for a sequence, 0 for an item. The loop's invariant
--- and its laws stand in `ItemsLaws`, one law for each other
--- way out in `PartLaws`. Assumes nothing.
+-- The proof of the cycle {choice, item, sequence}. The measures: three for each byte that is left, and the level: 2 for a
+-- choice, 1 for a sequence, 0 for an item. The loop's invariant and its laws stand in `SequenceLaws`, one law for each
+-- way out of the other two in `ChoiceLaws` and `ItemLaws`. Assumes nothing.
 use Prim.Native.Nat.{_+_, _-_, _*_}
 use lib.ListN.{length}
 use native.Mathlib.Omega.{arith}
-use Rattle.patterns.proofs.PartLaws.{choice-none, choice-end, choice-closed, choice-more, choice-no-more}
-use Rattle.patterns.proofs.PartLaws.{item-none, item-no-group, item-unclosed, item-group, item-any, item-single}
-use Rattle.patterns.proofs.PartLaws.{item-other}
-use Rattle.patterns.proofs.ItemsLaws.{ItemsSoFar, items-begin, items-more, items-end, items-stop, items-none}
+use Rattle.patterns.proofs.ItemLaws.{item-none, item-no-group, item-unclosed, item-group, item-any, item-single}
+use Rattle.patterns.proofs.ItemLaws.{item-other}
+use Rattle.patterns.proofs.SequenceLaws.{ItemsSoFar, items-begin, items-more, items-end, items-stop, items-none}
+use Rattle.patterns.proofs.ChoiceLaws.{choice-none, choice-end, choice-closed, choice-more, choice-no-more}
 use borrow.Author.Needs.{needs}
 use Prim.Native.Nat.{ℕ, _<_}
 use borrow.Fn.Kinds.{In}

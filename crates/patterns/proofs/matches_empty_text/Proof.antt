@@ -1,5 +1,5 @@
 -- `patterns::matches_empty_text` meets its contract: what `choice` finds is the whole pattern, or not. Assumes nothing.
-use Rattle.patterns.proofs.PartLaws.{whole-none, whole-covered, whole-longer}
+use Rattle.patterns.proofs.ChoiceLaws.{whole-none, whole-covered, whole-longer}
 use borrow.Author.Needs.{needs}
 use Rattle.patterns.proofs.matches_empty_text.Statement.{statement}
 use Rattle.patterns.proofs.matches_empty_text.Tie as tie

@@ -1,6 +1,6 @@
 -- `patterns::repeated` meets its contract: a law for each kind of byte. Assumes nothing.
 use mathlib.Core.Logic.{inl, inr}
-use Rattle.patterns.proofs.PartLaws.{repeat-end, repeat-empty, repeat-plus, repeat-none}
+use Rattle.patterns.proofs.ItemLaws.{repeat-end, repeat-empty, repeat-plus, repeat-none}
 use borrow.Author.Needs.{needs}
 use Rattle.patterns.proofs.repeated.Statement.{statement}
 use Rattle.patterns.proofs.repeated.Tie as tie
