@@ -12,7 +12,7 @@
 #define STACK_BYTES (1 << 20)
 #define TEXT_BYTES (1 << 18)
 #define PAINT 0xa5
-#define MOST_PAGES 8192
+#define MOST_PAGES 32768
 
 typedef sandzguli_outcome call(const uint8_t *page, size_t page_len, uint8_t *out, size_t out_len);
 
