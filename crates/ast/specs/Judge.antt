@@ -1,5 +1,5 @@
 -- The refusal table on operands: what a record makes of its operands. Constructors (refusals 6 to 15) and checks (16 to
--- 34) of one record stand together; the rows are those of `CheckAst`. That this is what the trees do is proved in
+-- 34, and 41) of one record stand together; the rows are those of `CheckAst`. That this is what the trees do is proved in
 -- proofs/OperandLaws.
 use Prim.Native.Nat.{ℕ}
 use mathlib.Core.Bool.{Bool, true, false, _&&_, _||_, not}

@@ -16,8 +16,8 @@ use Rattle.patterns.specs.Pattern.{writeItem}
 use Rattle.patterns.specs.Search.{emptyRepeated}
 use Rattle.patterns.specs.Tree.{endsChoice, beginsWithRepeat, takesAll}
 use Rattle.patterns.specs.Answers.{ChoiceFound, NoChoice, NoItem, ItemAt, RepeatFound, RepeatAt}
-use Rattle.patterns.specs.declared.Part.{Part}
-use Rattle.patterns.specs.declared.Part.the-variants.{Got, Bad}
+use Rattle.patterns.specs.declared.PatternPart.{PatternPart}
+use Rattle.patterns.specs.declared.PatternPart.the-variants.{Got, Bad}
 use Rattle.patterns.proofs.TreeLaws.{T-true, true-T, not-both, plain-takes}
 use Rattle.patterns.proofs.DecisionLaws.{unique-choice}
 
@@ -122,7 +122,7 @@ module _ (p : List ℕ) (at : ℕ) where
           let y = past p next l in
           let z : _≡_ {A = ℕ} 0 1 = cc in omega arith
 
-      pub item-group : (e : Bool) (next : ℕ) → ChoiceFound p (at + 1) e next → next < length p → (r : Part) → RepeatAt p (next + 1) e r → ItemAt p at r
+      pub item-group : (e : Bool) (next : ℕ) → ChoiceFound p (at + 1) e next → next < length p → (r : PatternPart) → RepeatAt p (next + 1) e r → ItemAt p at r
       item-group e next d l (Got f end) r =
           record {
             tree = group (d .tree) (r .tree);
@@ -144,7 +144,7 @@ module _ (p : List ℕ) (at : ℕ) where
               ∙ ap (λ (x : List ℕ). writeChoice (d .tree) ++ x) (sym (front p next l)) ∙ d .written
       item-group e next d l Bad r = absurd r
 
-    pub item-any : getD p at 0 ≡ 46 → (r : Part) → RepeatAt p (at + 1) false r → ItemAt p at r
+    pub item-any : getD p at 0 ≡ 46 → (r : PatternPart) → RepeatAt p (at + 1) false r → ItemAt p at r
     item-any e (Got f end) r =
         record {
           tree = any (r .tree);
@@ -157,7 +157,7 @@ module _ (p : List ℕ) (at : ℕ) where
         }
     item-any e Bad r = absurd r
 
-    pub item-single : (t : Bool) → t ≡ isSingle (getD p at 0) → t ≡ true → (r : Part) → RepeatAt p (at + 1) false r → ItemAt p at r
+    pub item-single : (t : Bool) → t ≡ isSingle (getD p at 0) → t ≡ true → (r : PatternPart) → RepeatAt p (at + 1) false r → ItemAt p at r
     item-single t e k (Got f end) r =
         record {
           tree = single (getD p at 0) (true-T (isSingle (getD p at 0)) (sym e ∙ k)) (r .tree);

@@ -10,8 +10,8 @@ use lib.Dec.{T}
 use Rattle.patterns.specs.Pattern.{Repeat, Choice, Sequence, Item, writeRepeat, writeChoice, writeSequence, writeItem}
 use Rattle.patterns.specs.Search.{emptyRepeated, emptyChoice, emptySequence, emptyItem}
 use Rattle.patterns.specs.Tree.{endsSequence, endsChoice, repeatOf, takesAll}
-use Rattle.patterns.specs.declared.Part.{Part}
-use Rattle.patterns.specs.declared.Part.the-variants.{Got, Bad}
+use Rattle.patterns.specs.declared.PatternPart.{PatternPart}
+use Rattle.patterns.specs.declared.PatternPart.the-variants.{Got, Bad}
 use Rattle.patterns.specs.declared.EmptyText.{EmptyText}
 use Rattle.patterns.specs.declared.EmptyText.the-variants as empty-text
 
@@ -28,7 +28,7 @@ pub record ChoiceFound (p : List ℕ) (at : ℕ) (e : Bool) (next : ℕ) : Type 
 abbrev pub NoChoice : List ℕ → Type 0
 NoChoice s = (c : Choice) (rest : List ℕ) → T (endsChoice rest) → writeChoice c ++ rest ≡ s → ⊥
 
-abbrev pub ChoiceAt : List ℕ → ℕ → Part → Type 0
+abbrev pub ChoiceAt : List ℕ → ℕ → PatternPart → Type 0
 ChoiceAt p at (Got e next) = ChoiceFound p at e next
 ChoiceAt p at Bad = NoChoice (drop at p)
 
@@ -45,7 +45,7 @@ pub record SequenceFound (p : List ℕ) (at : ℕ) (e : Bool) (next : ℕ) : Typ
 abbrev pub NoSequence : List ℕ → Type 0
 NoSequence s = (q : Sequence) (rest : List ℕ) → T (endsSequence rest) → writeSequence q ++ rest ≡ s → ⊥
 
-abbrev pub SequenceAt : List ℕ → ℕ → Part → Type 0
+abbrev pub SequenceAt : List ℕ → ℕ → PatternPart → Type 0
 SequenceAt p at (Got e next) = SequenceFound p at e next
 SequenceAt p at Bad = NoSequence (drop at p)
 
@@ -62,7 +62,7 @@ pub record ItemFound (p : List ℕ) (at : ℕ) (e : Bool) (next : ℕ) : Type 0 
 abbrev pub NoItem : List ℕ → Type 0
 NoItem s = (i : Item) (rest : List ℕ) → T (takesAll (repeatOf i) rest) → writeItem i ++ rest ≡ s → ⊥
 
-abbrev pub ItemAt : List ℕ → ℕ → Part → Type 0
+abbrev pub ItemAt : List ℕ → ℕ → PatternPart → Type 0
 ItemAt p at (Got e next) = ItemFound p at e next
 ItemAt p at Bad = NoItem (drop at p)
 
@@ -75,7 +75,7 @@ pub record RepeatFound (p : List ℕ) (at : ℕ) (b e : Bool) (next : ℕ) : Typ
   pub low : at ≤ next
   pub high : next ≤ length p
 
-abbrev pub RepeatAt : List ℕ → ℕ → Bool → Part → Type 0
+abbrev pub RepeatAt : List ℕ → ℕ → Bool → PatternPart → Type 0
 RepeatAt p at b (Got e next) = RepeatFound p at b e next
 RepeatAt p at b Bad = ⊥
 

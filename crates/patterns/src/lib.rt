@@ -8,8 +8,8 @@ ghost use Rattle.patterns.specs.Pattern.{isSingle};
 ghost use Rattle.patterns.specs.Search.{matchesEmptyText};
 ghost use Rattle.patterns.specs.Answers.{ChoiceAt, SequenceAt, ItemAt, RepeatAt, emptyTextOf};
 
-// What stands at a position: whether empty text is in its language, and the position after it.
-pub enum Part {
+// What stands at a position of a pattern: whether empty text is in its language, and the position after it.
+pub enum PatternPart {
     Got { empty: bool, next: usize },
     Bad,
 }
@@ -22,44 +22,44 @@ fn is_single(b: u8) -> bool
 }
 
 // What an item becomes with the `*`, `+` or `?` after it, if there is one.
-fn repeated(pattern: &[u8], at: usize, empty: bool) -> Part
+fn repeated(pattern: &[u8], at: usize, empty: bool) -> PatternPart
     requires { ⌜ at ≤ length (now pattern) ⌝ }
     ensures { λ r. ⌜ RepeatAt (now (pattern .entry)) at empty r ⌝ }
 {
     if pattern.len() <= at {
-        return Part::Got { empty, next: at };
+        return PatternPart::Got { empty, next: at };
     }
     match pattern[at] {
-        b'*' | b'?' => Part::Got {
+        b'*' | b'?' => PatternPart::Got {
             empty: true,
             next: at + 1,
         },
-        b'+' => Part::Got {
+        b'+' => PatternPart::Got {
             empty,
             next: at + 1,
         },
-        _ => Part::Got { empty, next: at },
+        _ => PatternPart::Got { empty, next: at },
     }
 }
 
 // One byte or a choice in brackets, and what repeats it.
-fn item(pattern: &[u8], at: usize) -> Part
+fn item(pattern: &[u8], at: usize) -> PatternPart
     requires { ⌜ at ≤ length (now pattern) ⌝ }
     ensures { λ r. ⌜ ItemAt (now (pattern .entry)) at r ⌝ }
 {
     if pattern.len() <= at {
-        return Part::Bad;
+        return PatternPart::Bad;
     }
     let b = pattern[at];
     if b == b'(' {
         return match choice(pattern, at + 1) {
-            Part::Got { empty, next } => {
+            PatternPart::Got { empty, next } => {
                 if pattern.len() <= next {
-                    return Part::Bad;
+                    return PatternPart::Bad;
                 }
                 repeated(pattern, next + 1, empty)
             }
-            Part::Bad => Part::Bad,
+            PatternPart::Bad => PatternPart::Bad,
         };
     }
     if b == b'.' {
@@ -68,11 +68,11 @@ fn item(pattern: &[u8], at: usize) -> Part
     if is_single(b) {
         return repeated(pattern, at + 1, false);
     }
-    Part::Bad
+    PatternPart::Bad
 }
 
 // Items one after the other, to the pattern's end, a `|` or a `)`.
-fn sequence(pattern: &[u8], at: usize) -> Part
+fn sequence(pattern: &[u8], at: usize) -> PatternPart
     requires { ⌜ at ≤ length (now pattern) ⌝ }
     ensures { λ r. ⌜ SequenceAt (now (pattern .entry)) at r ⌝ }
 {
@@ -81,46 +81,46 @@ fn sequence(pattern: &[u8], at: usize) -> Part
     while here < pattern.len() {
         let b = pattern[here];
         if (b == b'|') | (b == b')') {
-            return Part::Got { empty, next: here };
+            return PatternPart::Got { empty, next: here };
         }
         match item(pattern, here) {
-            Part::Got { empty: one, next } => {
+            PatternPart::Got { empty: one, next } => {
                 empty = empty & one;
                 here = next;
             }
-            Part::Bad => {
-                return Part::Bad;
+            PatternPart::Bad => {
+                return PatternPart::Bad;
             }
         }
     }
-    Part::Got { empty, next: here }
+    PatternPart::Got { empty, next: here }
 }
 
 // Sequences with `|` between them, to the pattern's end or a `)`.
-fn choice(pattern: &[u8], at: usize) -> Part
+fn choice(pattern: &[u8], at: usize) -> PatternPart
     requires { ⌜ at ≤ length (now pattern) ⌝ }
     ensures { λ r. ⌜ ChoiceAt (now (pattern .entry)) at r ⌝ }
 {
     match sequence(pattern, at) {
-        Part::Got { empty: first, next } => {
+        PatternPart::Got { empty: first, next } => {
             if pattern.len() <= next {
-                return Part::Got { empty: first, next };
+                return PatternPart::Got { empty: first, next };
             }
             if pattern[next] == b')' {
-                return Part::Got { empty: first, next };
+                return PatternPart::Got { empty: first, next };
             }
             match choice(pattern, next + 1) {
-                Part::Got {
+                PatternPart::Got {
                     empty: rest,
                     next: end,
-                } => Part::Got {
+                } => PatternPart::Got {
                     empty: first | rest,
                     next: end,
                 },
-                Part::Bad => Part::Bad,
+                PatternPart::Bad => PatternPart::Bad,
             }
         }
-        Part::Bad => Part::Bad,
+        PatternPart::Bad => PatternPart::Bad,
     }
 }
 
@@ -134,12 +134,12 @@ pub fn matches_empty_text(pattern: &[u8]) -> EmptyText
     ensures { λ r. ⌜ emptyTextOf r ≡ matchesEmptyText (now (pattern .entry)) ⌝ }
 {
     match choice(pattern, 0) {
-        Part::Got { empty, next } => {
+        PatternPart::Got { empty, next } => {
             if next == pattern.len() {
                 return EmptyText::Covered(empty);
             }
             EmptyText::Uncovered
         }
-        Part::Bad => EmptyText::Uncovered,
+        PatternPart::Bad => EmptyText::Uncovered,
     }
 }

@@ -1,4 +1,5 @@
--- The proof of the cycle {choice, item, sequence}. The measures: three for each byte that is left, and the level: 2 for a
+-- The proof of the cycle {choice, item, sequence}. The measures:
+-- three for each byte that is left, and the level: 2 for a
 -- choice, 1 for a sequence, 0 for an item. The loop's invariant and its laws stand in `SequenceLaws`, one law for each
 -- way out of the other two in `ChoiceLaws` and `ItemLaws`. Assumes nothing.
 use Prim.Native.Nat.{_+_, _-_, _*_}
