@@ -1,13 +1,13 @@
 -- What the answers of the functions mean: a tree that is written from a position on, and whether empty text is in its
 -- language; or that there is no such tree.
-use Prim.Native.Nat.{ℕ, _≤_, _<_}
+use Prim.Native.Nat.{ℕ, _+_, _≤_}
 use mathlib.Core.Path.{_≡_}
 use mathlib.Core.Bool.{Bool}
 use mathlib.Core.List.{List, _++_}
 use mathlib.Core.Option.{Option, none, some}
 use lib.ListN.{length, drop}
 use lib.Dec.{T}
-use Rattle.patterns.specs.Pattern.{Repeat, Choice, Sequence, Item, writeRepeat, writeChoice, writeSequence, writeItem}
+use Rattle.patterns.specs.Pattern.{writeRepeat, writeChoice, writeSequence, writeItem}
 use Rattle.patterns.specs.Search.{emptyRepeated, emptyChoice, emptySequence, emptyItem}
 use Rattle.patterns.specs.Tree.{endsSequence, endsChoice, repeatOf, takesAll}
 use Rattle.patterns.specs.declared.PatternPart.{PatternPart}
@@ -15,65 +15,61 @@ use Rattle.patterns.specs.declared.PatternPart.the-variants.{Got, Bad}
 use Rattle.patterns.specs.declared.EmptyText.{EmptyText}
 use Rattle.patterns.specs.declared.EmptyText.the-variants as empty-text
 
--- ## A choice
+-- ## A part of a pattern
 
-pub record ChoiceFound (p : List ℕ) (at : ℕ) (e : Bool) (next : ℕ) : Type 0 where
-  pub tree : Choice
-  pub written : writeChoice tree ++ drop next p ≡ drop at p
-  pub ends : T (endsChoice (drop next p))
-  pub empty : emptyChoice tree ≡ e
-  pub low : at ≤ next
-  pub high : next ≤ length p
+-- how trees of a sort are written, and what may stand after one
+module _ {A : Type 0} (write : A → List ℕ) (endsBefore : A → List ℕ → Bool) where
+  -- no tree is written at the front
+  abbrev pub NoPart : List ℕ → Type 0
+  NoPart s = (tree : A) (rest : List ℕ) → T (endsBefore tree rest) → write tree ++ rest ≡ s → ⊥
+
+  -- a tree is written from one position to another, `least` bytes on or more; and whether empty text is in its language
+  module _ (isEmpty : A → Bool) (least : ℕ) where
+    pub record PartFound (p : List ℕ) (at : ℕ) (e : Bool) (next : ℕ) : Type 0 where
+      pub tree : A
+      pub written : write tree ++ drop next p ≡ drop at p
+      pub ends : T (endsBefore tree (drop next p))
+      pub empty : isEmpty tree ≡ e
+      pub low : at + least ≤ next
+      pub high : next ≤ length p
+
+    abbrev pub PartAt : List ℕ → ℕ → PatternPart → Type 0
+    PartAt p at (Got e next) = PartFound p at e next
+    PartAt p at Bad = NoPart (drop at p)
+
+-- ## Choices, sequences and items
+
+abbrev pub ChoiceFound : List ℕ → ℕ → Bool → ℕ → Type 0
+ChoiceFound = PartFound writeChoice (λ c rest. endsChoice rest) emptyChoice 0
 
 abbrev pub NoChoice : List ℕ → Type 0
-NoChoice s = (c : Choice) (rest : List ℕ) → T (endsChoice rest) → writeChoice c ++ rest ≡ s → ⊥
+NoChoice = NoPart writeChoice (λ c rest. endsChoice rest)
 
 abbrev pub ChoiceAt : List ℕ → ℕ → PatternPart → Type 0
-ChoiceAt p at (Got e next) = ChoiceFound p at e next
-ChoiceAt p at Bad = NoChoice (drop at p)
+ChoiceAt = PartAt writeChoice (λ c rest. endsChoice rest) emptyChoice 0
 
--- ## A sequence
-
-pub record SequenceFound (p : List ℕ) (at : ℕ) (e : Bool) (next : ℕ) : Type 0 where
-  pub tree : Sequence
-  pub written : writeSequence tree ++ drop next p ≡ drop at p
-  pub ends : T (endsSequence (drop next p))
-  pub empty : emptySequence tree ≡ e
-  pub low : at ≤ next
-  pub high : next ≤ length p
+abbrev pub SequenceFound : List ℕ → ℕ → Bool → ℕ → Type 0
+SequenceFound = PartFound writeSequence (λ s rest. endsSequence rest) emptySequence 0
 
 abbrev pub NoSequence : List ℕ → Type 0
-NoSequence s = (q : Sequence) (rest : List ℕ) → T (endsSequence rest) → writeSequence q ++ rest ≡ s → ⊥
+NoSequence = NoPart writeSequence (λ s rest. endsSequence rest)
 
 abbrev pub SequenceAt : List ℕ → ℕ → PatternPart → Type 0
-SequenceAt p at (Got e next) = SequenceFound p at e next
-SequenceAt p at Bad = NoSequence (drop at p)
+SequenceAt = PartAt writeSequence (λ s rest. endsSequence rest) emptySequence 0
 
--- ## An item, and the repeat after it
-
-pub record ItemFound (p : List ℕ) (at : ℕ) (e : Bool) (next : ℕ) : Type 0 where
-  pub tree : Item
-  pub written : writeItem tree ++ drop next p ≡ drop at p
-  pub ends : T (takesAll (repeatOf tree) (drop next p))
-  pub empty : emptyItem tree ≡ e
-  pub low : at < next
-  pub high : next ≤ length p
+-- an item has a byte at least
+abbrev pub ItemFound : List ℕ → ℕ → Bool → ℕ → Type 0
+ItemFound = PartFound writeItem (λ i rest. takesAll (repeatOf i) rest) emptyItem 1
 
 abbrev pub NoItem : List ℕ → Type 0
-NoItem s = (i : Item) (rest : List ℕ) → T (takesAll (repeatOf i) rest) → writeItem i ++ rest ≡ s → ⊥
+NoItem = NoPart writeItem (λ i rest. takesAll (repeatOf i) rest)
 
 abbrev pub ItemAt : List ℕ → ℕ → PatternPart → Type 0
-ItemAt p at (Got e next) = ItemFound p at e next
-ItemAt p at Bad = NoItem (drop at p)
+ItemAt = PartAt writeItem (λ i rest. takesAll (repeatOf i) rest) emptyItem 1
 
--- b: whether empty text is in the language of what is repeated
-pub record RepeatFound (p : List ℕ) (at : ℕ) (b e : Bool) (next : ℕ) : Type 0 where
-  pub tree : Repeat
-  pub written : writeRepeat tree ++ drop next p ≡ drop at p
-  pub ends : T (takesAll tree (drop next p))
-  pub empty : emptyRepeated tree b ≡ e
-  pub low : at ≤ next
-  pub high : next ≤ length p
+-- the repeat after an item, of whose language empty text is a part or not
+abbrev pub RepeatFound : List ℕ → ℕ → Bool → Bool → ℕ → Type 0
+RepeatFound p at b = PartFound writeRepeat takesAll (λ r. emptyRepeated r b) 0 p at
 
 abbrev pub RepeatAt : List ℕ → ℕ → Bool → PatternPart → Type 0
 RepeatAt p at b (Got e next) = RepeatFound p at b e next
