@@ -122,3 +122,13 @@ hasRow n = eqb n 5 || any (λ e. eqb n (e .number)) refusalTable
 everyRow : T (all hasRow tableNumbers && all (λ e. isRefusal (e .number) (e .index) (check (e .page))) refusalTable)
 unfolding readRecord readPage matchesEmptyText readChoice isSingle checkAst apply checkPage
 everyRow = tt
+
+-- document 02, No. 7: "after 4 and before 33". A wrong flag, with a byte 255 in the next matcher; after a `__name__`
+-- matcher of a selector with a name; without a name, where by that flag all matchers accept empty text
+flagInOrder : T (
+    isRefusal 4 0 (check (hex "02027570020201610178010001ff00"))
+    && isRefusal 41 0 (check (hex "020275700200085f5f6e616d655f5f0161020162017801"))
+    && isRefusal 41 0 (check (hex "020001020161017801"))
+    )
+unfolding readRecord readPage matchesEmptyText readChoice isSingle checkAst apply checkPage
+flagInOrder = tt

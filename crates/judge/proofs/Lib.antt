@@ -3,3 +3,4 @@ pub mod ModifierLaws
 pub mod DeclaredLaws
 pub mod CallLaws
 pub mod RecordLaws
+pub mod SelectorLaws

@@ -3,8 +3,7 @@
 use Prim.Native.Nat.{ℕ}
 use Prim.Native.String.{String}
 use mathlib.Core.Bool.{Bool, false, _&&_}
-use mathlib.Core.List.{List, [], _∷_, _++_}
-use lib.ListN.{replicate, length}
+use mathlib.Core.List.{List, [], _∷_}
 use lib.Dec.{T, eqb}
 use Rattle.page.specs.Bytes.{bytes, hex, all}
 use Rattle.page.specs.Bytes.{equal as equalBytes}
@@ -22,6 +21,7 @@ use Rattle.text.specs.Display.{display}
 use Rattle.text.specs.Pretty.{pretty}
 use Rattle.records.specs.Outcome.{Outcome, answer, refusal}
 use Rattle.outcomes.specs.Calls.{Called, copy, canonicalText, splitText}
+use Rattle.outcomes.specs.Computed.{lent, writes}
 use Rattle.outcomes.specs.Output.{programOutput}
 
 -- what a page gives: its kind, its canonical text and its copy; or a refusal's number and record, and the program's
@@ -69,17 +69,9 @@ examples =
     (gives vector "up + fill_left (NaN) fill_right (NaN) up" (hex "0202757000 0202757000 09010100000001020102"))
     ∷ []
 
--- a buffer with bytes of its own, long enough for each example
-abbrev lent : List ℕ
-lent = replicate 64 7
-
--- the answer, and the text at the start of the buffer with the buffer's own bytes after it
-abbrev writes : Kind → List ℕ → Called → Bool
-writes k t c = answers (c .outcome) && equalBytes (c .buffer ++ replicate (length t) 7) (t ++ lent)
-  where
-    answers : Outcome → Bool
-    answers (answer j n) = equalKind k j && eqb n (length t)
-    answers (refusal n i) = false
+-- bytes that are lent, enough for each example
+abbrev room : ℕ
+room = 64
 
 abbrev outcomeIs : Expected → Outcome → Bool
 outcomeIs (gives k t c) (answer j n) = equalKind k j && eqb n 0
@@ -88,7 +80,7 @@ outcomeIs (refuses n i w) (answer j m) = false
 outcomeIs (refuses n i w) (refusal m j) = eqb n m && eqb i j
 
 abbrev writesAs : Expected → List ℕ → Bool
-writesAs (gives k t c) page = writes k (bytes t) (canonicalText page lent) && writes k c (copy page lent)
+writesAs (gives k t c) page = writes room k (bytes t) (canonicalText page (lent room)) && writes room k c (copy page (lent room))
 writesAs (refuses n i w) page = equalBytes (programOutput page) (bytes w)
 
 abbrev holds : Example → Bool

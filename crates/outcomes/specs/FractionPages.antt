@@ -2,14 +2,11 @@
 -- answers, none of which holds.
 use Prim.Native.Nat.{ℕ}
 use Prim.Native.String.{String}
-use mathlib.Core.Bool.{Bool, false, _&&_, not}
+use mathlib.Core.Bool.{Bool, _&&_, not}
 use mathlib.Core.List.{List, [], _∷_, _++_}
-use lib.ListN.{replicate, length}
-use lib.Dec.{T, eqb}
+use lib.Dec.{T}
 use Rattle.page.specs.Bytes.{bytes, hex, all}
-use Rattle.page.specs.Bytes.{equal as equalBytes}
-use Rattle.records.specs.Kind.{Kind, vector, scalar, equalKind}
-use Rattle.records.specs.Outcome.{Outcome, answer, refusal}
+use Rattle.records.specs.Kind.{Kind, vector, scalar}
 use Rattle.records.specs.Record.{readRecord, readPage, writeRecord}
 use Rattle.leaves.specs.Decimal.{digits, decimal, padded, expansion}
 use Rattle.leaves.specs.Numeral.{displayNumber, displayLiteral, displayFill}
@@ -17,7 +14,8 @@ use Rattle.ast.specs.CheckAst.{checkAst}
 use Rattle.ast.specs.CheckPage.{apply, checkPage, check}
 use Rattle.copy.specs.Copy.{copyPage}
 use Rattle.text.specs.Display.{display}
-use Rattle.outcomes.specs.Calls.{Called, copy, canonicalText}
+use Rattle.outcomes.specs.Calls.{copy, canonicalText}
+use Rattle.outcomes.specs.Computed.{lent, writes, isRefusal}
 
 -- its kind, its canonical text and its copy; or a refusal's number and record
 data Expected : Type 0 where
@@ -108,27 +106,15 @@ fills =
 
 -- ## The test
 
--- a buffer with bytes of its own, long enough for each example
-abbrev lent : List ℕ
-lent = replicate 72 7
-
--- the answer, and the bytes at the start of the buffer with the buffer's own after them
-abbrev writes : Kind → List ℕ → Called → Bool
-writes k t c = answers (c .outcome) && equalBytes (c .buffer ++ replicate (length t) 7) (t ++ lent)
-  where
-    answers : Outcome → Bool
-    answers (answer j n) = equalKind k j && eqb n (length t)
-    answers (refusal n i) = false
-
-abbrev isRefusal : ℕ → ℕ → Outcome → Bool
-isRefusal n i (answer k m) = false
-isRefusal n i (refusal m j) = eqb n m && eqb i j
+-- bytes that are lent, enough for each example
+abbrev room : ℕ
+room = 72
 
 abbrev holds : Example → Bool
 holds e = by (e .expected)
   where
     by : Expected → Bool
-    by (gives k t c) = writes k (bytes t) (canonicalText (e .page) lent) && writes k c (copy (e .page) lent)
+    by (gives k t c) = writes room k (bytes t) (canonicalText (e .page) (lent room)) && writes room k c (copy (e .page) (lent room))
     by (refuses n i) = isRefusal n i (check (e .page))
 
 everyNumber : T (all holds numbers)

@@ -2,23 +2,21 @@
 -- none of which holds.
 use Prim.Native.Nat.{ℕ}
 use Prim.Native.String.{String}
-use mathlib.Core.Bool.{Bool, false, _&&_, not}
-use mathlib.Core.List.{List, [], _∷_, _++_}
-use lib.ListN.{replicate, length}
-use lib.Dec.{T, eqb}
+use mathlib.Core.Bool.{Bool, not}
+use mathlib.Core.List.{List, [], _∷_}
+use lib.Dec.{T}
 use Rattle.page.specs.Bytes.{bytes, hex, all}
-use Rattle.page.specs.Bytes.{equal as equalBytes}
 use Rattle.patterns.specs.Pattern.{isSingle}
 use Rattle.patterns.specs.Search.{readChoice, matchesEmptyText}
-use Rattle.records.specs.Kind.{isVector}
-use Rattle.records.specs.Outcome.{Outcome, answer, refusal}
+use Rattle.records.specs.Kind.{vector}
 use Rattle.records.specs.Record.{readRecord, readPage}
 use Rattle.leaves.specs.Escape.{escapeByte, escape, quote}
 use Rattle.label.specs.Label.{displayLabel, displayMatcher, atMost, insert, sort, joinedByCommas, displayMatchers}
 use Rattle.ast.specs.CheckAst.{checkAst}
 use Rattle.ast.specs.CheckPage.{apply, checkPage, check}
 use Rattle.text.specs.Display.{display}
-use Rattle.outcomes.specs.Calls.{Called, canonicalText}
+use Rattle.outcomes.specs.Calls.{canonicalText}
+use Rattle.outcomes.specs.Computed.{lent, writes, isRefusal}
 
 -- a vector with this canonical text, or a refusal's number and record
 data Expected : Type 0 where
@@ -77,26 +75,15 @@ pages =
     ∷ example "020275700100016102782a" (prints "up{a=\"x*\"}")
     ∷ []
 
--- a buffer with bytes of its own
-abbrev lent : List ℕ
-lent = replicate 24 7
-
-abbrev writes : List ℕ → Called → Bool
-writes t c = answers (c .outcome) && equalBytes (c .buffer ++ replicate (length t) 7) (t ++ lent)
-  where
-    answers : Outcome → Bool
-    answers (answer k n) = isVector k && eqb n (length t)
-    answers (refusal n i) = false
-
-abbrev isRefusal : ℕ → ℕ → Outcome → Bool
-isRefusal n i (answer k m) = false
-isRefusal n i (refusal m j) = eqb n m && eqb i j
+-- bytes that are lent, enough for each example
+abbrev room : ℕ
+room = 24
 
 abbrev holds : Example → Bool
 holds e = by (e .expected)
   where
     by : Expected → Bool
-    by (prints t) = writes (bytes t) (canonicalText (e .page) lent)
+    by (prints t) = writes room vector (bytes t) (canonicalText (e .page) (lent room))
     by (refuses n i) = isRefusal n i (check (e .page))
 
 everyPage : T (all holds pages)

@@ -2,16 +2,14 @@
 -- print characters of more than one byte are given in hexadecimal.
 use Prim.Native.Nat.{ℕ, _+_}
 use Prim.Native.String.{String}
-use mathlib.Core.Bool.{Bool, false, _&&_}
+use mathlib.Core.Bool.{Bool, _&&_}
 use mathlib.Core.List.{List, [], _∷_, _++_, flatten}
-use lib.ListN.{replicate, length}
+use lib.ListN.{replicate}
 use lib.Dec.{T, eqb}
 use Rattle.page.specs.Bytes.{bytes, hex, all}
-use Rattle.page.specs.Bytes.{equal as equalBytes}
 use Rattle.patterns.specs.Pattern.{isSingle}
 use Rattle.patterns.specs.Search.{readChoice, matchesEmptyText}
-use Rattle.records.specs.Kind.{Kind, vector, string, equalKind}
-use Rattle.records.specs.Outcome.{Outcome, answer, refusal}
+use Rattle.records.specs.Kind.{Kind, vector, string}
 use Rattle.records.specs.Record.{readRecord, readPage}
 use Rattle.leaves.specs.Escape.{escapeByte, escape, quote}
 use Rattle.label.specs.Label.{displayLabel, displayLabels, displayMatcher, atMost, insert, sort, joinedByCommas}
@@ -21,7 +19,8 @@ use Rattle.ast.specs.CheckPage.{apply, checkPage, check}
 use Rattle.ast.specs.Part.{Part, labelPart}
 use Rattle.text.specs.Display.{display}
 use Rattle.text.specs.Pretty.{pretty}
-use Rattle.outcomes.specs.Calls.{Called, canonicalText, splitText}
+use Rattle.outcomes.specs.Calls.{canonicalText, splitText}
+use Rattle.outcomes.specs.Computed.{lent, writes, isRefusal}
 
 data Expected : Type 0 where
   prints : Kind → List ℕ → Expected
@@ -91,26 +90,15 @@ others =
     ∷ other "0a1b010101ff01" (refuses 4 0)
     ∷ []
 
--- a buffer with bytes of its own, long enough for each example
-abbrev lent : List ℕ
-lent = replicate 260 7
-
-abbrev writes : Kind → List ℕ → Called → Bool
-writes k t c = answers (c .outcome) && equalBytes (c .buffer ++ replicate (length t) 7) (t ++ lent)
-  where
-    answers : Outcome → Bool
-    answers (answer j n) = equalKind k j && eqb n (length t)
-    answers (refusal n i) = false
-
-abbrev isRefusal : ℕ → ℕ → Outcome → Bool
-isRefusal n i (answer k m) = false
-isRefusal n i (refusal m j) = eqb n m && eqb i j
+-- bytes that are lent, enough for each example
+abbrev room : ℕ
+room = 260
 
 abbrev holds : Example → Bool
 holds e = by (e .expected)
   where
     by : Expected → Bool
-    by (prints k t) = writes k t (canonicalText (e .page) lent)
+    by (prints k t) = writes room k t (canonicalText (e .page) (lent room))
     by (refuses n i) = isRefusal n i (check (e .page))
 
 everyString : T (all holds strings)
@@ -118,8 +106,8 @@ unfolding flatten readRecord readPage checkAst apply checkPage escapeByte escape
 everyString = tt
 
 everyOther : T (all holds others)
-unfolding readRecord readPage matchesEmptyText readChoice isSingle checkAst apply checkPage escapeByte escape quote displayLabel displayLabels displayMatcher
-    atMost insert sort joinedByCommas displayMatchers display
+unfolding readRecord readPage matchesEmptyText readChoice isSingle checkAst apply checkPage escapeByte escape quote
+    displayLabel displayLabels displayMatcher atMost insert sort joinedByCommas displayMatchers display
 everyOther = tt
 
 -- ## The label of 19
@@ -145,13 +133,13 @@ abbrev head : List ℕ
 head = bytes "sum by (\"" ++ times 20 "c3a9" ++ bytes "\") ("
 
 -- 100 bytes in 80 characters
-oneLine : T (writes vector (head ++ replicate 46 0x6d ++ bytes ")") (splitText (longPage 46) lent))
+oneLine : T (writes room vector (head ++ replicate 46 0x6d ++ bytes ")") (splitText (longPage 46) (lent room)))
 unfolding flatten readRecord readPage checkAst apply checkPage escapeByte escape quote displayLabel displayLabels display
     pretty
 oneLine = tt
 
 -- 101 bytes in 81 characters
-threeLines : T (writes vector (head ++ bytes "\n  " ++ replicate 47 0x6d ++ bytes "\n)") (splitText (longPage 47) lent))
+threeLines : T (writes room vector (head ++ bytes "\n  " ++ replicate 47 0x6d ++ bytes "\n)") (splitText (longPage 47) (lent room)))
 unfolding flatten readRecord readPage checkAst apply checkPage escapeByte escape quote displayLabel displayLabels display
     pretty
 threeLines = tt
