@@ -15,6 +15,7 @@ use Rattle.page.specs.Allowed.{Each}
 use Rattle.records.specs.Kind.{Kind}
 use Rattle.records.specs.Code.{isSetOperator}
 use Rattle.records.specs.Literal.{Literal, negate}
+use Rattle.records.specs.Time.{Offset}
 use Rattle.records.specs.Modifier.{Cardinality, oneToOne, manyToMany, manyToOne, oneToMany, BinModifier}
 use Rattle.records.specs.Record.{number, string, selector, range, subquery, at, offset, unary, paren, Record, leaf}
 use Rattle.records.specs.Record.{wrapper, binary, aggregate, call, writeRecord, Ending, end, unreadable, Records}
@@ -28,7 +29,9 @@ use Rattle.ast.specs.CheckAst.{groupLabels, isGrouping, binaryRows, manyToManyO
 use Rattle.ast.specs.Walk.{Walked, stack, stopped, Checked, accepted, refusedAt, atEnd, finished, walk, walkPage}
 use Rattle.ast.specs.CheckPage.{apply, checkPage, outcomeOf, check}
 use Rattle.ast.proofs.WalkLaws.{walk-first, walk-then, walk-index, page-limit}
-use Rattle.copy.specs.Copy.{copyNumber, copyRecord, copyRecords, copyPage}
+use Rattle.copy.specs.Copy.{copyNumber, copyOffset, copyRecord, copyRecords, copyPage}
+use Rattle.copy.proofs.FrontLaws.{copyNumber-by, copyOffset-by}
+use Rattle.copy.proofs.TimesLaws.{swapped}
 use Rattle.copy.proofs.CopyRecordsLaws.{checkedModifier-once, copyRecords-allowed, copyRecords-length, copyRecords-once}
 
 -- ## The check of a binary record with the modifier that the check gave it
@@ -76,40 +79,48 @@ unfolding apply checkAst
 number-applied l s = refl
 
 -- a walk to the end, from any index
-abbrev Ends : List Expr → List Record → List Expr → Type 0
+abbrev pub Ends : List Expr → List Record → List Expr → Type 0
 Ends s rs t = (i : ℕ) → walk apply i s rs ≡ stack t
 
-number-in-front : (l : Literal) (rs : List Record) (s t : List Expr) → Ends (NumberLiteral l ∷ s) rs t → Ends s (leaf (number l) ∷ rs) t
-number-in-front l rs s t h i = walk-then apply (leaf (number l)) rs i s t (NumberLiteral l ∷ s) (number-applied l s) (h (suc i))
+record-in-front : (r : Record) (rs : List Record) (s t u : List Expr) → apply r s ≡ ok u → Ends u rs t → Ends s (r ∷ rs) t
+record-in-front r rs s t u e h i = walk-then apply r rs i s t u e (h (suc i))
 
 unary-behind : (l : Literal) (rs : List Record) (s t : List Expr) → Ends (NumberLiteral l ∷ s) (wrapper unary ∷ rs) t → Ends (NumberLiteral (negate l) ∷ s) rs t
 unfolding apply checkAst
 unary-behind l rs s t h i = walk-index apply rs 1 i (NumberLiteral (negate l) ∷ s) t (h 0)
 
 copyNumber-walk : (l : Literal) (rs : List Record) (s t : List Expr) → Ends (NumberLiteral l ∷ s) rs t → Ends s (copyNumber l rs) t
-copyNumber-walk l [] s t h = number-in-front l [] s t h
-copyNumber-walk l (leaf x ∷ rs) s t h = number-in-front l (leaf x ∷ rs) s t h
-copyNumber-walk l (wrapper unary ∷ rs) s t h = copyNumber-walk (negate l) rs s t (unary-behind l rs s t h)
-copyNumber-walk l (wrapper (range n) ∷ rs) s t h = number-in-front l (wrapper (range n) ∷ rs) s t h
-copyNumber-walk l (wrapper (subquery r x) ∷ rs) s t h = number-in-front l (wrapper (subquery r x) ∷ rs) s t h
-copyNumber-walk l (wrapper (at a) ∷ rs) s t h = number-in-front l (wrapper (at a) ∷ rs) s t h
-copyNumber-walk l (wrapper (offset o) ∷ rs) s t h = number-in-front l (wrapper (offset o) ∷ rs) s t h
-copyNumber-walk l (wrapper paren ∷ rs) s t h = number-in-front l (wrapper paren ∷ rs) s t h
-copyNumber-walk l (binary c m ∷ rs) s t h = number-in-front l (binary c m ∷ rs) s t h
-copyNumber-walk l (aggregate c m n ∷ rs) s t h = number-in-front l (aggregate c m n ∷ rs) s t h
-copyNumber-walk l (call f n ∷ rs) s t h = number-in-front l (call f n ∷ rs) s t h
+copyNumber-walk =
+    copyNumber-by (λ l rs qs. (s t : List Expr) → Ends (NumberLiteral l ∷ s) rs t → Ends s qs t)
+    (λ l rs h s t walks. record-in-front (leaf (number l)) rs s t (NumberLiteral l ∷ s) (number-applied l s) walks)
+    (λ l rs qs more s t walks. more s t (unary-behind l rs s t walks))
+
+-- an offset behind an @: from the stack before it the @ and then the offset lead to the same stack
+copyOffset-walk : (o : Offset) (rs : List Record) (s t u : List Expr) → apply (wrapper (offset o)) s ≡ ok u → Ends u rs t → Ends s (copyOffset o rs) t
+copyOffset-walk o =
+    copyOffset-by o (λ rs qs. (s t u : List Expr) → apply (wrapper (offset o)) s ≡ ok u → Ends u rs t → Ends s qs t)
+    (λ rs h s t u e walks. record-in-front (wrapper (offset o)) rs s t u e walks)
+    (λ a rs qs more s t u e walks.
+    let (v, e-at, behind) = walk-first apply (wrapper (at a)) rs 0 u t (walks 0) in
+    let (w, at-first, then-offset) = swapped o a s u v e e-at in
+    record-in-front (wrapper (at a)) qs s t w at-first (more w t v then-offset (λ i. walk-index apply rs 1 i v t behind)))
 
 copyRecord-walk : (r : Record) (rs : List Record) (s t u : List Expr) → apply r s ≡ ok u → Ends u rs t → Ends s (copyRecord r rs) t
 copyRecord-walk (leaf (number l)) rs s t u e h = copyNumber-walk l rs s t (subst (λ (x : List Expr). Ends x rs t) same h)
   where
     same : u ≡ NumberLiteral l ∷ s
     same = let q = number-applied l s in cc
-copyRecord-walk (leaf (string x)) rs s t u e h = λ i. walk-then apply (leaf (string x)) rs i s t u e (h (suc i))
-copyRecord-walk (leaf (selector x)) rs s t u e h = λ i. walk-then apply (leaf (selector x)) rs i s t u e (h (suc i))
-copyRecord-walk (wrapper w) rs s t u e h = λ i. walk-then apply (wrapper w) rs i s t u e (h (suc i))
-copyRecord-walk (binary c m) rs s t u e h = λ i. walk-then apply (binary c (checkedModifier c m)) rs i s t u (apply-once c m s ∙ e) (h (suc i))
-copyRecord-walk (aggregate c m n) rs s t u e h = λ i. walk-then apply (aggregate c m n) rs i s t u e (h (suc i))
-copyRecord-walk (call f n) rs s t u e h = λ i. walk-then apply (call f n) rs i s t u e (h (suc i))
+copyRecord-walk (leaf (string x)) rs s t u e h = record-in-front (leaf (string x)) rs s t u e h
+copyRecord-walk (leaf (selector x)) rs s t u e h = record-in-front (leaf (selector x)) rs s t u e h
+copyRecord-walk (wrapper (range n)) rs s t u e h = record-in-front (wrapper (range n)) rs s t u e h
+copyRecord-walk (wrapper (subquery r x)) rs s t u e h = record-in-front (wrapper (subquery r x)) rs s t u e h
+copyRecord-walk (wrapper (at a)) rs s t u e h = record-in-front (wrapper (at a)) rs s t u e h
+copyRecord-walk (wrapper (offset o)) rs s t u e h = copyOffset-walk o rs s t u e h
+copyRecord-walk (wrapper unary) rs s t u e h = record-in-front (wrapper unary) rs s t u e h
+copyRecord-walk (wrapper paren) rs s t u e h = record-in-front (wrapper paren) rs s t u e h
+copyRecord-walk (binary c m) rs s t u e h = record-in-front (binary c (checkedModifier c m)) rs s t u (apply-once c m s ∙ e) h
+copyRecord-walk (aggregate c m n) rs s t u e h = record-in-front (aggregate c m n) rs s t u e h
+copyRecord-walk (call f n) rs s t u e h = record-in-front (call f n) rs s t u e h
 
 -- records that can be walked to the end are copied to records with the same stack
 pub copyRecords-walk : (rs : List Record) (i : ℕ) (s t : List Expr) → walk apply i s rs ≡ stack t → Ends s (copyRecords rs) t

@@ -10,13 +10,13 @@ use lib.ListN.{length}
 use Rattle.page.specs.Bytes.{pick}
 use Rattle.page.specs.Allowed.{Each}
 use Rattle.records.specs.Code.{isSetOperator}
-use Rattle.records.specs.Literal.{Literal, plus, minus, nan, negate}
-use Rattle.records.specs.Float.{IsExact}
 use Rattle.records.specs.Modifier.{Cardinality, oneToOne, manyToMany, manyToOne, oneToMany, BinModifier}
 use Rattle.records.specs.Record.{number, string, selector, range, subquery, at, offset, unary, paren, Record, leaf, wrapper, binary, aggregate, call}
 use Rattle.records.specs.Allowed.{IsOptionOf, IsCardinality, IsBinModifier, IsAllowed}
 use Rattle.ast.specs.CheckAst.{manyToManyOf, setOperatorModifier, checkedModifier}
-use Rattle.copy.specs.Copy.{copyNumber, copyRecord, copyRecords}
+use Rattle.copy.specs.Copy.{copyRecord, copyRecords}
+use Rattle.copy.proofs.FrontLaws.{copyNumber-allowed, copyNumber-length, copyNumber-once}
+use Rattle.copy.proofs.FrontLaws.{copyOffset-allowed, copyOffset-length, copyOffset-once}
 
 -- ## checkedModifier
 
@@ -57,63 +57,18 @@ checkedModifier-once c m = by (isSetOperator c)
     by true = ap some (setOperatorModifier-once m)
     by false = refl
 
--- ## copyNumber
-
-negate-exact : (l : Literal) → IsExact l → IsExact (negate l)
-negate-exact (plus m) h = h
-negate-exact (minus m) h = h
-negate-exact nan h = tt
-
-pub copyNumber-allowed : (l : Literal) (rs : List Record) → IsExact l → Each IsAllowed rs → Each IsAllowed (copyNumber l rs)
-copyNumber-allowed l [] h k = (h, tt)
-copyNumber-allowed l (leaf x ∷ rs) h k = (h, k)
-copyNumber-allowed l (wrapper unary ∷ rs) h k = copyNumber-allowed (negate l) rs (negate-exact l h) (k .1)
-copyNumber-allowed l (wrapper (range n) ∷ rs) h k = (h, k)
-copyNumber-allowed l (wrapper (subquery r s) ∷ rs) h k = (h, k)
-copyNumber-allowed l (wrapper (at a) ∷ rs) h k = (h, k)
-copyNumber-allowed l (wrapper (offset o) ∷ rs) h k = (h, k)
-copyNumber-allowed l (wrapper paren ∷ rs) h k = (h, k)
-copyNumber-allowed l (binary c m ∷ rs) h k = (h, k)
-copyNumber-allowed l (aggregate c m n ∷ rs) h k = (h, k)
-copyNumber-allowed l (call f n ∷ rs) h k = (h, k)
-
-pub copyNumber-length : (l : Literal) (rs : List Record) → length (copyNumber l rs) ≤ suc (length rs)
-copyNumber-length l [] = omega arith
-copyNumber-length l (leaf x ∷ rs) = omega arith
-copyNumber-length l (wrapper unary ∷ rs) = more (copyNumber-length (negate l) rs)
-  where
-    more : length (copyNumber (negate l) rs) ≤ suc (length rs) → length (copyNumber (negate l) rs) ≤ suc (suc (length rs))
-    more h = omega arith
-copyNumber-length l (wrapper (range n) ∷ rs) = omega arith
-copyNumber-length l (wrapper (subquery r s) ∷ rs) = omega arith
-copyNumber-length l (wrapper (at a) ∷ rs) = omega arith
-copyNumber-length l (wrapper (offset o) ∷ rs) = omega arith
-copyNumber-length l (wrapper paren ∷ rs) = omega arith
-copyNumber-length l (binary c m ∷ rs) = omega arith
-copyNumber-length l (aggregate c m n ∷ rs) = omega arith
-copyNumber-length l (call f n ∷ rs) = omega arith
-
--- before records that are copied to themselves
-pub copyNumber-once : (l : Literal) (rs : List Record) → copyRecords rs ≡ rs → copyRecords (copyNumber l rs) ≡ copyNumber l rs
-copyNumber-once l [] e = refl
-copyNumber-once l (leaf x ∷ rs) e = ap (copyNumber l) e
-copyNumber-once l (wrapper unary ∷ rs) e = copyNumber-once (negate l) rs (cc)
-copyNumber-once l (wrapper (range n) ∷ rs) e = ap (copyNumber l) e
-copyNumber-once l (wrapper (subquery r s) ∷ rs) e = ap (copyNumber l) e
-copyNumber-once l (wrapper (at a) ∷ rs) e = ap (copyNumber l) e
-copyNumber-once l (wrapper (offset o) ∷ rs) e = ap (copyNumber l) e
-copyNumber-once l (wrapper paren ∷ rs) e = ap (copyNumber l) e
-copyNumber-once l (binary c m ∷ rs) e = ap (copyNumber l) e
-copyNumber-once l (aggregate c m n ∷ rs) e = ap (copyNumber l) e
-copyNumber-once l (call f n ∷ rs) e = ap (copyNumber l) e
-
 -- ## copyRecords
 
 copyRecord-allowed : (r : Record) (rs : List Record) → IsAllowed r → Each IsAllowed rs → Each IsAllowed (copyRecord r rs)
 copyRecord-allowed (leaf (number l)) rs h k = copyNumber-allowed l rs h k
 copyRecord-allowed (leaf (string t)) rs h k = (h, k)
 copyRecord-allowed (leaf (selector s)) rs h k = (h, k)
-copyRecord-allowed (wrapper w) rs h k = (h, k)
+copyRecord-allowed (wrapper (range n)) rs h k = (h, k)
+copyRecord-allowed (wrapper (subquery r s)) rs h k = (h, k)
+copyRecord-allowed (wrapper (at a)) rs h k = (h, k)
+copyRecord-allowed (wrapper (offset o)) rs h k = copyOffset-allowed o rs h k
+copyRecord-allowed (wrapper unary) rs h k = (h, k)
+copyRecord-allowed (wrapper paren) rs h k = (h, k)
 copyRecord-allowed (binary c m) rs h k = ((h .0, checkedModifier-allowed c m (h .1)), k)
 copyRecord-allowed (aggregate c m n) rs h k = (h, k)
 copyRecord-allowed (call f n) rs h k = (h, k)
@@ -126,7 +81,12 @@ copyRecord-length : (r : Record) (rs : List Record) → length (copyRecord r rs)
 copyRecord-length (leaf (number l)) rs = copyNumber-length l rs
 copyRecord-length (leaf (string t)) rs = omega arith
 copyRecord-length (leaf (selector s)) rs = omega arith
-copyRecord-length (wrapper w) rs = omega arith
+copyRecord-length (wrapper (range n)) rs = omega arith
+copyRecord-length (wrapper (subquery r s)) rs = omega arith
+copyRecord-length (wrapper (at a)) rs = omega arith
+copyRecord-length (wrapper (offset o)) rs = omega (arith, copyOffset-length o rs)
+copyRecord-length (wrapper unary) rs = omega arith
+copyRecord-length (wrapper paren) rs = omega arith
 copyRecord-length (binary c m) rs = omega arith
 copyRecord-length (aggregate c m n) rs = omega arith
 copyRecord-length (call f n) rs = omega arith
@@ -143,7 +103,12 @@ copyRecord-once : (r : Record) (rs : List Record) → copyRecords rs ≡ rs → 
 copyRecord-once (leaf (number l)) rs e = copyNumber-once l rs e
 copyRecord-once (leaf (string t)) rs e = ap {B = List Record} (λ xs. leaf (string t) ∷ xs) e
 copyRecord-once (leaf (selector s)) rs e = ap {B = List Record} (λ xs. leaf (selector s) ∷ xs) e
-copyRecord-once (wrapper w) rs e = ap {B = List Record} (λ xs. wrapper w ∷ xs) e
+copyRecord-once (wrapper (range n)) rs e = ap {B = List Record} (λ xs. wrapper (range n) ∷ xs) e
+copyRecord-once (wrapper (subquery r s)) rs e = ap {B = List Record} (λ xs. wrapper (subquery r s) ∷ xs) e
+copyRecord-once (wrapper (at a)) rs e = ap {B = List Record} (λ xs. wrapper (at a) ∷ xs) e
+copyRecord-once (wrapper (offset o)) rs e = copyOffset-once o rs e
+copyRecord-once (wrapper unary) rs e = ap {B = List Record} (λ xs. wrapper unary ∷ xs) e
+copyRecord-once (wrapper paren) rs e = ap {B = List Record} (λ xs. wrapper paren ∷ xs) e
 copyRecord-once (binary c m) rs e = ap₂ {C = List Record} (λ x xs. binary c x ∷ xs) (checkedModifier-once c m) e
 copyRecord-once (aggregate c m n) rs e = ap {B = List Record} (λ xs. aggregate c m n ∷ xs) e
 copyRecord-once (call f n) rs e = ap {B = List Record} (λ xs. call f n ∷ xs) e

@@ -15,6 +15,7 @@ use Rattle.page.proofs.NumberLaws.{isByte}
 use Rattle.records.specs.Code.{isCode, isSetOperator}
 use Rattle.records.specs.Literal.{Literal, whole, fraction, infinite, plus, minus, nan, negate, writeLiteral}
 use Rattle.records.specs.Modifier.{BinModifier}
+use Rattle.records.specs.Time.{Offset}
 use Rattle.records.specs.Record.{number, string, selector, range, subquery, at, offset, unary, paren, Record, leaf}
 use Rattle.records.specs.Record.{wrapper, binary, aggregate, call, writeRecord, readPage}
 use Rattle.records.specs.Stack.{operandsOf}
@@ -27,8 +28,9 @@ use Rattle.ast.specs.CheckAst.{setOperatorModifier, checkedModifier, checkAst}
 use Rattle.ast.specs.Walk.{stack, accepted, walk}
 use Rattle.ast.specs.CheckPage.{leafExpr, wrap, push, pushCall, apply, checkPage}
 use Rattle.ast.proofs.WalkLaws.{walk-first, page-limit}
-use Rattle.copy.specs.Copy.{copyNumber, copyRecords, copyPage}
+use Rattle.copy.specs.Copy.{copyNumber, copyOffset, copyRecords, copyPage}
 use Rattle.copy.specs.RecordCopy.{setCardinality}
+use Rattle.copy.proofs.FrontLaws.{copyNumber-by, copyOffset-bytes}
 use Rattle.copy.proofs.ModifierLaws.{formOf, before, after, modifier-written, modifier-set, binary-written}
 use Rattle.copy.proofs.StartsLaws.{readPage-reads}
 use Rattle.copy.proofs.CopyLaws.{accepted-walks}
@@ -104,17 +106,15 @@ number-length l = refl
 
 -- a number with the unary records after it
 copyNumber-bytes : (l : Literal) (rs : List Record) → bytesOf (copyNumber l rs) ≤ suc (length (writeLiteral l)) + bytesOf rs
-copyNumber-bytes l [] = omega (arith, bytesOf-more (leaf (number l)) [], number-length l)
-copyNumber-bytes l (leaf x ∷ rs) = omega (arith, bytesOf-more (leaf (number l)) (leaf x ∷ rs), number-length l)
-copyNumber-bytes l (wrapper unary ∷ rs) = omega (arith, copyNumber-bytes (negate l) rs, literal-length l, bytesOf-more (wrapper unary) rs)
-copyNumber-bytes l (wrapper (range n) ∷ rs) = omega (arith, bytesOf-more (leaf (number l)) (wrapper (range n) ∷ rs), number-length l)
-copyNumber-bytes l (wrapper (subquery r s) ∷ rs) = omega (arith, bytesOf-more (leaf (number l)) (wrapper (subquery r s) ∷ rs), number-length l)
-copyNumber-bytes l (wrapper (at a) ∷ rs) = omega (arith, bytesOf-more (leaf (number l)) (wrapper (at a) ∷ rs), number-length l)
-copyNumber-bytes l (wrapper (offset o) ∷ rs) = omega (arith, bytesOf-more (leaf (number l)) (wrapper (offset o) ∷ rs), number-length l)
-copyNumber-bytes l (wrapper paren ∷ rs) = omega (arith, bytesOf-more (leaf (number l)) (wrapper paren ∷ rs), number-length l)
-copyNumber-bytes l (binary c m ∷ rs) = omega (arith, bytesOf-more (leaf (number l)) (binary c m ∷ rs), number-length l)
-copyNumber-bytes l (aggregate c m n ∷ rs) = omega (arith, bytesOf-more (leaf (number l)) (aggregate c m n ∷ rs), number-length l)
-copyNumber-bytes l (call f n ∷ rs) = omega (arith, bytesOf-more (leaf (number l)) (call f n ∷ rs), number-length l)
+copyNumber-bytes =
+    copyNumber-by (λ l rs qs. bytesOf qs ≤ suc (length (writeLiteral l)) + bytesOf rs)
+    (λ l rs h. omega (arith, bytesOf-more (leaf (number l)) rs, number-length l))
+    (λ l rs qs more. omega (arith, more, literal-length l, bytesOf-more (wrapper unary) rs))
+
+-- an offset, wherever it goes
+offset-bytes : (o : Offset) (rs : List Record) → bytesOf (copyOffset o rs) ≡ length (writeRecord (wrapper (offset o))) + bytesOf rs
+unfolding bytesOf
+offset-bytes o rs = copyOffset-bytes o rs
 
 -- a binary record
 modifier-bytes : (c : ℕ) → T (isCode c) → (m : Option BinModifier)
@@ -159,7 +159,12 @@ copyRecords-bytes (leaf (selector s) ∷ rs) (g, h) =
       bytesOf-more (leaf (selector s)) rs,
       bytesOf-more (leaf (selector s)) (copyRecords rs),
     )
-copyRecords-bytes (wrapper w ∷ rs) (g, h) = omega (arith, copyRecords-bytes rs h, bytesOf-more (wrapper w) rs, bytesOf-more (wrapper w) (copyRecords rs))
+copyRecords-bytes (wrapper (range n) ∷ rs) (g, h) = omega (arith, copyRecords-bytes rs h, bytesOf-more (wrapper (range n)) rs, bytesOf-more (wrapper (range n)) (copyRecords rs))
+copyRecords-bytes (wrapper (subquery r s) ∷ rs) (g, h) = omega (arith, copyRecords-bytes rs h, bytesOf-more (wrapper (subquery r s)) rs, bytesOf-more (wrapper (subquery r s)) (copyRecords rs))
+copyRecords-bytes (wrapper (at a) ∷ rs) (g, h) = omega (arith, copyRecords-bytes rs h, bytesOf-more (wrapper (at a)) rs, bytesOf-more (wrapper (at a)) (copyRecords rs))
+copyRecords-bytes (wrapper (offset o) ∷ rs) (g, h) = omega (arith, copyRecords-bytes rs h, bytesOf-more (wrapper (offset o)) rs, offset-bytes o (copyRecords rs))
+copyRecords-bytes (wrapper unary ∷ rs) (g, h) = omega (arith, copyRecords-bytes rs h, bytesOf-more (wrapper unary) rs, bytesOf-more (wrapper unary) (copyRecords rs))
+copyRecords-bytes (wrapper paren ∷ rs) (g, h) = omega (arith, copyRecords-bytes rs h, bytesOf-more (wrapper paren) rs, bytesOf-more (wrapper paren) (copyRecords rs))
 copyRecords-bytes (binary c m ∷ rs) (g, h) =
     omega (arith, copyRecords-bytes rs h, bytesOf-more (binary c m) rs, bytesOf-more (binary c (checkedModifier c m)) (copyRecords rs), binary-bytes c (g .0) m)
 copyRecords-bytes (aggregate c m n ∷ rs) (g, h) =

@@ -1,10 +1,14 @@
 pub mod CopyRecordsLaws
 pub mod CopyLaws
+pub mod FrontLaws
 pub mod LengthLaws
 pub mod ModifierLaws
 pub mod NumberCopyLaws
+pub mod OffsetLaws
 pub mod OperatorLaws
+pub mod PairLaws
 pub mod RecordCopyLaws
 pub mod SpanLaws
 pub mod StartsLaws
+pub mod TimesLaws
 pub mod UnaryLaws

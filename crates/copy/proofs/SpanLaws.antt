@@ -2,20 +2,22 @@
 -- Its first byte is its kind; a number's second byte is its form, and the rest of it stays. Assumes nothing.
 use Prim.Native.Nat.{ℕ, suc, _+_, _-_, _≤_, _<_, zero-le}
 use mathlib.Core.Path.{_≡_, refl, sym, ap, _∙_, subst}
-use mathlib.Core.Bool.{Bool, true, false}
+use mathlib.Core.Bool.{Bool, true, false, _&&_}
 use mathlib.Core.List.{List, [], _∷_, _++_}
 use native.Mathlib.Nat.{add-zero}
 use native.Mathlib.Omega.{arith}
-use lib.ListN.{length, take, drop, getD, length-drop, length-append}
-use lib.Seq.{getD-drop, take-at, length-take-le}
+use lib.ListN.{length, take, drop, getD, length-drop, length-append, drop-of-length-le}
+use lib.Seq.{getD-drop, drop-cons, take-at, length-take-le}
 use lib.Dec.{eqb}
+use borrow.Author.Tests.{eq-eqb, ne-eqb}
 use Rattle.page.specs.Bytes.{pick}
 use Rattle.page.proofs.NumberLaws.{Written}
 use Rattle.records.specs.Record.{number, string, selector, range, subquery, at, offset, unary, paren, Record, leaf}
 use Rattle.records.specs.Record.{wrapper, binary, aggregate, call, writeRecord, recordKind}
 use Rattle.records.proofs.RecordLaws.{record-law}
-use Rattle.copy.specs.RecordCopy.{unaries, copied, copyOfRead, recordCopy, absorbedRead, absorbedOf, absorbed}
+use Rattle.copy.specs.RecordCopy.{unaries, copied, copyOfRead, recordCopy, absorbedRead, absorbedOf, absorbed, firstIs, beforeAtRead, isBeforeAt}
 use Rattle.copy.specs.Span.{Spans}
+use Rattle.copy.proofs.RecordCopyLaws.{record-head}
 use Rattle.copy.proofs.StartsLaws.{drop-bytes}
 
 -- ## Parts of a page
@@ -36,22 +38,6 @@ pub part-length : (page : List ℕ) (from to : ℕ) → to ≤ length page → l
 part-length page from to h = length-take-le (to - from) (drop from page) (omega (arith, length-drop from page))
 
 -- ## Kinds
-
--- a record is its kind, then its fields
-record-head : (r : Record) → (fields : List ℕ) × (writeRecord r ≡ recordKind r ∷ fields)
-unfolding writeRecord
-record-head (leaf (number l)) = (_, refl)
-record-head (leaf (string t)) = (_, refl)
-record-head (leaf (selector s)) = (_, refl)
-record-head (wrapper (range n)) = (_, refl)
-record-head (wrapper (subquery r s)) = (_, refl)
-record-head (wrapper (at a)) = (_, refl)
-record-head (wrapper (offset o)) = (_, refl)
-record-head (wrapper unary) = (_, refl)
-record-head (wrapper paren) = (_, refl)
-record-head (binary c m) = (_, refl)
-record-head (aggregate c m n) = (_, refl)
-record-head (call f n) = (_, refl)
 
 -- all but numbers and binaries stay
 other-copied : (r : Record) (rest : List ℕ) → (recordKind r ≡ 0 → ⊥) → (recordKind r ≡ 9 → ⊥) → copied r rest ≡ r
@@ -117,9 +103,13 @@ module _ {page : List ℕ} {start next : ℕ} (span : Spans page start next) whe
   pub absorbed-few : absorbedOf (drop start page) ≤ length page
   absorbed-few = omega (arith, span-absorbed, absorbed-in (span .item) (drop next page), length-drop next page)
 
+  -- the page's bytes between its ends are the record's
+  pub span-part : take (next - start) (drop start page) ≡ writeRecord (span .item)
+  span-part = part-is page (writeRecord (span .item)) start next (span .inside) span-written
+
   -- an unchanged record is the page's own bytes
   pub same-copy : copied (span .item) (drop next page) ≡ span .item → recordCopy (drop start page) ≡ take (next - start) (drop start page)
-  same-copy e = span-copy ∙ ap writeRecord e ∙ sym (part-is page (writeRecord (span .item)) start next (span .inside) span-written)
+  same-copy e = span-copy ∙ ap writeRecord e ∙ sym span-part
 
   pub other-copy : (getD page start 0 ≡ 0 → ⊥) → (getD page start 0 ≡ 9 → ⊥) → recordCopy (drop start page) ≡ take (next - start) (drop start page)
   other-copy h g =
@@ -127,6 +117,20 @@ module _ {page : List ℕ} {start next : ℕ} (span : Spans page start next) whe
 
   pub other-absorbed : (getD page start 0 ≡ 0 → ⊥) → absorbedOf (drop start page) ≡ 0
   other-absorbed h = span-absorbed ∙ nothing-absorbed (span .item) (drop next page) (λ e. h (span-kind ∙ e))
+
+  -- whether it is an offset right before an @: by its kind and by the byte behind it
+  before-at : isBeforeAt (drop start page) ≡ (eqb (getD page start 0) 6 && firstIs 5 (drop next page))
+  unfolding isBeforeAt
+  before-at = ap beforeAtRead (sym (span .reads)) ∙ ap (λ (k : ℕ). eqb k 6 && firstIs 5 (drop next page)) (sym span-kind)
+
+  pub before-at-other : (getD page start 0 ≡ 6 → ⊥) → isBeforeAt (drop start page) ≡ false
+  before-at-other h = before-at ∙ rw (ne-eqb (getD page start 0) 6 h)
+
+  pub before-at-inside : getD page start 0 ≡ 6 → next < length page → isBeforeAt (drop start page) ≡ eqb (getD page next 0) 5
+  before-at-inside h l = before-at ∙ rw (eq-eqb (getD page start 0) 6 h, drop-cons page next 0 l)
+
+  pub before-at-end : getD page start 0 ≡ 6 → length page ≤ next → isBeforeAt (drop start page) ≡ false
+  before-at-end h l = before-at ∙ rw (eq-eqb (getD page start 0) 6 h, drop-of-length-le page {i = next} l)
 
   -- a copy of the page's own bytes is as long
   pub same-length : recordCopy (drop start page) ≡ take (next - start) (drop start page) → length (recordCopy (drop start page)) ≡ next - start

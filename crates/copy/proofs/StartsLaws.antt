@@ -10,7 +10,7 @@ use lib.ListN.{length, drop, getD, drop-of-length-le, length-drop}
 use lib.Seq.{drop-drop, drop-length}
 use lib.Dec.{T, leb}
 use borrow.Author.Tests.{leb-true, le-leb, lt-leb}
-use Rattle.base.proofs.SpliceLaws.{Cut, cut-length}
+use Rattle.base.proofs.SpliceLaws.{Cut}
 use Rattle.base.proofs.Cases.{by-lt}
 use Rattle.page.specs.Bytes.{pick, all}
 use Rattle.page.specs.Limits.{pageLimit, recordLimit}
@@ -23,17 +23,18 @@ use Rattle.records.proofs.RecordLaws.{record-law}
 use Rattle.ast.specs.Part.{behind, fromRecord}
 use Rattle.ast.specs.Expr.{Expr}
 use Rattle.ast.specs.Walk.{accepted}
-use Rattle.ast.specs.CheckPage.{checkPage}
+use Rattle.ast.specs.CheckPage.{apply, checkPage}
 use Rattle.ast.specs.Tables.{Tables}
 use Rattle.ast.proofs.CheckLaws.{CheckedIn, checkPage-in}
-use Rattle.ast.proofs.WalkLaws.{page-limit}
+use Rattle.ast.proofs.WalkLaws.{walk-index, page-limit}
 use Rattle.ast.proofs.TablesLaws.{fromRecord-next}
 use Rattle.copy.specs.Copy.{copyRecords, copyPage}
-use Rattle.copy.specs.RecordCopy.{copyOfRead, recordCopy, absorbedRead, absorbedOf}
+use Rattle.copy.specs.RecordCopy.{copyOfRead, recordCopy, absorbedRead, absorbedOf, beforeAtRead, isBeforeAt}
 use Rattle.copy.specs.Span.{Spans}
-use Rattle.copy.specs.Starts.{PageStarts, copyFrom}
+use Rattle.copy.specs.Starts.{Walks, PageStarts, copyFrom}
 use Rattle.copy.proofs.CopyLaws.{accepted-walks}
-use Rattle.copy.proofs.RecordCopyLaws.{ReadsTo, nothing-read, readRecords-reads, copyRecord-one}
+use Rattle.copy.proofs.OffsetLaws.{walks-drop}
+use Rattle.copy.proofs.RecordCopyLaws.{ReadsTo, nothing-read, readRecords-reads, copyRecord-one, copyRecord-bytes}
 
 -- ## A page read to its end
 
@@ -62,7 +63,7 @@ drop-bytes zero s h = h
 drop-bytes (suc k) [] h = h
 drop-bytes (suc k) (b ∷ bs) h = drop-bytes k bs (right-of (isByte b) (all isByte bs) h)
 
-behind-bytes : (s : List ℕ) (r : Record) (t : List ℕ) → T (all isByte s) → got r t ≡ readRecord s → T (all isByte t)
+pub behind-bytes : (s : List ℕ) (r : Record) (t : List ℕ) → T (all isByte s) → got r t ≡ readRecord s → T (all isByte t)
 behind-bytes s r t h e =
     rest-bytes (writeRecord r) t (subst (λ (x : List ℕ). T (all isByte x)) (subst (Written writeRecord s) (sym e) (record-law s h)) h)
 
@@ -72,14 +73,24 @@ pub copyFrom-start : (page : List ℕ) → copyFrom page 0 ≡ copyPage page
 unfolding copyFrom copyPage
 copyFrom-start page = refl
 
--- the first record's copy, and the copy of the records that it does not take in
-copy-front : (s : List ℕ) (rs : List Record) → T (all isByte s) → 0 < length rs → ReadsTo s rs
+-- the first record's copy, and the copy of the records that it does not take in: of all but an offset right before an @
+copy-front : (s : List ℕ) (rs : List Record) → T (all isByte s) → 0 < length rs → ReadsTo s rs → Walks rs → isBeforeAt s ≡ false
     → writeAll writeRecord (copyRecords rs) ≡ recordCopy s ++ writeAll writeRecord (copyRecords (drop (suc (absorbedOf s)) rs))
-unfolding recordCopy absorbedOf
-copy-front s [] h l g = absurd (let z : ⊥ = omega arith in z)
-copy-front s (r ∷ rs) h l (t, e, more) =
-    ap (writeAll writeRecord) (copyRecord-one r t rs (behind-bytes s r t h e) more)
+unfolding recordCopy absorbedOf isBeforeAt
+copy-front s [] h l g w q = absurd (let z : ⊥ = omega arith in z)
+copy-front s (r ∷ rs) h l (t, e, more) w q =
+    ap (writeAll writeRecord) (copyRecord-one r t rs (behind-bytes s r t h e) more w (ap beforeAtRead e ∙ q))
     ∙ ap (λ (x : Read Record). copyOfRead x ++ writeAll writeRecord (copyRecords (drop (absorbedRead x) rs))) e
+
+-- in bytes there are as many of any record
+copy-front-length : (s : List ℕ) (rs : List Record) → T (all isByte s) → 0 < length rs → ReadsTo s rs
+    → length (writeAll writeRecord (copyRecords rs))
+    ≡ length (recordCopy s) + length (writeAll writeRecord (copyRecords (drop (suc (absorbedOf s)) rs)))
+unfolding recordCopy absorbedOf
+copy-front-length s [] h l g = absurd (let z : ⊥ = omega arith in z)
+copy-front-length s (r ∷ rs) h l (t, e, more) =
+    copyRecord-bytes r t rs (behind-bytes s r t h e) more
+    ∙ ap (λ (x : Read Record). length (copyOfRead x) + length (writeAll writeRecord (copyRecords (drop (absorbedRead x) rs)))) e
 
 -- a sum within a room, and its second part within what the first leaves
 fits-rest : (whole a b left : ℕ) → whole ≡ a + b → a ≤ left → leb whole left ≡ leb b (left - a)
@@ -94,32 +105,47 @@ module _ {page starts : List ℕ} {n : ℕ} (held : PageStarts page starts n) wh
   reads-at : (i : ℕ) → i ≤ n → ReadsTo (fromRecord i page) (drop i (readPage page .records))
   reads-at i h = fromRecord-reads i page (readPage page .records) page-reads (omega (arith, held .count))
 
-  more-at : (i : ℕ) → i < n → 0 < length (drop i (readPage page .records))
+  pub more-at : (i : ℕ) → i < n → 0 < length (drop i (readPage page .records))
   more-at i h = subst (λ (k : ℕ). 0 < k) (sym (length-drop i (readPage page .records))) (omega (arith, held .count))
 
-  pub copyFrom-cut : (i : ℕ) → i < n
+  pub walks-at : (i : ℕ) → Walks (drop i (readPage page .records))
+  walks-at i = walks-drop i (readPage page .records) (held .walked)
+
+  pub stands-at : (i : ℕ) → i < n → ReadsTo (drop (getD starts i 0) page) (drop i (readPage page .records))
+  stands-at i l = subst (λ (x : List ℕ). ReadsTo x (drop i (readPage page .records))) (sym (held .stands i l)) (reads-at i (omega arith))
+
+  -- the records from i on without some more
+  pub later : (i k : ℕ) → drop (suc k) (drop i (readPage page .records)) ≡ drop (i + 1 + k) (readPage page .records)
+  later i k = drop-drop (suc k) i (readPage page .records) ∙ ap (λ (x : ℕ). drop x (readPage page .records)) further
+    where
+      further : i + suc k ≡ i + 1 + k
+      further = omega arith
+
+  pub copyFrom-cut : (i : ℕ) → i < n → isBeforeAt (drop (getD starts i 0) page) ≡ false
       → Cut (copyFrom page i) (recordCopy (drop (getD starts i 0) page)) (copyFrom page (i + 1 + absorbedOf (drop (getD starts i 0) page)))
   unfolding copyFrom
-  copyFrom-cut i l =
+  copyFrom-cut i l q =
       let s = drop (getD starts i 0) page in
-      let reads : ReadsTo s (drop i (readPage page .records)) = subst
-      (λ (x : List ℕ). ReadsTo x (drop i (readPage page .records))) (sym (held .stands i l))
-      (reads-at i (omega arith)) in
       record {
         is =
-            copy-front s (drop i (readPage page .records)) (drop-bytes (getD starts i 0) page (held .bytes)) (more-at i l) reads
-            ∙ ap (λ (x : List Record). recordCopy s ++ writeAll writeRecord (copyRecords x))
-            (drop-drop (suc (absorbedOf s)) i (readPage page .records)
-            ∙ ap (λ (k : ℕ). drop k (readPage page .records)) (further (absorbedOf s)));
+            copy-front s (drop i (readPage page .records)) (drop-bytes (getD starts i 0) page (held .bytes)) (more-at i l) (stands-at i l) (walks-at i) q
+            ∙ ap (λ (x : List Record). recordCopy s ++ writeAll writeRecord (copyRecords x)) (later i (absorbedOf s));
       }
-    where
-      further : (k : ℕ) → i + suc k ≡ i + 1 + k
-      further k = omega arith
 
   -- the same, with the number of records that it takes in
-  pub copyFrom-next : (i taken : ℕ) → i < n → taken ≡ absorbedOf (drop (getD starts i 0) page)
+  pub copyFrom-next : (i taken : ℕ) → i < n → isBeforeAt (drop (getD starts i 0) page) ≡ false → taken ≡ absorbedOf (drop (getD starts i 0) page)
       → Cut (copyFrom page i) (recordCopy (drop (getD starts i 0) page)) (copyFrom page (i + 1 + taken))
-  copyFrom-next i taken h e = rw e (copyFrom-cut i h)
+  copyFrom-next i taken h q e = rw e (copyFrom-cut i h q)
+
+  -- how many bytes: of an offset right before an @ too
+  copyFrom-length : (i : ℕ) → i < n
+      → length (copyFrom page i)
+      ≡ length (recordCopy (drop (getD starts i 0) page)) + length (copyFrom page (i + 1 + absorbedOf (drop (getD starts i 0) page)))
+  unfolding copyFrom
+  copyFrom-length i l =
+      let s = drop (getD starts i 0) page in
+      copy-front-length s (drop i (readPage page .records)) (drop-bytes (getD starts i 0) page (held .bytes)) (more-at i l) (stands-at i l)
+      ∙ ap (λ (x : List Record). length (recordCopy s) + length (writeAll writeRecord (copyRecords x))) (later i (absorbedOf s))
 
   pub copyFrom-end : (i : ℕ) → n ≤ i → copyFrom page i ≡ []
   unfolding copyFrom
@@ -180,13 +206,13 @@ module _ {page starts : List ℕ} {n : ℕ} (held : PageStarts page starts n) wh
 
   pub fits-not : (i left size : ℕ) → i < n → size ≡ length (recordCopy (drop (getD starts i 0) page)) → left < size
       → leb (length (copyFrom page i)) left ≡ false
-  fits-not i left size h e l = lt-leb (length (copyFrom page i)) left (omega (arith, cut-length (copyFrom-cut i h)))
+  fits-not i left size h e l = lt-leb (length (copyFrom page i)) left (omega (arith, copyFrom-length i h))
 
   pub fits-more : (i left size taken : ℕ) → i < n → size ≡ length (recordCopy (drop (getD starts i 0) page))
       → taken ≡ absorbedOf (drop (getD starts i 0) page) → size ≤ left
       → leb (length (copyFrom page i)) left ≡ leb (length (copyFrom page (i + 1 + taken))) (left - size)
   fits-more i left size taken h e q l = fits-rest _ size _ left
-      (cut-length (copyFrom-next i taken h q) ∙ ap (λ (k : ℕ). k + length (copyFrom page (i + 1 + taken))) (sym e))
+      (rw (e, q) (copyFrom-length i h))
       l
 
   pub fits-end : (i left : ℕ) → n ≤ i → leb (length (copyFrom page i)) left ≡ true
@@ -202,6 +228,11 @@ accepted-starts {page} {n = n} {e = e} bytes tables h =
     record {
       bytes = bytes;
       readable = accepted-walks (readPage page) e n h .0;
+      walked = record {
+        before = [];
+        after = e ∷ [];
+        walks = λ i. walk-index apply (readPage page .records) 0 i [] (e ∷ []) (accepted-walks (readPage page) e n h .1);
+      };
       count = sym (subst (CheckedIn (length (readPage page .records))) h (checkPage-in page));
       size = tables .starts-size;
       stands = λ i l. tables .entry i l .stands;

@@ -1,13 +1,14 @@
 -- The copy record by record, as the code makes it: what the record at the front of some bytes becomes, and how many
--- records of the page that takes. `Copy.antt` defines the copy; that it is these one after the other is proved in
--- proofs/RecordCopyLaws.
+-- records of the page that takes. `Copy.antt` defines the copy; that it is these one after the other, but for an offset
+-- right before an @, is proved in proofs/StartsLaws and proofs/PairLaws.
 use Prim.Native.Nat.{ℕ, zero, suc}
+use mathlib.Core.Bool.{Bool, false, _&&_}
 use mathlib.Core.List.{List, [], _∷_}
 use lib.Dec.{eqb}
 use Rattle.page.specs.Bytes.{pick}
 use Rattle.page.specs.Read.{Read, refused, got}
 use Rattle.records.specs.Literal.{Literal, negate}
-use Rattle.records.specs.Record.{Leaf, number, string, selector, Record, leaf, wrapper, binary, aggregate, call, readRecord, writeRecord}
+use Rattle.records.specs.Record.{Leaf, number, string, selector, Record, leaf, wrapper, binary, aggregate, call, readRecord, writeRecord, recordKind}
 use Rattle.ast.specs.CheckAst.{checkedModifier}
 
 -- how many unary records stand in front: each is the byte 7
@@ -63,6 +64,21 @@ absorbedRead (got r rest) = absorbed r rest
 
 unfoldable pub absorbedOf : List ℕ → ℕ
 absorbedOf s = absorbedRead (readRecord s)
+
+-- ## An offset right before an @
+
+-- the first of these bytes is this one: a record's first byte is its kind
+abbrev pub firstIs : ℕ → List ℕ → Bool
+firstIs k [] = false
+firstIs k (b ∷ bs) = eqb b k
+
+-- an offset, kind 6, and an @, kind 5, right behind it: the two stand in the copy in the other order
+abbrev pub beforeAtRead : Read Record → Bool
+beforeAtRead (refused f) = false
+beforeAtRead (got r rest) = eqb (recordKind r) 6 && firstIs 5 rest
+
+unfoldable pub isBeforeAt : List ℕ → Bool
+isBeforeAt s = beforeAtRead (readRecord s)
 
 -- ## In bytes
 

@@ -2,7 +2,7 @@
 use Prim.Native.Nat.{ℕ, _+_, _-_, _≤_}
 use mathlib.Core.Path.{_≡_}
 use mathlib.Core.Bool.{true}
-use mathlib.Core.List.{List, [], _∷_}
+use mathlib.Core.List.{List, [], _∷_, _++_}
 use lib.ListN.{length, take, drop, getD}
 use lib.Dec.{T, ltb}
 use Rattle.base.specs.Splice.{join}
@@ -23,6 +23,16 @@ pub record Spans (page : List ℕ) (start next : ℕ) : Type 0 where
 pub record Placing (page out : List ℕ) (start next at : ℕ) : Type 0 where
   pub span : Spans page start next
   pub room : at + length (recordCopy (drop start page)) ≤ length out
+
+-- the bytes of two records, one right behind the other, the second one first
+abbrev pub secondFirst : List ℕ → ℕ → ℕ → ℕ → List ℕ
+secondFirst page start next after = take (after - next) (drop next page) ++ take (next - start) (drop start page)
+
+-- such records, and a buffer with room for both from `at` on
+pub record PlacingPair (page out : List ℕ) (start next after at : ℕ) : Type 0 where
+  pub span : Spans page start next
+  pub behind : Spans page next after
+  pub room : at + length (secondFirst page start next after) ≤ length out
 
 -- such a record that is a set operator
 pub record SetOperator (page : List ℕ) (start next : ℕ) : Type 0 where

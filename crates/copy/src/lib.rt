@@ -3,6 +3,7 @@
 pub mod number;
 pub mod operator;
 pub mod record;
+pub mod times;
 pub mod whole;
 
 pub use whole::copy_fits;

@@ -3,6 +3,8 @@
 use crate::record::absorbed_by;
 use crate::record::put_record;
 use crate::record::record_len;
+use crate::times::is_before_at;
+use crate::times::put_at_first;
 ghost use mathlib.Core.Path.{_≡_};
 ghost use Prim.Native.Nat.{_≤_, _<_};
 ghost use lib.ListN.{length, getD};
@@ -55,9 +57,15 @@ pub fn put_copy(page: &[u8], starts: &[u16], n: usize, out: &mut [u8]) -> usize
     while i < n {
         let start = starts[i] as usize;
         let next = end_of(page, starts, n, i);
-        let taken = absorbed_by(page, start, next);
-        at = put_record(page, start, next, out, at);
-        i = i + 1 + taken;
+        if is_before_at(page, start, next) {
+            let after = end_of(page, starts, n, i + 1);
+            at = put_at_first(page, start, next, after, out, at);
+            i = i + 2;
+        } else {
+            let taken = absorbed_by(page, start, next);
+            at = put_record(page, start, next, out, at);
+            i = i + 1 + taken;
+        }
     }
     at
 }
