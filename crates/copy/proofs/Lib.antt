@@ -1,5 +1,6 @@
 pub mod CopyRecordsLaws
 pub mod CopyLaws
+pub mod FlatLaws
 pub mod FrontLaws
 pub mod LengthLaws
 pub mod ModifierLaws
@@ -11,4 +12,6 @@ pub mod RecordCopyLaws
 pub mod SpanLaws
 pub mod StartsLaws
 pub mod TimesLaws
+pub mod TreeLaws
 pub mod UnaryLaws
+pub mod WrapperTreeLaws
