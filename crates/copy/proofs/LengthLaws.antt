@@ -159,12 +159,35 @@ copyRecords-bytes (leaf (selector s) ∷ rs) (g, h) =
       bytesOf-more (leaf (selector s)) rs,
       bytesOf-more (leaf (selector s)) (copyRecords rs),
     )
-copyRecords-bytes (wrapper (range n) ∷ rs) (g, h) = omega (arith, copyRecords-bytes rs h, bytesOf-more (wrapper (range n)) rs, bytesOf-more (wrapper (range n)) (copyRecords rs))
-copyRecords-bytes (wrapper (subquery r s) ∷ rs) (g, h) = omega (arith, copyRecords-bytes rs h, bytesOf-more (wrapper (subquery r s)) rs, bytesOf-more (wrapper (subquery r s)) (copyRecords rs))
-copyRecords-bytes (wrapper (at a) ∷ rs) (g, h) = omega (arith, copyRecords-bytes rs h, bytesOf-more (wrapper (at a)) rs, bytesOf-more (wrapper (at a)) (copyRecords rs))
-copyRecords-bytes (wrapper (offset o) ∷ rs) (g, h) = omega (arith, copyRecords-bytes rs h, bytesOf-more (wrapper (offset o)) rs, offset-bytes o (copyRecords rs))
-copyRecords-bytes (wrapper unary ∷ rs) (g, h) = omega (arith, copyRecords-bytes rs h, bytesOf-more (wrapper unary) rs, bytesOf-more (wrapper unary) (copyRecords rs))
-copyRecords-bytes (wrapper paren ∷ rs) (g, h) = omega (arith, copyRecords-bytes rs h, bytesOf-more (wrapper paren) rs, bytesOf-more (wrapper paren) (copyRecords rs))
+copyRecords-bytes (wrapper (range n) ∷ rs) (g, h) =
+    omega (
+      arith,
+      copyRecords-bytes rs h,
+      bytesOf-more (wrapper (range n)) rs,
+      bytesOf-more (wrapper (range n)) (copyRecords rs),
+    )
+copyRecords-bytes (wrapper (subquery r s) ∷ rs) (g, h) =
+    omega (
+      arith,
+      copyRecords-bytes rs h,
+      bytesOf-more (wrapper (subquery r s)) rs,
+      bytesOf-more (wrapper (subquery r s)) (copyRecords rs),
+    )
+copyRecords-bytes (wrapper (at a) ∷ rs) (g, h) =
+    omega (
+      arith,
+      copyRecords-bytes rs h,
+      bytesOf-more (wrapper (at a)) rs,
+      bytesOf-more (wrapper (at a)) (copyRecords rs),
+    )
+copyRecords-bytes (wrapper (offset o) ∷ rs) (g, h) =
+    omega (arith, copyRecords-bytes rs h, bytesOf-more (wrapper (offset o)) rs, offset-bytes o (copyRecords rs))
+copyRecords-bytes (wrapper unary ∷ rs) (g, h) =
+    omega
+    (arith, copyRecords-bytes rs h, bytesOf-more (wrapper unary) rs, bytesOf-more (wrapper unary) (copyRecords rs))
+copyRecords-bytes (wrapper paren ∷ rs) (g, h) =
+    omega
+    (arith, copyRecords-bytes rs h, bytesOf-more (wrapper paren) rs, bytesOf-more (wrapper paren) (copyRecords rs))
 copyRecords-bytes (binary c m ∷ rs) (g, h) =
     omega (arith, copyRecords-bytes rs h, bytesOf-more (binary c m) rs, bytesOf-more (binary c (checkedModifier c m)) (copyRecords rs), binary-bytes c (g .0) m)
 copyRecords-bytes (aggregate c m n ∷ rs) (g, h) =

@@ -1,5 +1,6 @@
 pub mod CopyRecordsLaws
 pub mod CopyLaws
+pub mod DistinctLaws
 pub mod FlatLaws
 pub mod FrontLaws
 pub mod LengthLaws
@@ -9,6 +10,7 @@ pub mod OffsetLaws
 pub mod OperatorLaws
 pub mod PairLaws
 pub mod RecordCopyLaws
+pub mod SettledLaws
 pub mod SpanLaws
 pub mod StartsLaws
 pub mod TimesLaws

@@ -115,50 +115,67 @@ second-first page start next after = cut (take (after - next) (drop next page)) 
 
 -- ## By the table of starts
 
-module _ {page starts : List ℕ} {n : ℕ} (held : PageStarts page starts n) (i next : ℕ) (l : i < n) (span : Spans page (getD starts i 0) next) where
-  -- the next record stands where this one ends
-  next-stands : fromRecord (suc i) page ≡ drop next page
-  next-stands = fromRecord-next i page ∙ ap behind (ap readRecord (sym (held .stands i l)) ∙ sym (span .reads))
-
-  module _ (q : isBeforeAt (drop (getD starts i 0) page) ≡ true) where
+module _ {page starts : List ℕ} {n : ℕ} (held : PageStarts page starts n) (i next : ℕ) (l : i < n)
+    (span : Spans page (getD starts i 0) next) (is : isBeforeAt (drop (getD starts i 0) page) ≡ true)
+  where
     pair : Pair (drop (getD starts i 0) page) (drop i (readPage page .records))
     pair = pair-read (drop (getD starts i 0) page) (drop i (readPage page .records)) (drop-bytes (getD starts i 0) page (held .bytes))
-        (more-at held i l) (stands-at held i l) q
+        (more-at held i l) (stands-at held i l) is
 
+    -- the @ is a record of the table
     pub pair-inside : i + 1 < n
     pair-inside = omega (arith, held .count, length-drop i (readPage page .records), ap length (pair .isRecords))
 
-    pub pair-behind : (after : ℕ) → Spans page (getD starts (i + 1) 0) after → Spans page next after
-    pair-behind after there =
-        record {
-          bytes = there .bytes;
-          item = there .item;
-          reads = there .reads ∙ ap readRecord (held .stands (i + 1) pair-inside ∙ ap (λ (k : ℕ). fromRecord k page) (add-one i) ∙ next-stands);
-          inside = there .inside;
-        }
+    -- it stands where the offset ends
+    pub next-stands : drop (getD starts (i + 1) 0) page ≡ drop next page
+    next-stands =
+        held .stands (i + 1) pair-inside
+        ∙ ap (λ (k : ℕ). fromRecord k page) (add-one i)
+        ∙ fromRecord-next i page
+        ∙ ap behind (ap readRecord (sym (held .stands i l)) ∙ sym (span .reads))
 
-    pub copyFrom-pair : (after : ℕ) → Spans page next after
-        → Cut (copyFrom page i) (secondFirst page (getD starts i 0) next after) (copyFrom page (i + 2))
-    unfolding copyFrom
-    copyFrom-pair after there =
-        let records : List Record = drop i (readPage page .records) in
-        let read-first : got (span .item) (drop next page) ≡ got (pair .first) (pair .after) = span .reads ∙ sym (pair .isFirst) in
-        let same-first : span .item ≡ pair .first = cc in
-        let same-after : drop next page ≡ pair .after = cc in
-        let read-second : got (there .item) (drop after page) ≡ got (pair .second) (pair .last) = there .reads ∙ ap readRecord same-after ∙ sym (pair .isSecond) in
-        let same-second : there .item ≡ pair .second = cc in
-        let first : writeRecord (pair .first) ≡ take (next - getD starts i 0) (drop (getD starts i 0) page) = sym (span-part span ∙ ap writeRecord same-first) in
-        let second : writeRecord (pair .second) ≡ take (after - next) (drop next page) = sym (span-part there ∙ ap writeRecord same-second) in
-        let rest : pair .rest ≡ drop (i + 2) (readPage page .records) = sym (ap (drop 2) (pair .isRecords)) ∙ later held i 1 ∙ ap (λ (k : ℕ). drop k (readPage page .records)) two in
-        record {
-          is =
-              ap (λ (x : List Record). writeAll writeRecord (copyRecords x)) (pair .isRecords)
-              ∙ ap (writeAll writeRecord)
-              (pair-copied (pair .first) (pair .second) (pair .rest) (pair .isOffset) (pair .isAt) (subst Walks (pair .isRecords) (walks-at held i)))
-              ∙ sym (append-assoc (writeRecord (pair .second)) (writeRecord (pair .first)) (writeAll writeRecord (copyRecords (pair .rest))))
-              ∙ ap₂ (λ (x y : List ℕ). (x ++ y) ++ writeAll writeRecord (copyRecords (pair .rest))) second first
-              ∙ ap (λ (x : List Record). secondFirst page (getD starts i 0) next after ++ writeAll writeRecord (copyRecords x)) rest;
-        }
-      where
-        two : i + 1 + 1 ≡ i + 2
-        two = omega arith
+    module _ (after : ℕ) (there : Spans page (getD starts (i + 1) 0) after) where
+      abbrev pub pair-behind : Spans page next after
+      pair-behind =
+          record {
+            bytes = there .bytes;
+            item = there .item;
+            reads = there .reads ∙ ap readRecord next-stands;
+            inside = there .inside;
+          }
+
+      first-part : writeRecord (pair .first) ≡ take (next - getD starts i 0) (drop (getD starts i 0) page)
+      first-part =
+          let read : got (span .item) (drop next page) ≡ got (pair .first) (pair .after) = span .reads ∙ sym (pair .isFirst) in
+          let same : span .item ≡ pair .first = cc in
+          sym (span-part span ∙ ap writeRecord same)
+
+      second-part : writeRecord (pair .second) ≡ take (after - next) (drop next page)
+      second-part =
+          let read-first : got (span .item) (drop next page) ≡ got (pair .first) (pair .after) = span .reads ∙ sym (pair .isFirst) in
+          let same-bytes : drop next page ≡ pair .after = cc in
+          let read : got (there .item) (drop after page)
+          ≡ got (pair .second) (pair .last) = pair-behind .reads ∙ ap readRecord same-bytes
+          ∙ sym (pair .isSecond) in
+          let same : there .item ≡ pair .second = cc in
+          sym (span-part pair-behind ∙ ap writeRecord same)
+
+      rest-is : pair .rest ≡ drop (i + 2) (readPage page .records)
+      rest-is =
+          sym (ap (drop 2) (pair .isRecords)) ∙ later held i 1 ∙ ap (λ (k : ℕ). drop k (readPage page .records)) two
+        where
+          two : i + 1 + 1 ≡ i + 2
+          two = omega arith
+
+      pub copyFrom-pair : Cut (copyFrom page i) (secondFirst page (getD starts i 0) next after) (copyFrom page (i + 2))
+      unfolding copyFrom
+      copyFrom-pair =
+          record {
+            is =
+                ap (λ (x : List Record). writeAll writeRecord (copyRecords x)) (pair .isRecords)
+                ∙ ap (writeAll writeRecord)
+                (pair-copied (pair .first) (pair .second) (pair .rest) (pair .isOffset) (pair .isAt) (subst Walks (pair .isRecords) (walks-at held i)))
+                ∙ sym (append-assoc (writeRecord (pair .second)) (writeRecord (pair .first)) (writeAll writeRecord (copyRecords (pair .rest))))
+                ∙ ap₂ (λ (x y : List ℕ). (x ++ y) ++ writeAll writeRecord (copyRecords (pair .rest))) second-part first-part
+                ∙ ap (λ (x : List Record). secondFirst page (getD starts i 0) next after ++ writeAll writeRecord (copyRecords x)) rest-is;
+          }

@@ -150,12 +150,13 @@ swapped o a (e ∷ below) u v h k =
     let first = offset-sets o e below u h in
     let t = first .times in
     let of = timed e t (first .isTimes) in
-    let next = at-sets a (withTimes (withOffset o t) e) below v (subst (λ (x : List Expr). apply (wrapper (at a)) x ≡ ok v) (first .isNext) k) in
-    (
+    let next = at-sets a (withTimes (withOffset o t) e) below v (subst (λ (x : List Expr). apply (wrapper (at a)) x ≡ ok v) (first .isNext) k) in (
       withTimes (withAt a t) e ∷ below,
       sets-at a e below t (first .isTimes) (free-given (λ x. x .at ≡ none) (withAt a) e t (withOffset o t) below v (first .isTimes) next) (first .isSound),
       sets-offset o (withTimes (withAt a t) e) below (withAt a t) (of .isTimed (withAt a t)) (first .isFree) (of .isFault (withAt a t) ∙ first .isSound)
-      ∙ ap ok (ap (λ (x : Expr). x ∷ below) (of .isLast (withOffset o (withAt a t)) (withAt a t)) ∙ sym (next-given (λ x. x .at ≡ none) (withAt a) e t (withOffset o t) below v (first .isTimes) next)),
+          ∙ ap ok
+          (ap (λ (x : Expr). x ∷ below) (of .isLast (withOffset o (withAt a t)) (withAt a t))
+          ∙ sym (next-given (λ x. x .at ≡ none) (withAt a) e t (withOffset o t) below v (first .isTimes) next)),
     )
 
 -- ## A time is set once
@@ -173,5 +174,8 @@ unfolding apply
 offset-once o p [] u v h k = no-success 2 u h
 offset-once o p (e ∷ below) u v h k =
     let first = offset-sets o e below u h in
-    let next = offset-sets p (withTimes (withOffset o (first .times)) e) below v (subst (λ (x : List Expr). apply (wrapper (offset p)) x ≡ ok v) (first .isNext) k) in
-    absurd (Option·none-ne-some o (sym (free-given (λ x. x .offset ≡ none) (withOffset p) e (first .times) (withOffset o (first .times)) below v (first .isTimes) next)))
+    let next = offset-sets p (withTimes (withOffset o (first .times)) e) below v
+    (subst (λ (x : List Expr). apply (wrapper (offset p)) x ≡ ok v) (first .isNext) k) in
+    absurd (Option·none-ne-some o
+    (sym (free-given (λ x. x .offset ≡ none) (withOffset p) e (first .times) (withOffset o (first .times)) below
+    v (first .isTimes) next)))

@@ -48,7 +48,8 @@ binary-copied c m xs rs =
 sides : (xs ls rs : List Record) (o : Record) → (((xs ++ ls) ++ rs) ++ (o ∷ [])) ≡ xs ++ (ls ++ (rs ++ (o ∷ [])))
 sides xs ls rs o = append-assoc (xs ++ ls) rs (o ∷ []) ∙ append-assoc xs ls (rs ++ (o ∷ []))
 
-binary-same : (c : ℕ) (m : Option BinModifier) (l r : Expr) (below u : List Expr) → apply (binary c m) (r ∷ l ∷ below) ≡ ok u → Same (binary c m) (r ∷ l ∷ below) u
+binary-same : (c : ℕ) (m : Option BinModifier) (l r : Expr) (below u : List Expr)
+    → apply (binary c m) (r ∷ l ∷ below) ≡ ok u → Same (binary c m) (r ∷ l ∷ below) u
 unfolding apply checkAst
 binary-same c m l r below u h rs =
     let q = checkedModifier c m in
@@ -87,7 +88,7 @@ aggregate-tree true c m n (p ∷ e ∷ []) below u k h = (
   AggregateParam c m p e,
   checked-gives (firstFault (aggregateRows c (some (valueType p)) (valueType e))) (AggregateParam c m p e) below u h .1,
   sym (append-assoc (recordsOf p) (recordsOf e) (aggregate c m 2 ∷ []))
-  ∙ ap₂ (λ (z : List Record) (j : ℕ). (recordsOf p ++ z) ++ (aggregate c m j ∷ [])) (sym (append-nil (recordsOf e))) k,
+      ∙ ap₂ (λ (z : List Record) (j : ℕ). (recordsOf p ++ z) ++ (aggregate c m j ∷ [])) (sym (append-nil (recordsOf e))) k,
 )
 aggregate-tree true c m n (p ∷ e ∷ x ∷ es) below u k h = no-success 15 u h
 aggregate-tree false c m n (e ∷ []) below u k h = (

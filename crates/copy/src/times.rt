@@ -20,7 +20,14 @@ pub fn is_before_at(page: &[u8], start: usize, next: usize) -> bool
 }
 
 // The @ and then the offset, each as on the page.
-pub fn put_at_first(page: &[u8], start: usize, next: usize, after: usize, out: &mut [u8], at: usize) -> usize
+pub fn put_at_first(
+    page: &[u8],
+    start: usize,
+    next: usize,
+    after: usize,
+    out: &mut [u8],
+    at: usize,
+) -> usize
     requires { ⌜ PlacingPair (now page) (now out) start next after at ⌝ }
     ensures { λ r. ⌜ Wrote (now (out .entry)) (now (out .exit)) at (secondFirst (now (page .entry)) start next after) r ⌝ }
 {

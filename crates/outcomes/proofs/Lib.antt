@@ -1,3 +1,4 @@
 pub mod CallsLaws
 pub mod CopyAgainLaws
+pub mod OneCopyLaws
 pub mod WellFormedLaws

@@ -1,11 +1,12 @@
+-- `copy::times::is_before_at` meets its contract: the kind is
+-- the record's first byte, and so is that of the next record,
+-- if there is one. Assumes nothing.
 use mathlib.Core.Path.{sym}
-use Rattle.copy.proofs.SpanLaws.{span-wide, before-at-other, before-at-inside, before-at-end}
 use native.Mathlib.Omega.{arith}
 use borrow.Author.Needs.{needs}
+use Rattle.copy.proofs.SpanLaws.{span-wide, before-at-other, before-at-inside, before-at-end}
 use Rattle.copy.proofs.times.is_before_at.Statement.{statement}
 use Rattle.copy.proofs.times.is_before_at.Tie as tie
-use Rattle.copy.proofs.times.is_before_at.Reads as reads
-use Rattle.copy.proofs.times.is_before_at.Lts as lts
 
 shared-slice-read-if1 : tie.Need-shared-slice-read-if1
 shared-slice-read-if1 c = omega (arith, span-wide (c .before .pre), c .before .pre .inside)
@@ -17,10 +18,14 @@ shared-slice-read-result : tie.Need-shared-slice-read-result
 shared-slice-read-result c = search needs
 
 returns-2 : tie.Need-returns-2
-returns-2 c = sym (before-at-inside (c .before .before .before .before .pre) (c .before .before .if1 .left) (c .before .if2 .taken))
+returns-2 c =
+    let at-start = c .before .before .before .before in
+    sym (before-at-inside (at-start .pre) (c .before .before .if1 .left) (c .before .if2 .taken))
 
 returns-3 : tie.Need-returns-3
-returns-3 c = sym (before-at-end (c .before .before .before .pre) (c .before .if1 .left) (c .if2 .left))
+returns-3 c =
+    let at-start = c .before .before .before in
+    sym (before-at-end (at-start .pre) (c .before .if1 .left) (c .if2 .left))
 
 pub is-before-at-spec : {M : Type 1} → statement M
 is-before-at-spec =

@@ -26,25 +26,44 @@ part-put-bytes-end : tie.Need-part-put-bytes-end
 part-put-bytes-end c = c .before .before .pre .behind .inside
 
 put-bytes-requires : tie.Need-put-bytes-requires
-put-bytes-requires c κs = room (begun (c .before .before .before .before)) (second-first (c .before .before .before .before .args .page .now) (c .before .before .before .before .args .start) (c .before .before .before .before .args .next) (c .before .before .before .before .args .after))
+put-bytes-requires c κs =
+    let at-start = c .before .before .before .before in
+    room (begun at-start)
+    (second-first (at-start .args .page .now) (at-start .args .start) (at-start .args .next)
+    (at-start .args .after))
 
 sub-put-bytes-2 : tie.Need-sub-put-bytes-2
-sub-put-bytes-2 c = omega (arith, span-wide (c .before .before .before .before .before .before .before .pre .span))
+sub-put-bytes-2 c =
+    let at-start = c .before .before .before .before .before .before .before in
+    omega (arith, span-wide (at-start .pre .span))
 
 part-put-bytes-start-2 : tie.Need-part-put-bytes-start-2
-part-put-bytes-start-2 c = omega (arith, span-wide (c .before .before .before .before .before .before .before .pre .span))
+part-put-bytes-start-2 c =
+    let at-start = c .before .before .before .before .before .before .before in
+    omega (arith, span-wide (at-start .pre .span))
 
 part-put-bytes-end-2 : tie.Need-part-put-bytes-end-2
 part-put-bytes-end-2 c = search needs
 
 put-bytes-requires-2 : tie.Need-put-bytes-requires-2
-put-bytes-requires-2 c κs = room (step (begun (c .before .before .before .before .before .before .before .before .before)) (second-first (c .before .before .before .before .before .before .before .before .before .args .page .now) (c .before .before .before .before .before .before .before .before .before .args .start) (c .before .before .before .before .before .before .before .before .before .args .next) (c .before .before .before .before .before .before .before .before .before .args .after)) (c .before .before .before .before .put-bytes .ensures)) (cut-last _)
+put-bytes-requires-2 c κs =
+    let at-put-bytes = c .before .before .before .before in
+    let at-start = at-put-bytes .before .before .before .before .before in
+    room (step (begun at-start)
+    (second-first (at-start .args .page .now) (at-start .args .start) (at-start .args .next)
+    (at-start .args .after)) (at-put-bytes .put-bytes .ensures)) (cut-last _)
 
 same-length : tie.Need-same-length
 same-length c = search needs
 
 returns : tie.Need-returns
-returns c = finish (step (step (begun (c .before .before .before .before .before .before .before .before .before .before .before .before)) (second-first (c .before .before .before .before .before .before .before .before .before .before .before .before .args .page .now) (c .before .before .before .before .before .before .before .before .before .before .before .before .args .start) (c .before .before .before .before .before .before .before .before .before .before .before .before .args .next) (c .before .before .before .before .before .before .before .before .before .before .before .before .args .after)) (c .before .before .before .before .before .before .before .put-bytes .ensures)) (cut-last _) (c .before .before .put-bytes2 .ensures)) refl
+returns c =
+    let at-put-bytes = c .before .before .before .before .before .before .before in
+    let at-start = at-put-bytes .before .before .before .before .before in
+    finish (step (step (begun at-start)
+    (second-first (at-start .args .page .now) (at-start .args .start) (at-start .args .next)
+    (at-start .args .after)) (at-put-bytes .put-bytes .ensures)) (cut-last _)
+    (c .before .before .put-bytes2 .ensures)) refl
 
 pub put-at-first-spec : {M : Type 1} → statement M
 put-at-first-spec =
