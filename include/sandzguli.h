@@ -155,7 +155,19 @@ enum sandzguli_pattern_answer {
 /* The kind of the query, or why it is refused. Writes nothing; the count of bytes is 0. */
 sandzguli_outcome sandzguli_check(const uint8_t *page, size_t page_len);
 
-/* The page of the checked query: numbers under unary records negated, set operators many-to-many. */
+/* The page of the checked query: numbers under unary records negated, set operators many-to-many, @ before offset
+ * wherever both are set on one expression. All else is as on the page, in its order. A copy of at most
+ * SANDZGULI_PAGE_BYTES is a page: the same query, and its own copy (proved).
+ *
+ * Two accepted pages have equal copies if and only if they are the same query, field by field (proved). So compare the
+ * counts of bytes that the two calls report, then so many bytes with memcmp, as examples/c/same_query.c does. Lend
+ * SANDZGULI_COPY_BYTES to each: every copy fits, and 5 is not answered. Copies above SANDZGULI_PAGE_BYTES are compared
+ * the same way.
+ *
+ * Every field counts, also where the texts are alike: the order of matchers and labels, the signature that a call
+ * carries, the flags of patterns, each time of @, `offset 0s` and `offset -0s`, 0 and minus zero, a modifier that is
+ * absent and one with nothing in it, as `sum(up)` and `sum by () (up)`. (In a copy every set operator has a modifier.)
+ * NaN is one number. */
 sandzguli_outcome sandzguli_copy(const uint8_t *page, size_t page_len, uint8_t *out, size_t out_len);
 
 /* The query on one line. */

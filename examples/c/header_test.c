@@ -66,6 +66,32 @@ static void test_copy(void) {
     expect(sandzguli_written(outcome) == 3 && memcmp(out, "\x00\x01\x05", 3) == 0, "the copy is 00 01 05");
 }
 
+/* Whether two accepted pages are one query: by memcmp of the bytes that copy reports. */
+static int is_one_query(const uint8_t *first, size_t first_len, const uint8_t *second, size_t second_len) {
+    uint8_t copies[2][SANDZGULI_COPY_BYTES];
+    sandzguli_outcome one = sandzguli_copy(first, first_len, copies[0], sizeof copies[0]);
+    sandzguli_outcome other = sandzguli_copy(second, second_len, copies[1], sizeof copies[1]);
+    expect(!sandzguli_is_refused(one) && !sandzguli_is_refused(other), "both are queries");
+    return sandzguli_written(one) == sandzguli_written(other)
+        && memcmp(copies[0], copies[1], sandzguli_written(one)) == 0;
+}
+
+/* `up @ end() offset 1ms` in both orders, then with another sign; `sum(up)` and `sum by () (up)`. */
+static void test_one_copy(void) {
+    uint8_t at_first[] = {0x02, 0x02, 'u', 'p', 0x00, 0x05, 0x01, 0x06, 0x00, 0x01};
+    const uint8_t offset_first[] = {0x02, 0x02, 'u', 'p', 0x00, 0x06, 0x00, 0x01, 0x05, 0x01};
+    const uint8_t absent[] = {0x02, 0x02, 'u', 'p', 0x00, 0x0a, 0x1b, 0x00, 0x01};
+    const uint8_t empty[] = {0x02, 0x02, 'u', 'p', 0x00, 0x0a, 0x1b, 0x01, 0x00, 0x01};
+    uint8_t *sign = &at_first[8];
+    uint8_t out[sizeof offset_first];
+    sandzguli_outcome outcome = sandzguli_copy(offset_first, sizeof offset_first, out, sizeof out);
+    expect(sandzguli_written(outcome) == sizeof out && memcmp(out, at_first, sizeof out) == 0, "@ comes first");
+    expect(is_one_query(at_first, sizeof at_first, offset_first, sizeof offset_first), "either order is one query");
+    *sign = 1;
+    expect(!is_one_query(at_first, sizeof at_first, offset_first, sizeof offset_first), "another sign is another one");
+    expect(!is_one_query(absent, sizeof absent, empty, sizeof empty), "an empty grouping is not an absent one");
+}
+
 /* 0.000001 under a unary record: its text has all six places, its copy the other form. Digits 0 and 10, which ends in
  * 0, and 16 places are no fraction's. */
 static void test_fraction(void) {
@@ -199,6 +225,7 @@ int main(void) {
     test_up();
     test_utf8();
     test_copy();
+    test_one_copy();
     test_fraction();
     test_label();
     test_patterns();
