@@ -102,10 +102,30 @@ pub fn joint_label(page: &[u8]) -> Option<&str> {
     Some(unsafe { from_utf8_unchecked(label) })
 }
 
-/// The page of the checked query: numbers under unary records are negated, set operators many-to-many.
+/// The page of the checked query: numbers under unary records are negated, set operators many-to-many, and `@` stands
+/// before `offset` wherever both are set on one expression. All else is as on the page, in its order. A copy of at most
+/// [`PAGE_BYTES`](crate::PAGE_BYTES) is a page: the same query, and its own copy.
 ///
 /// ```
 /// assert_eq!(sandzguli::copy(b"\x00\x00\x05\x07").unwrap(), b"\x00\x01\x05");
+/// ```
+///
+/// Two accepted pages have equal copies if and only if they are the same query ([`same_query`](crate::same_query) says
+/// what counts). So a sheet of many queries keeps their copies, and each page is copied once:
+///
+/// ```
+/// use sandzguli::page::{AtModifier, Page, Record};
+/// use std::collections::HashSet;
+///
+/// let [up, hour, end] = [Record::selector("up", []), Record::offset(3_600_000), Record::At(AtModifier::End)];
+/// let pages = [
+///     Page::from([up.clone(), hour.clone(), end.clone()]),
+///     Page::from([up.clone(), hour.clone()]),
+///     Page::from([up, end, hour]),
+/// ];
+/// let mut sheet = HashSet::new();
+/// let is_new = pages.map(|page| sheet.insert(sandzguli::copy(&page.to_bytes()).unwrap()));
+/// assert_eq!(is_new, [true, true, false]);
 /// ```
 pub fn copy(page: &[u8]) -> Result<Vec<u8>, Refusal> {
     owned(sandzguli_copy, page, COPY_BYTES)

@@ -65,6 +65,9 @@
 //! assert_eq!(sandzguli::check(&page).unwrap_err().rule, Rule::WrongFlag);
 //! ```
 //!
+//! Two pages may be one query: [`same_query`] tells whether they are, by what [`copy`] writes of each. So a sheet of
+//! queries knows which it has already.
+//!
 //! The calls are those of the proved library `libsandzguli.a`, which keep nothing between them and allocate nothing:
 //! any thread may call at any time. The functions that answer with an owned value allocate it. All calls on a page
 //! recurse over the bytes of its patterns, and the texts over its records; none uses more than [`STACK_BYTES`] of
@@ -76,6 +79,7 @@ mod name;
 pub mod page;
 mod pattern;
 mod refusal;
+mod same_query;
 mod size;
 mod text;
 
@@ -84,5 +88,6 @@ pub use kind::Kind;
 pub use name::{kind_name, kind_name_into, refusal_name, refusal_name_into, version};
 pub use pattern::matches_empty;
 pub use refusal::{Refusal, Rule};
+pub use same_query::{same_query, RefusedPage};
 pub use size::{CANONICAL_BYTES, COPY_BYTES, NAME_BYTES, PAGE_BYTES, RECORDS, STACK_BYTES};
 pub use text::{canonical, canonical_into, canonical_str, split, split_into, split_str};

@@ -1,10 +1,12 @@
-//! The laws that the sources cite, on which what is unsafe there rests, are stated in the library's proofs.
+//! The laws that the sources cite are stated in the library's proofs: on them rests what is unsafe there, and what is
+//! said of two pages that are one query.
 
 use std::fs;
 use std::path::Path;
 
-const SOURCES: [&str; 2] = [
+const SOURCES: [&str; 3] = [
     include_str!("../src/call.rs"),
+    include_str!("../src/same_query.rs"),
     include_str!("../src/text.rs"),
 ];
 

@@ -19,7 +19,7 @@ mod listing;
 
 use frame::{frame, Frame};
 use listing::{functions, list};
-use sandzguli::{RECORDS, STACK_BYTES};
+use sandzguli::{COPY_BYTES, RECORDS, STACK_BYTES};
 use std::collections::{BTreeMap, BTreeSet};
 
 const OVER_RECORDS: [&str; 5] = [
@@ -151,6 +151,8 @@ fn no_call_uses_more_stack_than_is_said() {
         println!("{call:<24}{bytes:>8} bytes");
         assert!(*bytes <= STACK_BYTES, "{call} may use {bytes} bytes");
     }
+    // `same_query` calls it with two copies on the stack.
+    assert!(sums["sandzguli_copy"] + 2 * COPY_BYTES <= STACK_BYTES);
     // The texts go over all records, so that their sums are large; a listing that is not read has none.
     assert!(sums["sandzguli_canonical"] > 100 * RECORDS);
     assert!(sums["sandzguli_split"] > sums["sandzguli_canonical"]);
