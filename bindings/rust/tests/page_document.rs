@@ -168,3 +168,18 @@ fn copies_are_those_of_the_table() {
         assert_eq!(copied, Ok(bytes(quoted(copy)[0])));
     }
 }
+
+/// Both ways round.
+#[test]
+fn pages_are_one_query_or_two_as_the_table_says() {
+    for [first, second, queries] in rows(["First", "Second", "Queries"]) {
+        let is_one = match queries {
+            "one" => true,
+            "two" => false,
+            _ => panic!("{queries} queries"),
+        };
+        let [first, second] = [first, second].map(|page| bytes(quoted(page)[0]));
+        assert_eq!(sandzguli::same_query(&first, &second), Ok(is_one));
+        assert_eq!(sandzguli::same_query(&second, &first), Ok(is_one));
+    }
+}
