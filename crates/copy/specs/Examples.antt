@@ -6,9 +6,10 @@ use Prim.Native.Nat.{ℕ}
 use mathlib.Core.Bool.{Bool, not}
 use mathlib.Core.List.{List, [], _∷_, _++_}
 use lib.Dec.{T}
-use Rattle.page.specs.Bytes.{hex, all, any, equal}
+use Rattle.page.specs.Bytes.{pick, hex, all, any, equal}
 use Rattle.records.specs.Record.{readRecord, readPage, writeRecord}
 use Rattle.copy.specs.Copy.{copyPage}
+use Rattle.copy.specs.Settled.{isSettled}
 
 record Copied : Type 0 where
   page : List ℕ
@@ -123,6 +124,14 @@ isCopy c = equal (copyPage (c .page)) (c .copy)
 copiesAreSo : T (all isCopy (copies ++ times))
 unfolding readRecord readPage writeRecord copyPage
 copiesAreSo = tt
+
+-- the pages that are settled are those which are their own copies
+abbrev isSettledRight : Copied → Bool
+isSettledRight c = pick (isSettled (readPage (c .page) .records)) (equal (c .page) (c .copy)) (not (equal (c .page) (c .copy)))
+
+settledAreTheirOwn : T (all isSettledRight (copies ++ times))
+unfolding readRecord readPage
+settledAreTheirOwn = tt
 
 noneIsSo : T (not (any isCopy wrong))
 unfolding readRecord readPage writeRecord copyPage

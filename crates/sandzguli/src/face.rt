@@ -22,7 +22,7 @@ const MAJOR: u64 = 0;
 
 const MINOR: u64 = 3;
 
-const PATCH: u64 = 0;
+const PATCH: u64 = 1;
 
 #[no_mangle]
 pub extern "C" fn sandzguli_check(page: &[u8]) -> u64

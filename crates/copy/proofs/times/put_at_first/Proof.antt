@@ -17,13 +17,19 @@ begun : (c : tie.Start) → let a = c .args in
 begun c = begin (c .args .out .now) (c .args .at) _ (c .pre .room)
 
 sub-put-bytes : tie.Need-sub-put-bytes
-sub-put-bytes c = omega (arith, span-wide (c .before .before .pre .behind))
+sub-put-bytes c =
+    let at-start = c .before .before in
+    omega (arith, span-wide (at-start .pre .span), span-wide (at-start .pre .behind))
 
 part-put-bytes-start : tie.Need-part-put-bytes-start
-part-put-bytes-start c = omega (arith, span-wide (c .before .before .pre .behind))
+part-put-bytes-start c =
+    let at-start = c .before .before in
+    omega (arith, span-wide (at-start .pre .span), span-wide (at-start .pre .behind))
 
 part-put-bytes-end : tie.Need-part-put-bytes-end
-part-put-bytes-end c = c .before .before .pre .behind .inside
+part-put-bytes-end c =
+    let at-start = c .before .before in
+    omega (arith, at-start .pre .span .inside, at-start .pre .behind .inside)
 
 put-bytes-requires : tie.Need-put-bytes-requires
 put-bytes-requires c κs =
@@ -35,15 +41,17 @@ put-bytes-requires c κs =
 sub-put-bytes-2 : tie.Need-sub-put-bytes-2
 sub-put-bytes-2 c =
     let at-start = c .before .before .before .before .before .before .before in
-    omega (arith, span-wide (at-start .pre .span))
+    omega (arith, span-wide (at-start .pre .span), span-wide (at-start .pre .behind))
 
 part-put-bytes-start-2 : tie.Need-part-put-bytes-start-2
 part-put-bytes-start-2 c =
     let at-start = c .before .before .before .before .before .before .before in
-    omega (arith, span-wide (at-start .pre .span))
+    omega (arith, span-wide (at-start .pre .span), span-wide (at-start .pre .behind))
 
 part-put-bytes-end-2 : tie.Need-part-put-bytes-end-2
-part-put-bytes-end-2 c = search needs
+part-put-bytes-end-2 c =
+    let at-start = c .before .before .before .before .before .before .before in
+    omega (arith, at-start .pre .span .inside, at-start .pre .behind .inside)
 
 put-bytes-requires-2 : tie.Need-put-bytes-requires-2
 put-bytes-requires-2 c κs =
