@@ -9,11 +9,12 @@ pub mod NumberCopyLaws
 pub mod OffsetLaws
 pub mod OperatorLaws
 pub mod PairLaws
+pub mod PlainLaws
 pub mod RecordCopyLaws
 pub mod SettledLaws
 pub mod SpanLaws
 pub mod StartsLaws
+pub mod TakenLaws
 pub mod TimesLaws
 pub mod TreeLaws
 pub mod UnaryLaws
-pub mod WrapperTreeLaws

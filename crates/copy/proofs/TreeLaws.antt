@@ -1,15 +1,15 @@
--- One tree, one copy: of the records of a walk each may be taken over into the records of the stack's trees without
--- changing the copy of all of them; so the copy of an accepted page is the copy of the records of its tree. With
--- `copyPage-tree` both directions. Assumes nothing.
+-- One tree, one copy: the copy of an accepted page is the records of its tree. In a walk over plain records each is taken
+-- over into the stack's trees as it stands, and the records of a copy are plain. With `copyPage-tree` both directions.
+-- Assumes nothing.
 use Prim.Native.Nat.{ℕ, suc, _≤_}
-use mathlib.Core.Path.{_≡_, refl, sym, ap, ap₂, subst, _∙_}
+use mathlib.Core.Path.{_≡_, refl, sym, ap, ap₂, _∙_}
 use mathlib.Core.Bool.{Bool, true, false}
 use mathlib.Core.Logic.{_↔_}
 use mathlib.Core.List.{List, [], _∷_, _++_, append-assoc, append-nil}
 use mathlib.Core.Option.{Option, none, some}
 use native.Mathlib.Omega.{arith}
 use lib.ListN.{length, take, drop, length-reverse, length-take}
-use lib.Dec.{T, leb}
+use lib.Dec.{leb}
 use borrow.Author.Tests.{leb-true}
 use Rattle.page.specs.Bytes.{pick}
 use Rattle.page.specs.Text.{writeAll}
@@ -28,37 +28,29 @@ use Rattle.ast.specs.CheckPage.{push, pushCall, apply, checkPage}
 use Rattle.ast.proofs.WalkLaws.{walk-first}
 use Rattle.copy.specs.Copy.{copyRecords, copyPage}
 use Rattle.copy.specs.Tree.{recordsOf}
-use Rattle.copy.proofs.CopyRecordsLaws.{checkedModifier-once}
-use Rattle.copy.proofs.CopyLaws.{accepted-walks, copyPage-tree}
+use Rattle.copy.proofs.CopyRecordsLaws.{copyRecords-once}
+use Rattle.copy.proofs.CopyLaws.{accepted-walks, copyRecords-walk, copyPage-tree}
 use Rattle.copy.proofs.TimesLaws.{no-success, checked-gives}
-use Rattle.copy.proofs.FlatLaws.{flat, Same, copy-behind, behind, as-tree, listRecords, listRecords-args}
-use Rattle.copy.proofs.FlatLaws.{argCount-args, over-arguments}
-use Rattle.copy.proofs.WrapperTreeLaws.{wrapper-same}
+use Rattle.copy.proofs.FlatLaws.{flat, flat-split, listRecords, listRecords-args, argCount-args}
+use Rattle.copy.proofs.PlainLaws.{Plain, AllPlain, copyRecords-plain}
+use Rattle.copy.proofs.TakenLaws.{Clear, Taken, taken, wrapper-taken}
 
 -- ## Two operands
-
--- the modifier that the check gives is given once
-binary-copied : (c : ℕ) (m : Option BinModifier) (xs rs : List Record)
-    → copyRecords (xs ++ (binary c m ∷ rs)) ≡ copyRecords (xs ++ (binary c (checkedModifier c m) ∷ rs))
-binary-copied c m xs rs =
-    copy-behind xs (binary c m ∷ rs) (binary c (checkedModifier c m) ∷ rs)
-    (ap {B = List Record} (λ y. binary c y ∷ copyRecords rs) (sym (checkedModifier-once c m)))
 
 -- the records below, of both sides and of the operator
 sides : (xs ls rs : List Record) (o : Record) → (((xs ++ ls) ++ rs) ++ (o ∷ [])) ≡ xs ++ (ls ++ (rs ++ (o ∷ [])))
 sides xs ls rs o = append-assoc (xs ++ ls) rs (o ∷ []) ∙ append-assoc xs ls (rs ++ (o ∷ []))
 
-binary-same : (c : ℕ) (m : Option BinModifier) (l r : Expr) (below u : List Expr)
-    → apply (binary c m) (r ∷ l ∷ below) ≡ ok u → Same (binary c m) (r ∷ l ∷ below) u
+binary-taken : (c : ℕ) (m : Option BinModifier) (l r : Expr) (rs : List Record) (below u : List Expr) → apply (binary c m) (r ∷ l ∷ below) ≡ ok u
+    → Plain (binary c m) rs → Taken (binary c m) rs (r ∷ l ∷ below) u
 unfolding apply checkAst
-binary-same c m l r below u h rs =
+binary-taken c m l r rs below u h plain =
     let q = checkedModifier c m in
-    let front = (flat below ++ recordsOf l) ++ recordsOf r in
-    binary-copied c m front rs
-    ∙ behind front (binary c q) rs
-    ∙ ap (λ (x : List Record). copyRecords (x ++ rs)) (sides (flat below) (recordsOf l) (recordsOf r) (binary c q))
-    ∙ sym (ap (λ (z : List Expr). copyRecords (flat z ++ rs))
-    (checked-gives (firstFault (binaryRows c m (valueType l) (valueType r))) (Binary c q l r) below u h .1))
+    taken (binary c m) rs (r ∷ l ∷ below) u (Binary c q l r) below
+    (checked-gives (firstFault (binaryRows c m (valueType l) (valueType r))) (Binary c q l r) below u h .1)
+    (sym (sides (flat below) (recordsOf l) (recordsOf r) (binary c q))
+    ∙ ap (λ (x : Option BinModifier). flat (r ∷ l ∷ below) ++ (binary c x ∷ [])) plain)
+    (refl, refl)
 
 -- ## Arguments
 
@@ -76,75 +68,106 @@ pushCall-gives n make s u = by (leb n (length s)) refl
     by false h k = no-success 2 u k
 
 -- a tree of some arguments, on what lies below them
-abbrev TreeOf : Record → List Expr → List Expr → List Expr → Type 0
-TreeOf r es below u = (y : Expr) × (u ≡ y ∷ below) × (recordsOf y ≡ listRecords es ++ (r ∷ []))
+abbrev TreeOf : Record → List Record → List Expr → List Expr → List Expr → Type 0
+TreeOf r rs es below u = (y : Expr) × (u ≡ y ∷ below) × (recordsOf y ≡ listRecords es ++ (r ∷ [])) × Clear (y ∷ below) rs
 
-aggregate-tree : (has : Bool) (c : ℕ) (m : Option LabelModifier) (n : ℕ) (es below u : List Expr) → length es ≡ n
-    → push (newAggregateOf has c m es) below ≡ ok u → TreeOf (aggregate c m n) es below u
+aggregate-tree : (has : Bool) (c : ℕ) (m : Option LabelModifier) (n : ℕ) (rs : List Record) (es below u : List Expr) → length es ≡ n
+    → push (newAggregateOf has c m es) below ≡ ok u → TreeOf (aggregate c m n) rs es below u
 unfolding checkAst
-aggregate-tree has c m n [] below u k h = no-success 14 u h
-aggregate-tree true c m n (p ∷ []) below u k h = no-success 15 u h
-aggregate-tree true c m n (p ∷ e ∷ []) below u k h = (
+aggregate-tree has c m n rs [] below u k h = no-success 14 u h
+aggregate-tree true c m n rs (p ∷ []) below u k h = no-success 15 u h
+aggregate-tree true c m n rs (p ∷ e ∷ []) below u k h = (
   AggregateParam c m p e,
   checked-gives (firstFault (aggregateRows c (some (valueType p)) (valueType e))) (AggregateParam c m p e) below u h .1,
   sym (append-assoc (recordsOf p) (recordsOf e) (aggregate c m 2 ∷ []))
       ∙ ap₂ (λ (z : List Record) (j : ℕ). (recordsOf p ++ z) ++ (aggregate c m j ∷ [])) (sym (append-nil (recordsOf e))) k,
+  (refl, refl),
 )
-aggregate-tree true c m n (p ∷ e ∷ x ∷ es) below u k h = no-success 15 u h
-aggregate-tree false c m n (e ∷ []) below u k h = (
+aggregate-tree true c m n rs (p ∷ e ∷ x ∷ es) below u k h = no-success 15 u h
+aggregate-tree false c m n rs (e ∷ []) below u k h = (
   Aggregate c m e,
   checked-gives (firstFault (aggregateRows c none (valueType e))) (Aggregate c m e) below u h .1,
   ap₂ (λ (z : List Record) (j : ℕ). z ++ (aggregate c m j ∷ [])) (sym (append-nil (recordsOf e))) k,
+  (refl, refl),
 )
-aggregate-tree false c m n (e ∷ x ∷ es) below u k h = no-success 15 u h
+aggregate-tree false c m n rs (e ∷ x ∷ es) below u k h = no-success 15 u h
 
-aggregate-same : (c : ℕ) (m : Option LabelModifier) (n : ℕ) (s u : List Expr) → apply (aggregate c m n) s ≡ ok u → Same (aggregate c m n) s u
+arguments-taken : (r : Record) (rs : List Record) (n : ℕ) (s u : List Expr) (y : Expr) → u ≡ y ∷ drop n s
+    → recordsOf y ≡ listRecords (operandsOf n s) ++ (r ∷ []) → Clear (y ∷ drop n s) rs → Taken r rs s u
+arguments-taken r rs n s u y next records =
+    taken r rs s u y (drop n s) next
+    (ap (λ (x : List Record). flat (drop n s) ++ x) records
+    ∙ sym (append-assoc (flat (drop n s)) (listRecords (operandsOf n s)) (r ∷ []))
+    ∙ ap (λ (x : List Record). x ++ (r ∷ [])) (sym (flat-split n s)))
+
+aggregate-taken : (c : ℕ) (m : Option LabelModifier) (n : ℕ) (rs : List Record) (s u : List Expr) → apply (aggregate c m n) s ≡ ok u
+    → Taken (aggregate c m n) rs s u
 unfolding apply
-aggregate-same c m n s u h =
+aggregate-taken c m n rs s u h =
     let (count, made) = pushCall-gives n (newAggregate c m) s u h in
-    let (y, next, records) = aggregate-tree (hasParameter c) c m n (operandsOf n s) (drop n s) u count made in
-    over-arguments (aggregate c m n) n s u y next records
+    let (y, next, records, clear) = aggregate-tree (hasParameter c) c m n rs (operandsOf n s) (drop n s) u count made in
+    arguments-taken (aggregate c m n) rs n s u y next records clear
 
-call-same : (f : Function) (n : ℕ) (s u : List Expr) → apply (call f n) s ≡ ok u → Same (call f n) s u
+call-taken : (f : Function) (n : ℕ) (rs : List Record) (s u : List Expr) → apply (call f n) s ≡ ok u → Taken (call f n) rs s u
 unfolding apply checkAst
-call-same f n s u h =
+call-taken f n rs s u h =
     let (count, made) = pushCall-gives n (λ es. ok (Call f (argsOf es))) s u h in
     let es : Args = argsOf (operandsOf n s) in
-    over-arguments (call f n) n s u (Call f es)
+    arguments-taken (call f n) rs n s u (Call f es)
     (checked-gives (firstFault (callRows f (firstLiteral es) (kindsOf es))) (Call f es) (drop n s) u made .1)
     (ap₂ (λ (z : List Record) (j : ℕ). z ++ (call f j ∷ [])) (listRecords-args (operandsOf n s)) (argCount-args (operandsOf n s) ∙ count))
+    (refl, refl)
 
 -- ## Any record, and a walk
 
-record-same : (r : Record) (s u : List Expr) → apply r s ≡ ok u → Same r s u
+record-taken : (r : Record) (rs : List Record) (s u : List Expr) → apply r s ≡ ok u → Plain r rs → Clear s (r ∷ rs) → Taken r rs s u
 unfolding apply checkAst
-record-same (leaf (number l)) s u h = as-tree (leaf (number l)) s u (NumberLiteral l) (cc) refl
-record-same (leaf (string t)) s u h = as-tree (leaf (string t)) s u (StringLiteral t) (cc) refl
-record-same (leaf (selector x)) s u h =
-    as-tree (leaf (selector x)) s u (VectorSelector x noTimes)
-    (checked-gives (firstFault (selectorRows x)) (VectorSelector x noTimes) s u h .1) refl
-record-same (wrapper w) [] u h = no-success 2 u h
-record-same (wrapper w) (e ∷ s) u h = wrapper-same w e s u h
-record-same (binary c m) [] u h = no-success 2 u h
-record-same (binary c m) (r ∷ []) u h = no-success 2 u h
-record-same (binary c m) (r ∷ l ∷ s) u h = binary-same c m l r s u h
-record-same (aggregate c m n) s u h = aggregate-same c m n s u h
-record-same (call f n) s u h = call-same f n s u h
+record-taken (leaf (number l)) rs s u h plain clear =
+    taken (leaf (number l)) rs s u (NumberLiteral l) s (cc) refl (plain, refl)
+record-taken (leaf (string t)) rs s u h plain clear =
+    taken (leaf (string t)) rs s u (StringLiteral t) s (cc) refl (refl, refl)
+record-taken (leaf (selector x)) rs s u h plain clear =
+    taken (leaf (selector x)) rs s u (VectorSelector x noTimes) s
+    (checked-gives (firstFault (selectorRows x)) (VectorSelector x noTimes) s u h .1) refl (refl, refl)
+record-taken (wrapper w) rs [] u h plain clear = no-success 2 u h
+record-taken (wrapper w) rs (e ∷ s) u h plain clear = wrapper-taken w e rs s u h plain clear
+record-taken (binary c m) rs [] u h plain clear = no-success 2 u h
+record-taken (binary c m) rs (r ∷ []) u h plain clear = no-success 2 u h
+record-taken (binary c m) rs (r ∷ l ∷ s) u h plain clear = binary-taken c m l r rs s u h plain
+record-taken (aggregate c m n) rs s u h plain clear = aggregate-taken c m n rs s u h
+record-taken (call f n) rs s u h plain clear = call-taken f n rs s u h
 
-walk-same : (rs : List Record) (i : ℕ) (s t : List Expr) → walk apply i s rs ≡ stack t → copyRecords (flat s ++ rs) ≡ copyRecords (flat t)
-walk-same [] i s t h =
+walk-taken : (rs : List Record) (i : ℕ) (s t : List Expr) → AllPlain rs → Clear s rs → walk apply i s rs ≡ stack t → flat s ++ rs ≡ flat t
+walk-taken [] i s t plain clear h =
     let same : s ≡ t = cc in
-    ap copyRecords (append-nil (flat s)) ∙ ap (λ (x : List Expr). copyRecords (flat x)) same
-walk-same (r ∷ rs) i s t h =
+    append-nil (flat s) ∙ ap flat same
+walk-taken (r ∷ rs) i s t plain clear h =
     let (u, first, more) = walk-first apply r rs i s t h in
-    record-same r s u first rs ∙ walk-same rs (suc i) u t more
+    let (last, next) = record-taken r rs s u first (plain .0) clear in
+    sym (append-assoc (flat s) (r ∷ []) rs)
+    ∙ ap (λ (x : List Record). x ++ rs) (sym last)
+    ∙ walk-taken rs (suc i) u t (plain .1) next more
 
 -- ## Accepted pages
 
--- the copy of an accepted page is decided by its tree
-pub copyPage-records : (p : List ℕ) (e : Expr) (n : ℕ) → checkPage p ≡ accepted e n → copyPage p ≡ writeAll writeRecord (copyRecords (recordsOf e))
-unfolding checkPage copyPage
-copyPage-records p e n h = ap (writeAll writeRecord) (walk-same (readPage p .records) 0 [] (e ∷ []) (accepted-walks (readPage p) e n h .1))
+-- the records of the copy are those of the tree
+pub copy-of-tree : (p : List ℕ) (e : Expr) (n : ℕ) → checkPage p ≡ accepted e n → copyRecords (readPage p .records) ≡ recordsOf e
+unfolding checkPage
+copy-of-tree p e n h =
+    let rs : List Record = readPage p .records in
+    walk-taken (copyRecords rs) 0 [] (e ∷ []) (copyRecords-plain rs) tt
+    (copyRecords-walk rs 0 [] (e ∷ []) (accepted-walks (readPage p) e n h .1) 0)
+
+-- which are their own copy
+pub tree-plain : (p : List ℕ) (e : Expr) (n : ℕ) → checkPage p ≡ accepted e n → copyRecords (recordsOf e) ≡ recordsOf e
+tree-plain p e n h =
+    let copy = copy-of-tree p e n h in
+    sym (ap copyRecords copy) ∙ copyRecords-once (readPage p .records) ∙ copy
+
+-- and whose bytes are those of the copy
+pub copyPage-records : (p : List ℕ) (e : Expr) (n : ℕ) → checkPage p ≡ accepted e n → copyPage p ≡ writeAll writeRecord (recordsOf e)
+unfolding copyPage
+copyPage-records p e n h = ap (writeAll writeRecord) (copy-of-tree p e n h)
 
 -- document 02, No. 14: "two accepted pages have equal copies when, and only when, their checked trees and pattern flags
 -- agree in every field": a flag is a field of its matcher. Of copies of any length
@@ -152,5 +175,5 @@ pub one-copy : (p q : List ℕ) (e f : Expr) (m n : ℕ) → checkPage p ≡ acc
     → (copyPage p ≡ copyPage q) ↔ (e ≡ f)
 one-copy p q e f m n h k = (
   copyPage-tree p q e f m n h k,
-  λ same. copyPage-records p e m h ∙ ap (λ (x : Expr). writeAll writeRecord (copyRecords (recordsOf x))) same ∙ sym (copyPage-records q f n k),
+  λ same. copyPage-records p e m h ∙ ap (λ (x : Expr). writeAll writeRecord (recordsOf x)) same ∙ sym (copyPage-records q f n k),
 )

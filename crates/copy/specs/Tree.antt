@@ -1,5 +1,5 @@
 -- The records of a tree in one order: operands first, then the node, then its @ and then its offset. The copy of an
--- accepted page is decided by them (proofs/TreeLaws).
+-- accepted page is these records (proofs/TreeLaws).
 use Prim.Native.Nat.{ℕ, suc}
 use mathlib.Core.List.{List, [], _∷_, _++_}
 use mathlib.Core.Option.{Option, none, some}
