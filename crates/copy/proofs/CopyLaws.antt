@@ -32,7 +32,8 @@ use Rattle.ast.proofs.WalkLaws.{walk-first, walk-then, walk-index, page-limit}
 use Rattle.copy.specs.Copy.{copyNumber, copyOffset, copyRecord, copyRecords, copyPage}
 use Rattle.copy.proofs.FrontLaws.{copyNumber-by, copyOffset-by}
 use Rattle.copy.proofs.TimesLaws.{swapped}
-use Rattle.copy.proofs.CopyRecordsLaws.{checkedModifier-once, copyRecords-allowed, copyRecords-length, copyRecords-once}
+use Rattle.copy.proofs.CopyRecordsLaws.{checkedModifier-once, copyRecords-allowed, copyRecords-length}
+use Rattle.copy.proofs.PlainLaws.{copyRecords-once}
 
 -- ## The check of a binary record with the modifier that the check gave it
 

@@ -1,7 +1,7 @@
--- The records of a copy: they are allowed where those of the page are, no more of them than of the page, and copied to
--- themselves. The set operator's change and the negated number are each done once. Assumes nothing.
+-- The records of a copy: they are allowed where those of the page are, and no more of them than of the page. The set
+-- operator's change is done once. Assumes nothing.
 use Prim.Native.Nat.{ℕ, suc, _≤_}
-use mathlib.Core.Path.{_≡_, refl, ap, ap₂}
+use mathlib.Core.Path.{_≡_, refl, ap}
 use mathlib.Core.Bool.{Bool, true, false}
 use mathlib.Core.List.{List, [], _∷_}
 use mathlib.Core.Option.{Option, none, some}
@@ -15,8 +15,8 @@ use Rattle.records.specs.Record.{number, string, selector, range, subquery, at,
 use Rattle.records.specs.Allowed.{IsOptionOf, IsCardinality, IsBinModifier, IsAllowed}
 use Rattle.ast.specs.CheckAst.{manyToManyOf, setOperatorModifier, checkedModifier}
 use Rattle.copy.specs.Copy.{copyRecord, copyRecords}
-use Rattle.copy.proofs.FrontLaws.{copyNumber-allowed, copyNumber-length, copyNumber-once}
-use Rattle.copy.proofs.FrontLaws.{copyOffset-allowed, copyOffset-length, copyOffset-once}
+use Rattle.copy.proofs.FrontLaws.{copyNumber-allowed, copyNumber-length}
+use Rattle.copy.proofs.FrontLaws.{copyOffset-allowed, copyOffset-length}
 
 -- ## checkedModifier
 
@@ -98,22 +98,3 @@ copyRecords-length (r ∷ rs) = further (copyRecord-length r (copyRecords rs)) (
     further : length (copyRecord r (copyRecords rs)) ≤ suc (length (copyRecords rs))
         → length (copyRecords rs) ≤ length rs → length (copyRecord r (copyRecords rs)) ≤ suc (length rs)
     further h k = omega arith
-
-copyRecord-once : (r : Record) (rs : List Record) → copyRecords rs ≡ rs → copyRecords (copyRecord r rs) ≡ copyRecord r rs
-copyRecord-once (leaf (number l)) rs e = copyNumber-once l rs e
-copyRecord-once (leaf (string t)) rs e = ap {B = List Record} (λ xs. leaf (string t) ∷ xs) e
-copyRecord-once (leaf (selector s)) rs e = ap {B = List Record} (λ xs. leaf (selector s) ∷ xs) e
-copyRecord-once (wrapper (range n)) rs e = ap {B = List Record} (λ xs. wrapper (range n) ∷ xs) e
-copyRecord-once (wrapper (subquery r s)) rs e = ap {B = List Record} (λ xs. wrapper (subquery r s) ∷ xs) e
-copyRecord-once (wrapper (at a)) rs e = ap {B = List Record} (λ xs. wrapper (at a) ∷ xs) e
-copyRecord-once (wrapper (offset o)) rs e = copyOffset-once o rs e
-copyRecord-once (wrapper unary) rs e = ap {B = List Record} (λ xs. wrapper unary ∷ xs) e
-copyRecord-once (wrapper paren) rs e = ap {B = List Record} (λ xs. wrapper paren ∷ xs) e
-copyRecord-once (binary c m) rs e = ap₂ {C = List Record} (λ x xs. binary c x ∷ xs) (checkedModifier-once c m) e
-copyRecord-once (aggregate c m n) rs e = ap {B = List Record} (λ xs. aggregate c m n ∷ xs) e
-copyRecord-once (call f n) rs e = ap {B = List Record} (λ xs. call f n ∷ xs) e
-
--- a copy is copied to itself
-pub copyRecords-once : (rs : List Record) → copyRecords (copyRecords rs) ≡ copyRecords rs
-copyRecords-once [] = refl
-copyRecords-once (r ∷ rs) = copyRecord-once r (copyRecords rs) (copyRecords-once rs)

@@ -1,8 +1,8 @@
 -- A number or an offset in front of records, in the copy. A number stands there itself, or takes a unary record in; an
 -- offset stands there itself, or behind the @. What holds of both holds of the copy. Assumes nothing.
 use Prim.Native.Nat.{ℕ, suc, _+_, _≤_}
-use mathlib.Core.Path.{_≡_, refl, ap, _∙_}
-use mathlib.Core.Bool.{Bool, true, false}
+use mathlib.Core.Path.{_≡_, refl, ap}
+use mathlib.Core.Bool.{false}
 use mathlib.Core.List.{List, [], _∷_}
 use native.Mathlib.Omega.{arith}
 use lib.ListN.{length, length-append}
@@ -15,7 +15,7 @@ use Rattle.records.specs.Record.{number, string, selector, range, subquery, at,
 use Rattle.records.specs.Record.{wrapper, binary, aggregate, call, writeRecord}
 use Rattle.records.specs.Time.{Offset, AtModifier}
 use Rattle.records.specs.Allowed.{IsOffset, IsAllowed}
-use Rattle.copy.specs.Copy.{copyNumber, copyOffset, copyRecord, copyRecords}
+use Rattle.copy.specs.Copy.{copyNumber, copyOffset, copyRecord}
 use Rattle.copy.specs.Settled.{startWith}
 
 -- ## copyNumber
@@ -63,13 +63,6 @@ pub copyNumber-length : (l : Literal) (rs : List Record) → length (copyNumber 
 copyNumber-length =
     copyNumber-by (λ l rs qs. length qs ≤ suc (length rs)) (λ l rs h. omega arith) (λ l rs qs more. omega (arith, more))
 
--- before records that are copied to themselves
-pub copyNumber-once : (l : Literal) (rs : List Record) → copyRecords rs ≡ rs → copyRecords (copyNumber l rs) ≡ copyNumber l rs
-copyNumber-once =
-    copyNumber-by (λ l rs qs. copyRecords rs ≡ rs → copyRecords qs ≡ qs)
-    (λ l rs h e. ap (copyNumber l) e ∙ copyNumber-alone l rs h)
-    (λ l rs qs more e. more (cc))
-
 -- ## copyOffset
 
 module _ (o : Offset) (P : List Record → List Record → Type 0)
@@ -105,13 +98,6 @@ module _ (o : Offset) where
 
   pub copyOffset-length : (rs : List Record) → length (copyOffset o rs) ≡ suc (length rs)
   copyOffset-length = copyOffset-by o (λ rs qs. length qs ≡ suc (length rs)) (λ rs k. refl) (λ a rs qs more. ap suc more)
-
-  -- before records that are copied to themselves
-  pub copyOffset-once : (rs : List Record) → copyRecords rs ≡ rs → copyRecords (copyOffset o rs) ≡ copyOffset o rs
-  copyOffset-once =
-      copyOffset-by o (λ rs qs. copyRecords rs ≡ rs → copyRecords qs ≡ qs)
-      (λ rs h e. ap (copyOffset o) e ∙ copyOffset-alone rs h)
-      (λ a rs qs more e. ap {B = List Record} (λ xs. wrapper (at a) ∷ xs) (more (cc)))
 
   -- no byte more and none less
   pub copyOffset-bytes : (rs : List Record)

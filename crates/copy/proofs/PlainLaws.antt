@@ -1,6 +1,7 @@
--- Plain records: those that the copy leaves as they are. No unary stands on a number, every modifier is as the check
--- gives it, and no offset stands right before an @. The records of any copy are plain. Assumes nothing.
-use mathlib.Core.Path.{_≡_}
+-- Plain records, which the copy leaves as they are: no unary stands on a number, every modifier is as the check gives it,
+-- and no offset stands right before an @. The records of any copy are plain, so a copy is copied to itself.
+-- Assumes nothing.
+use mathlib.Core.Path.{_≡_, refl, ap, _∙_}
 use mathlib.Core.Bool.{false}
 use mathlib.Core.List.{List, [], _∷_}
 use Rattle.records.specs.Record.{number, string, selector, range, subquery, at, offset, unary, paren, Record}
@@ -8,7 +9,7 @@ use Rattle.records.specs.Record.{leaf, wrapper, binary, aggregate, call}
 use Rattle.ast.specs.CheckAst.{checkedModifier}
 use Rattle.copy.specs.Copy.{copyRecord, copyRecords}
 use Rattle.copy.specs.Settled.{startWith}
-use Rattle.copy.proofs.FrontLaws.{copyNumber-by, copyOffset-by}
+use Rattle.copy.proofs.FrontLaws.{copyNumber-by, copyNumber-alone, copyOffset-by, copyOffset-alone}
 use Rattle.copy.proofs.CopyRecordsLaws.{checkedModifier-once}
 
 -- a record right before these
@@ -30,6 +31,28 @@ abbrev pub AllPlain : List Record → Type 0
 AllPlain [] = Unit {0}
 AllPlain (r ∷ rs) = Plain r rs × AllPlain rs
 
+-- ## Plain records are their own copy
+
+plain-copied : (r : Record) (rs : List Record) → Plain r rs → copyRecord r rs ≡ r ∷ rs
+plain-copied (leaf (number l)) rs h = copyNumber-alone l rs h
+plain-copied (leaf (string t)) rs h = refl
+plain-copied (leaf (selector s)) rs h = refl
+plain-copied (wrapper (range n)) rs h = refl
+plain-copied (wrapper (subquery r s)) rs h = refl
+plain-copied (wrapper (at a)) rs h = refl
+plain-copied (wrapper (offset o)) rs h = copyOffset-alone o rs h
+plain-copied (wrapper unary) rs h = refl
+plain-copied (wrapper paren) rs h = refl
+plain-copied (binary c m) rs h = ap {B = List Record} (λ x. binary c x ∷ rs) h
+plain-copied (aggregate c m n) rs h = refl
+plain-copied (call f n) rs h = refl
+
+pub plain-own : (rs : List Record) → AllPlain rs → copyRecords rs ≡ rs
+plain-own [] h = refl
+plain-own (r ∷ rs) h = ap (copyRecord r) (plain-own rs (h .1)) ∙ plain-copied r rs (h .0)
+
+-- ## The records of a copy are plain
+
 copyRecord-plain : (r : Record) (rs : List Record) → AllPlain rs → AllPlain (copyRecord r rs)
 copyRecord-plain (leaf (number l)) rs h =
     copyNumber-by (λ l rs qs. AllPlain rs → AllPlain qs) (λ l rs other h. (other, h)) (λ l rs qs more h. more (h .1)) l rs h
@@ -49,3 +72,7 @@ copyRecord-plain (call f n) rs h = (tt, h)
 pub copyRecords-plain : (rs : List Record) → AllPlain (copyRecords rs)
 copyRecords-plain [] = tt
 copyRecords-plain (r ∷ rs) = copyRecord-plain r (copyRecords rs) (copyRecords-plain rs)
+
+-- a copy is copied to itself
+pub copyRecords-once : (rs : List Record) → copyRecords (copyRecords rs) ≡ copyRecords rs
+copyRecords-once rs = plain-own (copyRecords rs) (copyRecords-plain rs)

@@ -1,11 +1,10 @@
 -- Settled records are their own copy, so a settled page is its own copy, byte for byte: no field of it is lost in its
 -- tree. Assumes nothing.
 use Prim.Native.Nat.{ℕ}
-use mathlib.Core.Path.{_≡_, refl, sym, ap, ap₂, _∙_}
-use mathlib.Core.Bool.{Bool, true, false, _&&_, _||_, not}
+use mathlib.Core.Path.{_≡_, refl, sym, ap, _∙_}
+use mathlib.Core.Bool.{Bool, true, false, _||_, not}
 use mathlib.Core.List.{List, [], _∷_}
 use mathlib.Core.Option.{Option, none, some}
-use native.Mathlib.Omega.{arith}
 use lib.Dec.{T}
 use Rattle.page.specs.Bytes.{pick, all}
 use Rattle.page.specs.Text.{writeAll}
@@ -20,9 +19,9 @@ use Rattle.ast.specs.Expr.{Expr}
 use Rattle.ast.specs.CheckAst.{manyToManyOf, setOperatorModifier, checkedModifier}
 use Rattle.ast.specs.Walk.{accepted}
 use Rattle.ast.specs.CheckPage.{checkPage}
-use Rattle.copy.specs.Copy.{copyRecord, copyRecords, copyPage}
+use Rattle.copy.specs.Copy.{copyPage}
 use Rattle.copy.specs.Settled.{startWith, isManyToMany, isSettledModifier, isSettledBefore, isSettled}
-use Rattle.copy.proofs.FrontLaws.{copyNumber-alone, copyOffset-alone}
+use Rattle.copy.proofs.PlainLaws.{Plain, AllPlain, plain-own}
 use Rattle.copy.proofs.CopyLaws.{accepted-walks}
 use Rattle.copy.proofs.TreeLaws.{one-copy}
 
@@ -52,25 +51,26 @@ checkedModifier-kept c m = by (isSetOperator c)
     by true h = setOperatorModifier-kept m h
     by false h = refl
 
-settled-before : (r : Record) (rs : List Record) → T (isSettledBefore r rs) → copyRecord r rs ≡ r ∷ rs
-settled-before (leaf (number l)) rs h = copyNumber-alone l rs (no-false (startWith 7 rs) h)
-settled-before (leaf (string t)) rs h = refl
-settled-before (leaf (selector s)) rs h = refl
-settled-before (wrapper (range n)) rs h = refl
-settled-before (wrapper (subquery r s)) rs h = refl
-settled-before (wrapper (at a)) rs h = refl
-settled-before (wrapper (offset o)) rs h = copyOffset-alone o rs (no-false (startWith 5 rs) h)
-settled-before (wrapper unary) rs h = refl
-settled-before (wrapper paren) rs h = refl
-settled-before (binary c m) rs h = ap {B = List Record} (λ x. binary c x ∷ rs) (checkedModifier-kept c m h)
-settled-before (aggregate c m n) rs h = refl
-settled-before (call f n) rs h = refl
+settled-before : (r : Record) (rs : List Record) → T (isSettledBefore r rs) → Plain r rs
+settled-before (leaf (number l)) rs h = no-false (startWith 7 rs) h
+settled-before (leaf (string t)) rs h = tt
+settled-before (leaf (selector s)) rs h = tt
+settled-before (wrapper (range n)) rs h = tt
+settled-before (wrapper (subquery r s)) rs h = tt
+settled-before (wrapper (at a)) rs h = tt
+settled-before (wrapper (offset o)) rs h = no-false (startWith 5 rs) h
+settled-before (wrapper unary) rs h = tt
+settled-before (wrapper paren) rs h = tt
+settled-before (binary c m) rs h = checkedModifier-kept c m h
+settled-before (aggregate c m n) rs h = tt
+settled-before (call f n) rs h = tt
 
-settled-records : (rs : List Record) → T (isSettled rs) → copyRecords rs ≡ rs
-settled-records [] h = refl
-settled-records (r ∷ rs) h =
-    ap (copyRecord r) (settled-records rs (right-of (isSettledBefore r rs) (isSettled rs) h))
-    ∙ settled-before r rs (left-of (isSettledBefore r rs) (isSettled rs) h)
+settled-plain : (rs : List Record) → T (isSettled rs) → AllPlain rs
+settled-plain [] h = tt
+settled-plain (r ∷ rs) h = (
+  settled-before r rs (left-of (isSettledBefore r rs) (isSettled rs) h),
+  settled-plain rs (right-of (isSettledBefore r rs) (isSettled rs) h),
+)
 
 -- ## Pages
 
@@ -78,7 +78,7 @@ settled-records (r ∷ rs) h =
 pub copy-settled : (p : List ℕ) (e : Expr) (n : ℕ) → T (all isByte p) → checkPage p ≡ accepted e n → T (isSettled (readPage p .records)) → copyPage p ≡ p
 unfolding checkPage copyPage
 copy-settled p e n bytes h settled =
-    ap (writeAll writeRecord) (settled-records (readPage p .records) settled)
+    ap (writeAll writeRecord) (plain-own (readPage p .records) (settled-plain (readPage p .records) settled))
     ∙ sym (readPage-written p bytes (accepted-walks (readPage p) e n h .0))
 
 -- so such pages with one tree are one page

@@ -12,7 +12,7 @@ use lib.Dec.{eqb}
 use borrow.Author.Tests.{eq-eqb, ne-eqb}
 use Rattle.page.specs.Bytes.{pick}
 use Rattle.page.proofs.NumberLaws.{Written}
-use Rattle.records.specs.Record.{number, string, selector, range, subquery, at, offset, unary, paren, Record, leaf}
+use Rattle.records.specs.Record.{number, string, selector, Record, leaf}
 use Rattle.records.specs.Record.{wrapper, binary, aggregate, call, writeRecord, recordKind}
 use Rattle.records.proofs.RecordLaws.{record-law}
 use Rattle.copy.specs.RecordCopy.{unaries, copied, copyOfRead, recordCopy, absorbedRead, absorbedOf, absorbed, firstIs, beforeAtRead, isBeforeAt}

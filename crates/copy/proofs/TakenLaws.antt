@@ -1,5 +1,6 @@
--- A record of a walk that stands last in the records of the next stack, where those after it leave it so; of range,
--- subquery, @, offset, unary and paren, on the tree on top of the stack. Assumes nothing.
+-- Range, subquery, @, offset, unary and paren in a walk over plain records: each is taken over, as it stands, into the
+-- records of the tree that it makes of the one on top. What might have changed it, a unary on a number or an @ behind an
+-- offset, does not follow. Assumes nothing.
 use Prim.Native.Nat.{ℕ}
 use mathlib.Core.Path.{_≡_, refl, sym, ap, subst, _∙_}
 use mathlib.Core.Bool.{Bool, true, false, _&&_}

@@ -28,7 +28,6 @@ use Rattle.ast.specs.CheckPage.{push, pushCall, apply, checkPage}
 use Rattle.ast.proofs.WalkLaws.{walk-first}
 use Rattle.copy.specs.Copy.{copyRecords, copyPage}
 use Rattle.copy.specs.Tree.{recordsOf}
-use Rattle.copy.proofs.CopyRecordsLaws.{copyRecords-once}
 use Rattle.copy.proofs.CopyLaws.{accepted-walks, copyRecords-walk, copyPage-tree}
 use Rattle.copy.proofs.TimesLaws.{no-success, checked-gives}
 use Rattle.copy.proofs.FlatLaws.{flat, flat-split, listRecords, listRecords-args, argCount-args}
@@ -158,13 +157,7 @@ copy-of-tree p e n h =
     walk-taken (copyRecords rs) 0 [] (e ∷ []) (copyRecords-plain rs) tt
     (copyRecords-walk rs 0 [] (e ∷ []) (accepted-walks (readPage p) e n h .1) 0)
 
--- which are their own copy
-pub tree-plain : (p : List ℕ) (e : Expr) (n : ℕ) → checkPage p ≡ accepted e n → copyRecords (recordsOf e) ≡ recordsOf e
-tree-plain p e n h =
-    let copy = copy-of-tree p e n h in
-    sym (ap copyRecords copy) ∙ copyRecords-once (readPage p .records) ∙ copy
-
--- and whose bytes are those of the copy
+-- so the copy is the records of the tree, written
 pub copyPage-records : (p : List ℕ) (e : Expr) (n : ℕ) → checkPage p ≡ accepted e n → copyPage p ≡ writeAll writeRecord (recordsOf e)
 unfolding copyPage
 copyPage-records p e n h = ap (writeAll writeRecord) (copy-of-tree p e n h)
