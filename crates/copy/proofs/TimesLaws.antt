@@ -7,7 +7,7 @@ use mathlib.Core.List.{List, [], _∷_}
 use mathlib.Core.Option.{Option, none, some, Option·none-ne-some, Option·some-injective}
 use native.Mathlib.Omega.{arith}
 use Rattle.records.specs.Time.{Times, AtModifier, Offset}
-use Rattle.records.specs.Record.{at, offset, wrapper}
+use Rattle.records.specs.Record.{Wrapper, at, offset, wrapper}
 use Rattle.ast.specs.Refusal.{Result, refused, ok, firstFault, unless, andThen}
 use Rattle.ast.specs.Expr.{Expr, Aggregate, AggregateParam, Unary, Binary, Paren, Subquery, NumberLiteral}
 use Rattle.ast.specs.Expr.{StringLiteral, VectorSelector, MatrixSelector, Call, valueType, timesOf, withTimes}
@@ -63,19 +63,13 @@ withAt a t = record { at = some a; offset = t .offset }
 abbrev pub withOffset : Offset → Times → Times
 withOffset o t = record { at = t .at; offset = some o }
 
--- a tree has times that are free for it, and is on the stack with them set
+-- a tree has times, one of which is free, and is on the stack with that one set
 pub record Sets (Free : Times → Type 0) (set : Times → Times) (e : Expr) (below v : List Expr) : Type 0 where
   pub times : Times
   pub isTimes : timesOf e ≡ some times
   pub isFree : Free times
   pub isSound : faultOf e ≡ none
   pub isNext : v ≡ withTimes (set times) e ∷ below
-
-abbrev pub SetsAt : AtModifier → Expr → List Expr → List Expr → Type 0
-SetsAt a = Sets (λ t. t .at ≡ none) (withAt a)
-
-abbrev pub SetsOffset : Offset → Expr → List Expr → List Expr → Type 0
-SetsOffset o = Sets (λ t. t .offset ≡ none) (withOffset o)
 
 module _ (e : Expr) (t : Times) (below : List Expr) (is : timesOf e ≡ some t) (u : Times) where
   set-gives : (v : List Expr) → push (ok (withTimes u e)) below ≡ ok v → (faultOf e ≡ none) × (v ≡ withTimes u e ∷ below)
@@ -88,94 +82,124 @@ module _ (e : Expr) (t : Times) (below : List Expr) (is : timesOf e ≡ some t) 
       ap (λ (x : Result Expr). andThen x (λ y. ok (y ∷ below)))
       (timed e t is .isChecked u ∙ ap (λ (q : Option ℕ). unless q (withTimes u e)) sound)
 
+  set-as : (Free : Times → Type 0) (set : Times → Times) → u ≡ set t → Free t → (v : List Expr) → push (ok (withTimes u e)) below ≡ ok v
+      → Sets Free set e below v
+  set-as Free set same free v h =
+      let given = set-gives v h in
+      record {
+        times = t;
+        isTimes = is;
+        isFree = free;
+        isSound = given .0;
+        isNext = given .1 ∙ ap (λ (x : Times). withTimes x e ∷ below) same;
+      }
+
 module _ (a : AtModifier) (e : Expr) (below : List Expr) where
-  pub at-sets : (v : List Expr) → apply (wrapper (at a)) (e ∷ below) ≡ ok v → SetsAt a e below v
+  pub at-sets : (v : List Expr) → apply (wrapper (at a)) (e ∷ below) ≡ ok v → Sets (λ t. t .at ≡ none) (withAt a) e below v
   unfolding apply
   at-sets v =
-      atExpr-by (λ made. push made below ≡ ok v → SetsAt a e below v) a e (no-success 10 v) (no-success 11 v)
-      (λ t is free h.
-      let given = set-gives e t below is (withAt a t) v h in
-      record { times = t; isTimes = is; isFree = free; isSound = given .0; isNext = given .1 })
+      atExpr-by (λ made. push made below ≡ ok v → Sets (λ t. t .at ≡ none) (withAt a) e below v) a e (no-success 10 v) (no-success 11 v)
+      (λ t is free. set-as e t below is (withAt a t) (λ t. t .at ≡ none) (withAt a) refl free v)
 
-  pub sets-at : (t : Times) → timesOf e ≡ some t → t .at ≡ none → faultOf e ≡ none
+  pub at-passes : (t : Times) → timesOf e ≡ some t → t .at ≡ none → faultOf e ≡ none
       → apply (wrapper (at a)) (e ∷ below) ≡ ok (withTimes (withAt a t) e ∷ below)
   unfolding apply
-  sets-at t is free sound =
+  at-passes t is free sound =
       ap (λ (x : Option Times). push (atWith a x e) below) is
       ∙ ap (λ (x : Option AtModifier). push (setAt a x t e) below) free
       ∙ set-passes e t below is (withAt a t) sound
 
 module _ (o : Offset) (e : Expr) (below : List Expr) where
-  pub offset-sets : (v : List Expr) → apply (wrapper (offset o)) (e ∷ below) ≡ ok v → SetsOffset o e below v
+  pub offset-sets : (v : List Expr) → apply (wrapper (offset o)) (e ∷ below) ≡ ok v → Sets (λ t. t .offset ≡ none) (withOffset o) e below v
   unfolding apply
   offset-sets v =
-      offsetExpr-by (λ made. push made below ≡ ok v → SetsOffset o e below v) o e (no-success 12 v) (no-success 13 v)
-      (λ t is free h.
-      let given = set-gives e t below is (withOffset o t) v h in
-      record { times = t; isTimes = is; isFree = free; isSound = given .0; isNext = given .1 })
+      offsetExpr-by (λ made. push made below ≡ ok v → Sets (λ t. t .offset ≡ none) (withOffset o) e below v) o e (no-success 12 v) (no-success 13 v)
+      (λ t is free. set-as e t below is (withOffset o t) (λ t. t .offset ≡ none) (withOffset o) refl free v)
 
-  pub sets-offset : (t : Times) → timesOf e ≡ some t → t .offset ≡ none → faultOf e ≡ none
+  pub offset-passes : (t : Times) → timesOf e ≡ some t → t .offset ≡ none → faultOf e ≡ none
       → apply (wrapper (offset o)) (e ∷ below) ≡ ok (withTimes (withOffset o t) e ∷ below)
   unfolding apply
-  sets-offset t is free sound =
+  offset-passes t is free sound =
       ap (λ (x : Option Times). push (offsetWith o x e) below) is
       ∙ ap (λ (x : Option Offset). push (setOffset o x t e) below) free
       ∙ set-passes e t below is (withOffset o t) sound
 
 -- ## Two times set
 
--- times that were just given to a tree are those that it has
-module _ (Free : Times → Type 0) (set : Times → Times) (e : Expr) (t u : Times) (below v : List Expr) (is : timesOf e ≡ some t)
-    (next : Sets Free set (withTimes u e) below v)
-  where
-    times-given : next .times ≡ u
-    times-given = sym (Option·some-injective u (next .times) (sym (timed e t is .isTimed u) ∙ next .isTimes))
+-- a record that sets one of the times
+record Setter (w : Wrapper) : Type 1 where
+  Free : Times → Type 0
+  set : Times → Times
+  sets : (e : Expr) (below v : List Expr) → apply (wrapper w) (e ∷ below) ≡ ok v → Sets Free set e below v
 
-    pub free-given : Free u
-    free-given = subst Free times-given (next .isFree)
+abbrev at-setter : (a : AtModifier) → Setter (at a)
+at-setter a = record { Free = λ t. t .at ≡ none; set = withAt a; sets = at-sets a }
 
-    next-given : v ≡ withTimes (set u) e ∷ below
-    next-given =
-        next .isNext ∙ ap (λ (x : Times). withTimes (set x) (withTimes u e) ∷ below) times-given
-        ∙ ap (λ (x : Expr). x ∷ below) (timed e t is .isLast (set u) u)
+abbrev offset-setter : (o : Offset) → Setter (offset o)
+offset-setter o = record { Free = λ t. t .offset ≡ none; set = withOffset o; sets = offset-sets o }
+
+module _ {w x : Wrapper} (first : Setter w) (second : Setter x) where
+  -- the tree on top has times; the one record finds its own free, the other too once that is set
+  record SetsBoth (s v : List Expr) : Type 0 where
+    top : Expr
+    below : List Expr
+    times : Times
+    isStack : s ≡ top ∷ below
+    isTimes : timesOf top ≡ some times
+    isSound : faultOf top ≡ none
+    firstFree : first .Free times
+    secondFree : second .Free (first .set times)
+    isNext : v ≡ withTimes (second .set (first .set times)) top ∷ below
+
+  sets-both : (s u v : List Expr) → apply (wrapper w) s ≡ ok u → apply (wrapper x) u ≡ ok v → SetsBoth s v
+  unfolding apply
+  sets-both [] u v h k = no-success 2 u h
+  sets-both (e ∷ below) u v h k =
+      let one = first .sets e below u h in
+      let t = one .times in
+      let is = one .isTimes in
+      let given : Times = first .set t in
+      let other = second .sets (withTimes given e) below v (subst (λ (y : List Expr). apply (wrapper x) y ≡ ok v) (one .isNext) k) in
+      let same : other .times ≡ given = sym
+      (Option·some-injective given (other .times) (sym (timed e t is .isTimed given) ∙ other .isTimes)) in
+      record {
+        top = e;
+        below = below;
+        times = t;
+        isStack = refl;
+        isTimes = is;
+        isSound = one .isSound;
+        firstFree = one .isFree;
+        secondFree = subst (second .Free) same (other .isFree);
+        isNext =
+            other .isNext ∙ ap (λ (y : Times). withTimes (second .set y) (withTimes given e) ∷ below) same
+            ∙ ap (λ (y : Expr). y ∷ below) (timed e t is .isLast (second .set given) given);
+      }
 
 -- from a stack, @ and then offset lead to another
 abbrev Swapped : Offset → AtModifier → List Expr → List Expr → Type 0
 Swapped o a s v = (w : List Expr) × (apply (wrapper (at a)) s ≡ ok w) × (apply (wrapper (offset o)) w ≡ ok v)
 
 pub swapped : (o : Offset) (a : AtModifier) (s u v : List Expr) → apply (wrapper (offset o)) s ≡ ok u → apply (wrapper (at a)) u ≡ ok v → Swapped o a s v
-unfolding apply
-swapped o a [] u v h k = no-success 2 u h
-swapped o a (e ∷ below) u v h k =
-    let first = offset-sets o e below u h in
-    let t = first .times in
-    let of = timed e t (first .isTimes) in
-    let next = at-sets a (withTimes (withOffset o t) e) below v (subst (λ (x : List Expr). apply (wrapper (at a)) x ≡ ok v) (first .isNext) k) in (
-      withTimes (withAt a t) e ∷ below,
-      sets-at a e below t (first .isTimes) (free-given (λ x. x .at ≡ none) (withAt a) e t (withOffset o t) below v (first .isTimes) next) (first .isSound),
-      sets-offset o (withTimes (withAt a t) e) below (withAt a t) (of .isTimed (withAt a t)) (first .isFree) (of .isFault (withAt a t) ∙ first .isSound)
-          ∙ ap ok
-          (ap (λ (x : Expr). x ∷ below) (of .isLast (withOffset o (withAt a t)) (withAt a t))
-          ∙ sym (next-given (λ x. x .at ≡ none) (withAt a) e t (withOffset o t) below v (first .isTimes) next)),
+swapped o a s u v h k =
+    let both = sets-both (offset-setter o) (at-setter a) s u v h k in
+    let e = both .top in
+    let below = both .below in
+    let t = both .times in
+    let of = timed e t (both .isTimes) in
+    let with-at = withTimes (withAt a t) e ∷ below in
+    let at-first = at-passes a e below t (both .isTimes) (both .secondFree) (both .isSound) in
+    let then-offset = offset-passes o (withTimes (withAt a t) e) below (withAt a t) (of .isTimed (withAt a t)) (both .firstFree)
+    (of .isFault (withAt a t) ∙ both .isSound) in (
+      with-at,
+      subst (λ (y : List Expr). apply (wrapper (at a)) y ≡ ok with-at) (sym (both .isStack)) at-first,
+      then-offset
+          ∙ ap ok (ap (λ (y : Expr). y ∷ below) (of .isLast (withOffset o (withAt a t)) (withAt a t)) ∙ sym (both .isNext)),
     )
 
--- ## A time is set once
-
+-- a time is set once
 pub at-once : {B : Type 0} (a b : AtModifier) (s u v : List Expr) → apply (wrapper (at a)) s ≡ ok u → apply (wrapper (at b)) u ≡ ok v → B
-unfolding apply
-at-once a b [] u v h k = no-success 2 u h
-at-once a b (e ∷ below) u v h k =
-    let first = at-sets a e below u h in
-    let next = at-sets b (withTimes (withAt a (first .times)) e) below v (subst (λ (x : List Expr). apply (wrapper (at b)) x ≡ ok v) (first .isNext) k) in
-    absurd (Option·none-ne-some a (sym (free-given (λ x. x .at ≡ none) (withAt b) e (first .times) (withAt a (first .times)) below v (first .isTimes) next)))
+at-once a b s u v h k = absurd (Option·none-ne-some a (sym (sets-both (at-setter a) (at-setter b) s u v h k .secondFree)))
 
 pub offset-once : {B : Type 0} (o p : Offset) (s u v : List Expr) → apply (wrapper (offset o)) s ≡ ok u → apply (wrapper (offset p)) u ≡ ok v → B
-unfolding apply
-offset-once o p [] u v h k = no-success 2 u h
-offset-once o p (e ∷ below) u v h k =
-    let first = offset-sets o e below u h in
-    let next = offset-sets p (withTimes (withOffset o (first .times)) e) below v
-    (subst (λ (x : List Expr). apply (wrapper (offset p)) x ≡ ok v) (first .isNext) k) in
-    absurd (Option·none-ne-some o
-    (sym (free-given (λ x. x .offset ≡ none) (withOffset p) e (first .times) (withOffset o (first .times)) below
-    v (first .isTimes) next)))
+offset-once o p s u v h k = absurd (Option·none-ne-some o (sym (sets-both (offset-setter o) (offset-setter p) s u v h k .secondFree)))
