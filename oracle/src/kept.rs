@@ -4,7 +4,7 @@ use crate::answer::{self, Answer, Domain, Failure, Outcome};
 use crate::chosen;
 use crate::generate::stream::{self, Sample};
 use crate::generate::{
-    bytes, counted_bytes, damaged, fault, fractions, good, ill_formed, long_texts, patterns,
+    bytes, counted_bytes, damaged, fault, fractions, good, ill_formed, long_texts, patterns, times,
     well_formed, Scope,
 };
 use crate::random::Random;
@@ -18,8 +18,9 @@ const SEED: u64 = 20_261_115;
 /// The longest split text: it fills the program's buffer.
 const MAX_SPLIT: usize = 65_536;
 
-/// The pages in order: chosen ones first, then generated ones, those about flags last; each with whether it may be
-/// outside document 01's domain. Of those about flags some are: No. 7 of document 02 says that they are believed.
+/// The pages in order: chosen ones first, then generated ones, those about flags, those with @ and offset; each with
+/// whether it may be outside document 01's domain. Of those about flags some are: No. 7 of document 02 says that they
+/// are believed.
 fn pages() -> impl Iterator<Item = (Vec<u8>, bool)> {
     let mut random = Random::new(SEED);
     let inside = stream::fixed()
@@ -27,7 +28,8 @@ fn pages() -> impl Iterator<Item = (Vec<u8>, bool)> {
         .chain(generated(&mut random))
         .map(|page| (page, false));
     let flagged = flagged(&mut random).into_iter().map(|page| (page, true));
-    inside.chain(flagged)
+    let timed = timed(&mut random).into_iter().map(|page| (page, false));
+    inside.chain(flagged).chain(timed)
 }
 
 /// Pages of ASCII first, then pages with characters beyond it, then with fractions too, then with covered patterns.
@@ -101,6 +103,12 @@ fn flagged(random: &mut Random) -> Vec<Vec<u8>> {
     let fixed = patterns::fixed().map(|made| made.page);
     let random = (0..300).map(|_| patterns::random(random).page);
     chosen.chain(fixed).chain(random).collect()
+}
+
+/// Queries with @ and offset, and what of them is refused; the long ones are among the fixed pages.
+fn timed(random: &mut Random) -> Vec<Vec<u8>> {
+    let pages = (0..300).map(|_| times::random(random).page);
+    pages.filter(|page| page.len() < 1000).collect()
 }
 
 /// Each refusal once, good pages of 1 to 10, 20 and 40 records.

@@ -7,11 +7,13 @@
 
 pub mod answer;
 pub mod bad_fraction;
+pub mod changes;
 pub mod chosen;
 pub mod copy;
 pub mod coverage;
 pub mod covered;
 pub mod failing;
+pub mod fields;
 pub mod fill_pair;
 pub mod generate;
 pub mod hex;
@@ -24,5 +26,6 @@ pub mod reading;
 pub mod refusal;
 pub mod run;
 pub mod show;
+pub mod times;
 pub mod tree;
 pub mod uncovered;

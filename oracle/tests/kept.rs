@@ -2,7 +2,7 @@
 
 use oracle::answer;
 use oracle::coverage::Coverage;
-use oracle::generate::{counted_bytes, fractions, ill_formed, patterns, well_formed, Made};
+use oracle::generate::{counted_bytes, fractions, ill_formed, patterns, times, well_formed, Made};
 use oracle::{chosen, kept};
 use std::collections::HashSet;
 
@@ -58,4 +58,10 @@ fn the_list_has_the_patterns() {
     assert_kept(patterns::fixed(), 800);
     let chosen = chosen::outside().map(|row| row.bytes());
     assert_pages_kept(chosen, 40);
+}
+
+/// @ and offset in either order.
+#[test]
+fn the_list_has_the_times() {
+    assert_kept(times::fixed(), 300);
 }

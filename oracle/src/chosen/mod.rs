@@ -6,6 +6,7 @@ mod characters;
 mod flags;
 mod fractions;
 mod long;
+mod one_copy;
 mod patterns;
 mod printed;
 mod readings;
@@ -72,6 +73,7 @@ pub fn rows() -> impl Iterator<Item = &'static Row> {
         fractions::ROWS,
         flags::ROWS,
         patterns::ROWS,
+        one_copy::ROWS,
     ]
     .into_iter()
     .flatten()
@@ -79,8 +81,14 @@ pub fn rows() -> impl Iterator<Item = &'static Row> {
 
 /// Rows outside document 01's domain: the page's flag decides what the pattern says about empty text.
 pub fn outside() -> impl Iterator<Item = &'static Row> {
-    let lists = [characters::OUTSIDE, flags::OUTSIDE, patterns::OUTSIDE];
-    lists.into_iter().flatten()
+    [
+        characters::OUTSIDE,
+        flags::OUTSIDE,
+        patterns::OUTSIDE,
+        one_copy::OUTSIDE,
+    ]
+    .into_iter()
+    .flatten()
 }
 
 /// The rows of the refusal table: No. 1 to 34, and 41.

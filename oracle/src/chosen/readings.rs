@@ -68,7 +68,7 @@ pub const ROWS: &[Row] = &[
     row("upper 0: 1", "0b016600020000 00", Refused(1, 0)),
     row("`ln(-0)`", "000100 0b026c6e0100000001", Is(Kind::Vector, "ln(-0)")),
     row("name and a second matcher on `__name__`: 33", "020275700200016100 01085f5f6e616d655f5f0162", Refused(33, 0)),
-    row("order, double entries, flags and signature are copied", "02027570 04 0001620178 0001610178 0001610178 020161022e2a01 0301 060001 0501 0b01660202030201 0301", Copies("02027570 04 0001620178 0001610178 0001610178 020161022e2a01 0301 060001 0501 0b01660202030201 0301")),
+    row("order, double entries, flags and signature are copied; @ goes before offset", "02027570 04 0001620178 0001610178 0001610178 020161022e2a01 0301 060001 0501 0b01660202030201 0301", Copies("02027570 04 0001620178 0001610178 0001610178 020161022e2a01 0301 0501 060001 0b01660202030201 0301")),
     row("the index of 5 counts the page's records, not the copy's", "00000507", TooShort { lent: 1, record: 2 }),
     row("patterns are anchored, so `a)|(b` is taken", "0200010201610561297c286200", Prints("{a=~\"a)|(b\"}")),
 ];

@@ -1,6 +1,6 @@
 //! The classes that a run must reach.
 
-use super::{characters, fractions, ill_formed, patterns, words};
+use super::{characters, fractions, ill_formed, patterns, times, words};
 use crate::refusal;
 
 /// The record kinds, by their number on the page.
@@ -92,5 +92,6 @@ pub fn all() -> Vec<String> {
     classes.extend(ill_formed::classes());
     classes.extend(fractions::classes());
     classes.extend(patterns::classes());
+    classes.extend(times::classes());
     classes
 }

@@ -1,6 +1,6 @@
 //! Which classes of document 01 a run of pages reached: refusals, kinds, the parts of records, the rules of both texts;
 //! and of document 02 texts by words (No. 4), fractions (No. 5), patterns and their flags (No. 7), characters beyond
-//! ASCII and ill-formed texts (No. 10).
+//! ASCII and ill-formed texts (No. 10), @ and offset (No. 14).
 
 mod characters;
 mod classes;
@@ -10,6 +10,7 @@ mod patterns;
 mod records;
 mod split;
 mod texts;
+mod times;
 mod words;
 
 use crate::answer::{Answer, Outcome, Worked};
@@ -58,6 +59,7 @@ impl Coverage {
         self.unread_text(worked);
         self.fractions(worked, answer);
         self.patterns(worked);
+        self.times(worked, answer);
         match worked.outcome {
             Outcome::Refused { number, .. } => self.hit(format!("refusal {number:02}")),
             Outcome::Accepted(kind) => {

@@ -77,7 +77,7 @@ impl Generator<'_> {
     }
 
     /// At most one @ and one offset, in either order.
-    fn timed(&mut self, mut records: Records, count: usize) -> Records {
+    pub(super) fn timed(&mut self, mut records: Records, count: usize) -> Records {
         let mut times = vec![Record::At(self.at()), self.offset()];
         if self.random.chance(50) {
             times.reverse();

@@ -1,6 +1,6 @@
 //! Pages from a seed: good ones, planted faults, damaged copies, sizes at the limits, long texts, characters beyond
-//! ASCII and ill-formed ones, fractions and what is none, patterns with right and wrong flags, deep nesting, short and
-//! random bytes.
+//! ASCII and ill-formed ones, fractions and what is none, patterns with right and wrong flags, @ and offset in either
+//! order, deep nesting, short and random bytes.
 
 pub mod alphabet;
 mod call;
@@ -21,6 +21,7 @@ pub mod patterns;
 mod scope;
 pub mod stream;
 mod texts;
+pub mod times;
 pub mod well_formed;
 
 pub use damage::damaged;

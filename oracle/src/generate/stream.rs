@@ -3,7 +3,7 @@
 use super::{
     bytes, codes, counted_bytes, damaged, fault, fractions, good, ill_formed, limits, long_texts,
 };
-use super::{nesting, patterns, shortest, well_formed, Made, Scope};
+use super::{nesting, patterns, shortest, times, well_formed, Made, Scope};
 use crate::answer::Outcome;
 use crate::chosen;
 use crate::random::Random;
@@ -38,7 +38,7 @@ impl From<Made> for Sample {
 }
 
 /// Chosen pages, the limits, every code and every kind of operand, deep nesting, long values, characters beyond ASCII,
-/// fractions, patterns with their flags.
+/// fractions, patterns with their flags, @ and offset in either order.
 pub fn fixed() -> impl Iterator<Item = Sample> {
     let rows = chosen::rows().chain(chosen::outside());
     let chosen = rows.map(|row| Sample::any(row.bytes()));
@@ -53,7 +53,9 @@ pub fn fixed() -> impl Iterator<Item = Sample> {
         .chain(counted_bytes::fixed())
         .chain(ill_formed::fixed())
         .map(Sample::from);
-    let requests = fractions::fixed().chain(patterns::fixed());
+    let requests = fractions::fixed()
+        .chain(patterns::fixed())
+        .chain(times::fixed());
     let pages = chosen.chain(limits).chain(swept).chain(nested);
     pages.chain(texts).chain(requests.map(Sample::from))
 }
@@ -66,13 +68,17 @@ pub fn short() -> impl Iterator<Item = Sample> {
 /// Pages with long texts in a round.
 const LONG_TEXTS: usize = 14;
 
+/// Pages with @ and offset in a round.
+const TIMES: usize = 40;
+
 /// One round: pages of ASCII, then pages with characters beyond it, then with fractions too, then with covered patterns
-/// and wrong flags.
+/// and wrong flags, then with @ and offset.
 pub fn round(random: &mut Random) -> Vec<Sample> {
     let mut samples = ascii(random);
     samples.extend(beyond_ascii(random));
     samples.extend(with_fractions(random));
     samples.extend(with_patterns(random));
+    samples.extend((0..TIMES).map(|_| Sample::from(times::random(random))));
     samples
 }
 
