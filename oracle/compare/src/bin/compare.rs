@@ -7,7 +7,9 @@
 //!     compare texts                       all short texts through `check`: strings of up to three bytes, others of two
 //!     compare fractions [COUNT]           many fractions through canonical text, so many of them random ones
 //!     compare patterns [COUNT]            all short patterns, nests that fill 255 bytes and so many random ones
+//!     compare copies [SEEDS]              pairs of pages of one query and of two, from so many seeds
 
+use compare::copies;
 use compare::fractions::{self, Sizes};
 use compare::library::Library;
 use compare::patterns;
@@ -19,7 +21,7 @@ use std::process::ExitCode;
 
 const USAGE: &str =
     "usage: compare fixed | seeds FIRST LAST THREADS [STATE] | texts | fractions [COUNT]
-       | patterns [COUNT]";
+       | patterns [COUNT] | copies [SEEDS]";
 
 /// Seeds between two states: some ten seconds.
 const BLOCK: u64 = 1000;
@@ -39,6 +41,8 @@ fn main() -> ExitCode {
         ["fractions", count] => many_fractions(library, count).map(report_fractions),
         ["patterns"] => patterns::compare(library, patterns::Sizes::USUAL).map(report_patterns),
         ["patterns", count] => many_patterns(library, count).map(report_patterns),
+        ["copies"] => copies::compare(library, copies::Sizes::USUAL).map(report_copies),
+        ["copies", seeds] => many_copies(library, seeds).map(report_copies),
         _ => Err(USAGE.into()),
     };
     match result {
@@ -129,4 +133,33 @@ fn report_patterns(tally: patterns::Tally) {
     let patterns: u64 = parts.iter().map(|(_, count)| count.patterns).sum();
     let pages: u64 = parts.iter().map(|(_, count)| count.pages).sum();
     println!("{patterns} patterns, {pages} pages: no difference");
+}
+
+fn many_copies(library: Library, seeds: &str) -> Result<copies::Tallies, String> {
+    let seeds = seeds.parse().map_err(|_| USAGE)?;
+    let sizes = copies::Sizes {
+        seeds,
+        ..copies::Sizes::USUAL
+    };
+    copies::compare(library, sizes)
+}
+
+fn report_copies(tallies: copies::Tallies) {
+    let copies::Tallies { listed, generated } = tallies;
+    let pairs = &generated.pairs;
+    for sort in copies::sorts() {
+        println!("{:>9}  {sort}", pairs.count(sort));
+    }
+    for (words, tally) in [("of a few records", &listed), ("of the seeds", &generated)] {
+        println!(
+            "{} pages {words}, {} trees, {} copies longer than a page",
+            tally.pages, tally.trees, tally.longer
+        );
+    }
+    println!(
+        "{} pages, {} pairs of one tree, {} of two: no difference",
+        listed.pages + generated.pages,
+        pairs.equal,
+        pairs.unequal
+    );
 }

@@ -1,5 +1,6 @@
 //! The comparison itself, with stand-ins for the library.
 
+mod copies;
 mod fractions;
 mod patterns;
 mod planted;

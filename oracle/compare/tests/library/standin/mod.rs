@@ -1,5 +1,6 @@
 //! A library that answers by the oracle itself, whole or with one planted fault.
 
+pub mod copies;
 pub mod flags;
 pub mod fraction_texts;
 pub mod fractions;
