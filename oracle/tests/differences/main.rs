@@ -2,6 +2,7 @@
 
 mod also;
 mod answers;
+mod copies;
 mod document;
 mod flags;
 mod queries;

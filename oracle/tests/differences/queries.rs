@@ -1,7 +1,8 @@
-//! A row that keeps a given query has the shortest page of it. A query has one page, but for a minus on a number and a modifier
-//! that says nothing: the shortest has neither.
+//! A row that keeps a given query has the shortest page of it. A query has one page, but for a minus on a number, a
+//! modifier that says nothing and the order of @ and offset: the shortest has none of the first two, and @ first.
 
 use crate::document::rows;
+use crate::search::worked;
 use oracle::page::read::Reader;
 use oracle::page::record::*;
 use oracle::page::write;
@@ -38,8 +39,11 @@ fn pages_of_given_queries_are_the_shortest() {
     let given = |number: &str| number.starts_with(char::is_alphabetic) && number != "E5";
     let rows = rows();
     let given: Vec<_> = rows.iter().filter(|row| given(row.number)).collect();
+    let is_late = |pair: &[Record]| matches!(pair, [Record::Offset { .. }, Record::At(_)]);
     for row in &given {
         assert_eq!(row.page, shortest(&row.page), "{}", row.number);
+        let readable = worked(&row.page).records;
+        assert!(!readable.windows(2).any(is_late), "{}", row.number);
     }
     assert!(given.len() > 50, "{} rows", given.len());
 }

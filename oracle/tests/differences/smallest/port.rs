@@ -1,4 +1,4 @@
-//! Rows 1 to 5, 9 and 10: the port and the Rust.
+//! Rows 1 to 5 and 9 to 11: the port and the Rust.
 
 use super::{is_smallest, TEXTS};
 use crate::answers::with_true_flags;
@@ -8,6 +8,7 @@ use crate::search::{beginnings, expressions, worked};
 use oracle::answer::{Domain, Outcome, Worked};
 use oracle::page::record::*;
 use oracle::{generate, hex, refusal, tree};
+use promql_parser::parser::Expr;
 use std::collections::HashSet;
 
 fn is_refused(worked: &Worked, refusal: u8) -> bool {
@@ -124,4 +125,36 @@ fn row_9_fraction_that_is_no_float() {
 #[test]
 fn row_10_wrong_flag() {
     is_smallest("10", 2, |page| is_refused(page, refusal::WRONG_FLAG));
+}
+
+/// A tree that is another one to the Rust's `==` only by the sign of 0.
+#[test]
+fn row_11a_minus_zero() {
+    is_smallest("11a", 0, |page| {
+        let is_zero = |number: f64| number == 0.0 && number.is_sign_negative();
+        matches!(&page.checked, Some((Expr::NumberLiteral(number), _)) if is_zero(number.val))
+    });
+}
+
+/// Two operands have four bytes at least, as in row 2; the record would have to be shorter than the row's.
+#[test]
+fn row_11b_tree_that_is_not_itself() {
+    let page = row("11b").page;
+    let operands = hex::bytes("0002 0002");
+    let shows = |page: &[u8]| {
+        let worked = worked(page);
+        let tree = worked.checked.as_ref().map(|(tree, _)| tree);
+        tree != tree.cloned().as_ref()
+    };
+    assert!(page.starts_with(&operands) && shows(&page));
+    let found = |limit: usize| {
+        let texts = TEXTS;
+        let records = Records { limit, texts }.of_kind(9);
+        let mut pages = records
+            .iter()
+            .map(|record| [&operands, record.as_slice()].concat());
+        pages.any(|page| shows(&page))
+    };
+    let length = page.len() - operands.len();
+    assert!(!found(length - 1) && found(length));
 }
