@@ -28,32 +28,34 @@ fn has_two_common_labels(record: &Record) -> bool {
     distinct.len() >= 2
 }
 
-/// Three bytes make one expression at most, so two operands have four; the record would have to be shorter than the row's.
-#[test]
-fn row_2_two_common_labels() {
-    let page = row("2").page;
+/// A row whose page is two operands of two bytes and an operator: with these operands no shorter operator shows it. Three
+/// bytes make one expression at most, so no two operands are shorter.
+fn is_smallest_operator(name: &str, texts: &'static [&'static str], shows: fn(&Worked) -> bool) {
+    let page = row(name).page;
     let operands = hex::bytes("0002 0002");
-    let shows = |page: &[u8]| {
-        let worked = worked(page);
-        is_refused(&worked, 19) && worked.records.last().is_some_and(has_two_common_labels)
-    };
-    assert!(page.starts_with(&operands) && shows(&page));
-    assert!(beginnings(3, TEXTS)
-        .iter()
-        .all(|page| expressions(page) < 2));
+    assert!(page.starts_with(&operands) && shows(&worked(&page)));
     let found = |limit: usize| {
-        let records = Records {
-            limit,
-            texts: &["", "a"],
-        }
-        .of_kind(9);
-        let mut pages = records
+        let operators = Records { limit, texts }.of_kind(9);
+        let mut pages = operators
             .iter()
-            .map(|record| [&operands, record.as_slice()].concat());
-        pages.any(|page| shows(&page))
+            .map(|operator| [&operands, operator.as_slice()].concat());
+        pages.any(|page| shows(&worked(&page)))
     };
     let length = page.len() - operands.len();
     assert!(!found(length - 1) && found(length));
+}
+
+#[test]
+fn three_bytes_make_one_expression_at_most() {
+    let mut pages = beginnings(3, TEXTS).into_iter();
+    assert!(pages.all(|page| expressions(&page) < 2));
+}
+
+#[test]
+fn row_2_two_common_labels() {
+    is_smallest_operator("2", &["", "a"], |worked| {
+        is_refused(worked, 19) && worked.records.last().is_some_and(has_two_common_labels)
+    });
 }
 
 #[test]
@@ -136,25 +138,10 @@ fn row_11a_minus_zero() {
     });
 }
 
-/// Two operands have four bytes at least, as in row 2; the record would have to be shorter than the row's.
 #[test]
 fn row_11b_tree_that_is_not_itself() {
-    let page = row("11b").page;
-    let operands = hex::bytes("0002 0002");
-    let shows = |page: &[u8]| {
-        let worked = worked(page);
+    is_smallest_operator("11b", TEXTS, |worked| {
         let tree = worked.checked.as_ref().map(|(tree, _)| tree);
         tree != tree.cloned().as_ref()
-    };
-    assert!(page.starts_with(&operands) && shows(&page));
-    let found = |limit: usize| {
-        let texts = TEXTS;
-        let records = Records { limit, texts }.of_kind(9);
-        let mut pages = records
-            .iter()
-            .map(|record| [&operands, record.as_slice()].concat());
-        pages.any(|page| shows(&page))
-    };
-    let length = page.len() - operands.len();
-    assert!(!found(length - 1) && found(length));
+    });
 }
