@@ -30,7 +30,8 @@ use Rattle.records.specs.Modifier.{writeLabelModifier, oneToOne, manyToM
 use Rattle.records.specs.Modifier.{cardinalityForms, readCardinality, writeCardinality, BinModifier}
 use Rattle.records.specs.Modifier.{readBinModifier, writeBinModifier}
 use Rattle.records.specs.Time.{pos, neg, offsetForms, readOffset, writeOffset, start, end, after, before, atForms, readAtModifier, writeAtModifier}
-use Rattle.records.specs.Signature.{fixed, unlimited, upTo, variadicForms, readVariadic, writeVariadic, Function, readFunction, writeFunction}
+use Rattle.records.specs.Signature.{fixed, unlimited, upTo, variadicForms, readVariadic, writeVariadic, Function}
+use Rattle.records.specs.Signature.{readSignature, writeSignature, readFunction, writeFunction}
 use Rattle.records.specs.Record.{number, string as stringLeaf, selector, range, subquery, at, offset, unary}
 use Rattle.records.specs.Record.{paren, leaf, wrapper, binary, aggregate, call, readCode, readSelector}
 use Rattle.records.specs.Record.{readSubquery, readBinary, readAggregate, readCall, recordForms, readRecord}
@@ -162,13 +163,16 @@ readVariadic-back fixed h = reads-choice variadicForms 0 (omega arith) (reads-re
 readVariadic-back unlimited h = reads-choice variadicForms 1 (omega arith) (reads-return unlimited)
 readVariadic-back (upTo n) h = reads-choice variadicForms 2 (omega arith) (reads-field upTo (from-one countLimit n (omega arith) (h .0) (h .1)))
 
+pub readSignature-back : (f : Function) → IsFunction f → ReadsAs (readSignature (f .name)) (writeSignature f) f
+readSignature-back f h =
+    reads-as (
+    reads-bind _ (readList-back readKind writeKind IsKind readKind-back (f .argTypes) (h .1))
+    (reads-bind _ (readVariadic-back (f .variadic) (h .2)) (reads-field _ (readKind-back (f .returnType) tt)))
+    ) (simp append-assoc)
+
 pub readFunction-back : ReadsBack readFunction writeFunction IsFunction
 readFunction-back f h =
-    reads-as (
-    reads-bind _ (readText-back functionNameLimit isLabel (omega arith) (f .name) (h .0))
-    (reads-bind _ (readList-back readKind writeKind IsKind readKind-back (f .argTypes) (h .1))
-    (reads-bind _ (readVariadic-back (f .variadic) (h .2)) (reads-field _ (readKind-back (f .returnType) tt))))
-    ) (simp append-assoc)
+    reads-bind readSignature (readText-back functionNameLimit isLabel (omega arith) (f .name) (h .0)) (readSignature-back f h)
 
 -- ## Records
 

@@ -1,0 +1,35 @@
+-- What the answers of the functions that ask a table mean.
+use Prim.Native.Nat.{ℕ}
+use mathlib.Core.Bool.{Bool, true, false, _&&_}
+use mathlib.Core.List.{List, [], _∷_}
+use mathlib.Core.Option.{Option, none, some}
+use mathlib.Core.Path.{_≡_}
+use lib.Dec.{eqb}
+use Rattle.records.specs.Signature.{Function}
+use Rattle.functions.specs.Table.{Formed}
+use Rattle.functions.specs.Lookup.{lookup, unlike}
+use Rattle.functions.specs.declared.find.Found.{Found}
+use Rattle.functions.specs.declared.find.Found.the-variants as found
+use Rattle.functions.specs.declared.carried.Carried.{Carried}
+use Rattle.functions.specs.declared.carried.Carried.the-variants as carried
+
+-- the place of a name in the table
+abbrev pub placeMeant : Found → Option ℕ
+placeMeant (found.At i) = some i
+placeMeant found.Nothing = none
+
+-- the refusal of a call for its name or its signature
+abbrev pub faultMeant : Carried → Option ℕ
+faultMeant carried.Like = none
+faultMeant carried.Unlike = some 38
+faultMeant carried.Unknown = some 37
+
+-- these bytes begin with that text
+abbrev pub beginsWith : List ℕ → List ℕ → Bool
+beginsWith [] bytes = true
+beginsWith (a ∷ text) [] = false
+beginsWith (a ∷ text) (b ∷ bytes) = eqb a b && beginsWith text bytes
+
+-- of any table that lies in the arrays: the fault of a call beside it
+abbrev pub Compares : List ℕ → List ℕ → Function → Carried → Type 0
+Compares letters starts f r = (table : List Function) → Formed letters starts table → faultMeant r ≡ unlike f (lookup table (f .name))

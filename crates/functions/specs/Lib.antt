@@ -1,0 +1,5 @@
+pub mod Order
+pub mod Table
+pub mod Functions
+pub mod Lookup
+pub mod Answers
