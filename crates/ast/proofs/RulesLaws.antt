@@ -1,15 +1,15 @@
 -- A check by rules. Without rules it is document 01's (`checkPageBy-plain`); under any rules a page is accepted only as
--- document 01 accepts it (`checkPageBy-accepts`), and a refusal is a rule's or document 01's own (`checkPageBy-refuses`).
--- Rules that ask nothing after the operands refuse the first record they find fault with, if document 01 comes so far
--- (`checkPageBy-asked`), and change nothing else (`checkPageBy-unasked`). Assumes nothing.
-use Prim.Native.Nat.{ℕ, zero, suc, _+_, _≤_}
+-- document 01 accepts it (`checkPageBy-accepts`). Rules that ask nothing after the operands refuse the first record they
+-- find fault with, if document 01's check comes so far (`checkPageBy-first`), and else change nothing
+-- (`checkPageBy-unasked`, `checkPageBy-none`). What refuses a page is in `RefusedLaws`. Assumes nothing.
+use Prim.Native.Nat.{ℕ, suc, _+_, _≤_, _<_, min}
 use mathlib.Core.Path.{_≡_, refl, sym, ap, ap₂, subst, _∙_}
 use mathlib.Core.List.{List, [], _∷_, map}
 use mathlib.Core.Option.{Option, none, some}
 use native.Mathlib.Nat.{add-zero, zero-add}
 use native.Mathlib.Omega.{arith}
-use lib.ListN.{length, take, drop, take-append-drop, length-drop}
-use lib.Seq.{length-take-le}
+use lib.ListN.{length, take, drop, length-take, length-drop}
+use lib.Seq.{length-take-le, take-all}
 use Rattle.page.specs.Allowed.{Each}
 use Rattle.records.specs.Kind.{Kind}
 use Rattle.records.specs.Record.{Record, Ending, end, unreadable, Records, readPage}
@@ -18,8 +18,10 @@ use Rattle.ast.specs.Expr.{Expr, valueType}
 use Rattle.ast.specs.Walk.{Walked, stack, stopped, proceed, Checked, accepted, refusedAt, atEnd, finished, walk}
 use Rattle.ast.specs.Walk.{stackAfter, walkPage}
 use Rattle.ast.specs.CheckPage.{apply, checkPage}
-use Rattle.ast.specs.Rules.{Rules, plain, guarded, ruled, applyBy, checkPageBy}
-use Rattle.ast.proofs.WalkLaws.{walk-first, walk-then, onward, walk-append}
+use Rattle.ast.specs.Table.{recordCount}
+use Rattle.ast.specs.Rules.{Rules, plain, guarded, ruled, applyBy, checkPageBy, reachedCount, FirstAsked}
+use Rattle.ast.proofs.WalkLaws.{walk-first, walk-then, walk-reached, walk-early, walk-within}
+use Rattle.ast.proofs.CheckLaws.{CheckedIn, checkPage-in}
 
 -- ## ruled
 
@@ -93,221 +95,16 @@ checkPageBy-accepts rules page t n e =
     let same = walk-refines rules (readPage page .records) 0 [] (t ∷ []) walked in
     ap (finished (readPage page .ending) (length (readPage page .records))) (same ∙ sym walked) ∙ e
 
--- ## A page that is refused under rules
-
--- the stack after some records, and what a record there comes to
-walk-reached : {A : Type 0} (effect : Record → List A → Result (List A)) (rs : List Record) (i k : ℕ) (s t : List A)
-    → walk effect i s (take k rs) ≡ stack t → walk effect i s rs ≡ walk effect (i + length (take k rs)) t (drop k rs)
-walk-reached effect rs i k s t e =
-    ap (walk effect i s) (sym (take-append-drop k rs))
-    ∙ walk-append effect (take k rs) (drop k rs) i s
-    ∙ ap {B = Walked _} (λ w. onward effect w (λ u. walk effect (i + length (take k rs)) u (drop k rs))) e
-
-module _ (rules : Rules) where
-  -- no rule refuses these records before their operands
-  abbrev pub Unasked : List Record → Type 0
-  Unasked = Each (λ r. rules .before r ≡ none)
-
-  -- where a walk under rules stopped: the records before it pass, and document 01 comes so far
-  pub record StoppedBy (rs : List Record) (i : ℕ) (s : List Expr) (n j : ℕ) : Type 0 where
-    pub place : ℕ
-    pub index : j ≡ i + place
-    pub item : Record
-    pub later : List Record
-    pub stands : drop place rs ≡ item ∷ later
-    pub passed : Unasked (take place rs)
-    pub stackBefore : List Expr
-    pub reached : walk apply i s (take place rs) ≡ stack stackBefore
-    pub refuses : applyBy rules item stackBefore ≡ refused n
-
-  walk-stopped : (rs : List Record) (i : ℕ) (s : List Expr) (n j : ℕ) → walk (applyBy rules) i s rs ≡ stopped n j → StoppedBy rs i s n j
-  walk-stopped [] i s n j e = absurd (let z : _≡_ {A = ℕ} 0 1 = cc in omega arith)
-  walk-stopped (r ∷ rs) i s n j e = by (λ t q. walk-stopped rs (suc i) t n j q) (applyBy rules r s) refl e
-    where
-      index : (k : ℕ) → j ≡ suc i + k → j ≡ i + suc k
-      index k e = omega arith
-
-      behind : (t : List Expr) → applyBy rules r s ≡ ok t → StoppedBy rs (suc i) t n j → StoppedBy (r ∷ rs) i s n j
-      behind t e x =
-          let passes = ruled-passes rules r (map valueType s) (apply r s) t e in
-          record {
-            place = suc (x .place);
-            index = index (x .place) (x .index);
-            item = x .item;
-            later = x .later;
-            stands = x .stands;
-            passed = (passes .before, x .passed);
-            stackBefore = x .stackBefore;
-            reached = walk-then apply r (take (x .place) rs) i s (x .stackBefore) t (passes .passes) (x .reached);
-            refuses = x .refuses;
-          }
-
-      by : ((t : List Expr) → walk (applyBy rules) (suc i) t rs ≡ stopped n j → StoppedBy rs (suc i) t n j)
-          → (x : Result (List Expr)) → applyBy rules r s ≡ x
-          → proceed i x (λ t. walk (applyBy rules) (suc i) t rs) ≡ stopped n j → StoppedBy (r ∷ rs) i s n j
-      by more (refused m) is e =
-          let number : m ≡ n = cc in
-          let at : i ≡ j = cc in
-          record {
-            place = 0;
-            index = sym at ∙ sym (add-zero i);
-            item = r;
-            later = rs;
-            stands = refl;
-            passed = tt;
-            stackBefore = s;
-            reached = refl;
-            refuses = is ∙ ap {B = Result (List Expr)} refused number;
-          }
-      by more (ok t) is e = behind t is (more t e)
-
-  -- ### What refuses a page
-
-  pub data Cause (page : List ℕ) (n i : ℕ) : Type 0 where
-    -- a rule, asked of the record before its operands are counted
-    before : (r : Record) (later : List Record) → drop i (readPage page .records) ≡ r ∷ later → rules .before r ≡ some n
-        → Cause page n i
-    -- document 01's check
-    document : checkPage page ≡ refusedAt n i → Cause page n i
-    -- a rule, asked of the record that document 01 accepts
-    after : (r : Record) (later : List Record) (s t : List Expr) → drop i (readPage page .records) ≡ r ∷ later
-        → stackAfter apply i (readPage page) ≡ stack s → apply r s ≡ ok t → rules .after r (map valueType s) ≡ some n
-        → Cause page n i
-
-  pub record RefusedUnder (page : List ℕ) (n i : ℕ) : Type 0 where
-    pub cause : Cause page n i
-    -- no rule refuses a record before it
-    pub passed : Unasked (take i (readPage page .records))
-    -- and neither does document 01
-    pub first : (m j : ℕ) → checkPage page ≡ refusedAt m j → i ≤ j
-
--- a record that is refused under rules
-refused-by : (rules : Rules) (r : Record) (ks : List Kind) (n : ℕ) (x : Result (List Expr)) (C : Type 0) → ruled rules r ks x ≡ refused n
-    → (rules .before r ≡ some n → C) → (x ≡ refused n → C) → ((t : List Expr) → x ≡ ok t → rules .after r ks ≡ some n → C) → C
-refused-by rules r ks n x C e first own last = by (rules .before r) (rules .after r ks) x refl refl refl e
-  where
-    number : {m : ℕ} → _≡_ {A = Result (List Expr)} (refused m) (refused n) → m ≡ n
-    number q = cc
-
-    by : (b c : Option ℕ) (y : Result (List Expr)) → rules .before r ≡ b → rules .after r ks ≡ c → x ≡ y
-        → guarded b (andThen y (λ a. unless c a)) ≡ refused n → C
-    by (some m) c y p q is e = first (p ∙ ap {B = Option ℕ} some (number e))
-    by none c (refused m) p q is e = own (is ∙ e)
-    by none (some m) (ok t) p q is e = last t is (q ∙ ap {B = Option ℕ} some (number e))
-    by none none (ok t) p q is e = absurd (let z : _≡_ {A = ℕ} 0 1 = cc in omega arith)
-
--- a walk stops at a record that it has come to
-walk-forward : {A : Type 0} (effect : Record → List A → Result (List A)) (rs : List Record) (i : ℕ) (s : List A) (n j : ℕ)
-    → walk effect i s rs ≡ stopped n j → i ≤ j
-walk-forward effect [] i s n j e = absurd (let z : _≡_ {A = ℕ} 0 1 = cc in omega arith)
-walk-forward {A} effect (r ∷ rs) i s n j e = by (λ t q. walk-forward effect rs (suc i) t n j q) (effect r s) e
-  where
-    later : suc i ≤ j → i ≤ j
-    later h = omega arith
-
-    by : ((t : List A) → walk effect (suc i) t rs ≡ stopped n j → suc i ≤ j) → (x : Result (List A))
-        → proceed i x (λ t. walk effect (suc i) t rs) ≡ stopped n j → i ≤ j
-    by more (refused m) e = let at : i ≡ j = cc in omega arith
-    by more (ok t) e = later (more t e)
-
-each-take : {A : Type 0} (P : A → Type 0) (xs : List A) (k : ℕ) → Each P xs → Each P (take k xs)
-each-take P [] zero h = tt
-each-take P [] (suc k) h = tt
-each-take P (x ∷ xs) zero h = tt
-each-take P (x ∷ xs) (suc k) h = (h .0, each-take P xs k (h .1))
-
-end-index : (e : Ending) (i : ℕ) (s : List Expr) (n j : ℕ) → atEnd e i s ≡ refusedAt n j → j ≡ i
+-- not one tree at the end: the refusal has the number of records
+pub end-index : (e : Ending) (i : ℕ) (s : List Expr) (n j : ℕ) → atEnd e i s ≡ refusedAt n j → j ≡ i
 end-index (unreadable f) i s n j e = cc
 end-index end i [] n j e = cc
 end-index end i (t ∷ []) n j e = absurd (let z : _≡_ {A = ℕ} 0 1 = cc in omega arith)
 end-index end i (t ∷ u ∷ s) n j e = cc
 
--- where records before were reached, none of them is refused
-reached-first : (p : Records) (k : ℕ) (s : List Expr) (m j : ℕ) → k ≤ length (p .records)
-    → walk apply 0 [] (take k (p .records)) ≡ stack s → walkPage apply p ≡ refusedAt m j → k ≤ j
-reached-first p k s m j h reached = by (walk apply 0 [] (p .records)) (walk-reached apply (p .records) 0 k [] s reached)
-  where
-    size : length (take k (p .records)) ≡ k
-    size = length-take-le k (p .records) h
-
-    by : (w : Walked Expr) → w ≡ walk apply (0 + length (take k (p .records))) s (drop k (p .records))
-        → finished (p .ending) (length (p .records)) w ≡ refusedAt m j → k ≤ j
-    by (stack t) is e = let at = end-index (p .ending) (length (p .records)) t m j e in omega arith
-    by (stopped n i) is e =
-        let at : i ≡ j = cc in
-        let behind = walk-forward apply (drop k (p .records)) (0 + length (take k (p .records))) s n i (sym is) in
-        omega (arith, behind, size, at)
-
-module _ (rules : Rules) where
-  walk-unasked : (rs : List Record) (i : ℕ) (s t : List Expr) → walk (applyBy rules) i s rs ≡ stack t → Unasked rules rs
-  walk-unasked [] i s t e = tt
-  walk-unasked (r ∷ rs) i s t e =
-      let first = walk-first (applyBy rules) r rs i s t e in
-      (ruled-passes rules r (map valueType s) (apply r s) (first .0) (first .1) .before, walk-unasked rs (suc i) (first .0) t (first .2))
-
-  module _ (page : List ℕ) (n i : ℕ) where
-    -- refused at its end
-    end-refuses : (s : List Expr) → walk (applyBy rules) 0 [] (readPage page .records) ≡ stack s
-        → atEnd (readPage page .ending) (length (readPage page .records)) s ≡ refusedAt n i → RefusedUnder rules page n i
-    unfolding checkPage
-    end-refuses s is e =
-        let own : checkPage page ≡ refusedAt n i =
-        ap (finished (readPage page .ending) (length (readPage page .records))) (walk-refines rules (readPage page .records) 0 [] s is) ∙ e in
-        record {
-          cause = document own;
-          passed = each-take (λ r. rules .before r ≡ none) (readPage page .records) i (walk-unasked (readPage page .records) 0 [] s is);
-          first = λ m j q. let at : i ≡ j = cc in omega arith;
-        }
-
-    module _ (x : StoppedBy rules (readPage page .records) 0 [] n i) where
-      at-place : x .place ≡ i
-      at-place = omega (arith, x .index)
-
-      abbrev records : List Record
-      records = readPage page .records
-
-      stands-at : drop i records ≡ x .item ∷ x .later
-      stands-at = ap (λ (k : ℕ). drop k records) (sym at-place) ∙ x .stands
-
-      reached-at : stackAfter apply i (readPage page) ≡ stack (x .stackBefore)
-      reached-at = ap (λ (k : ℕ). walk apply 0 [] (take k records)) (sym at-place) ∙ x .reached
-
-      inside : i ≤ length records
-      inside = let sizes = ap length stands-at in omega (arith, sizes, length-drop i records)
-
-      -- refused by document 01 there
-      own : apply (x .item) (x .stackBefore) ≡ refused n → checkPage page ≡ refusedAt n i
-      unfolding checkPage
-      own e =
-          ap (finished (readPage page .ending) (length records)) (
-          walk-reached apply records 0 i [] (x .stackBefore) reached-at
-          ∙ ap (walk apply (0 + length (take i records)) (x .stackBefore)) stands-at
-          ∙ ap {B = Walked Expr} (λ y. proceed (0 + length (take i records)) y (λ t. walk apply (suc (0 + length (take i records))) t (x .later))) e
-          ∙ ap {B = Walked Expr} (λ k. stopped n k) (zero-add (length (take i records)) ∙ length-take-le i records inside)
-          )
-
-      record-refuses : RefusedUnder rules page n i
-      unfolding checkPage
-      record-refuses = record {
-        cause = refused-by rules (x .item) (map valueType (x .stackBefore)) n (apply (x .item) (x .stackBefore)) (Cause rules page n i) (x .refuses)
-            (λ e. before (x .item) (x .later) stands-at e)
-            (λ e. document (own e))
-            (λ t e f. after (x .item) (x .later) (x .stackBefore) t stands-at reached-at e f);
-        passed = subst (λ (k : ℕ). Unasked rules (take k records)) at-place (x .passed);
-        first = λ m j q. reached-first (readPage page) i (x .stackBefore) m j inside reached-at q;
-      }
-
-    pub checkPageBy-refuses : checkPageBy rules page ≡ refusedAt n i → RefusedUnder rules page n i
-    unfolding checkPageBy
-    checkPageBy-refuses = by (walk (applyBy rules) 0 [] (readPage page .records)) refl
-      where
-        by : (w : Walked Expr) → walk (applyBy rules) 0 [] (readPage page .records) ≡ w
-            → finished (readPage page .ending) (length (readPage page .records)) w ≡ refusedAt n i → RefusedUnder rules page n i
-        by (stack s) is e = end-refuses s is e
-        by (stopped m j) is e =
-            let number : m ≡ n = cc in
-            let index : j ≡ i = cc in
-            record-refuses (walk-stopped rules (readPage page .records) 0 [] n i (is ∙ ap₂ {C = Walked Expr} stopped number index))
+-- no rule refuses these records before their operands
+abbrev pub Unasked : Rules → List Record → Type 0
+Unasked rules = Each (λ r. rules .before r ≡ none)
 
 -- ## Rules that ask nothing after the operands
 
@@ -347,3 +144,72 @@ module _ (rules : Rules) (none-after : (r : Record) (ks : List Kind) → rules .
       (λ t. walk (applyBy rules) (suc (0 + length (take i (readPage page .records)))) t later)) e
       ∙ ap {B = Walked Expr} (λ k. stopped n k) (zero-add (length (take i (readPage page .records))) ∙ length-take-le i (readPage page .records) inside)
       )
+
+  -- ### From what document 01's check comes to
+
+  module _ (page : List ℕ) where
+    -- it comes to each of these records with a stack
+    reached-stack : (k : ℕ) → k < reachedCount page (checkPage page) → (s : List Expr) × (stackAfter apply k (readPage page) ≡ stack s)
+    unfolding checkPage
+    reached-stack k below = by (stackAfter apply k (readPage page)) refl
+      where
+        by : (w : Walked Expr) → stackAfter apply k (readPage page) ≡ w → (s : List Expr) × (stackAfter apply k (readPage page) ≡ stack s)
+        by (stack s) is = (s, is)
+        by (stopped n j) is =
+            let early = walk-early apply (readPage page .records) 0 k [] n j is in
+            let inside = walk-within apply (take k (readPage page .records)) 0 [] n j is in
+            let refuses = ap (λ (w : Walked Expr). reachedCount page (finished (readPage page .ending) (recordCount page) w)) early in
+            absurd (omega (arith, below, refuses, inside, length-take k (readPage page .records)))
+
+    pub checkPageBy-first : (n i : ℕ) → FirstAsked (rules .before) (readPage page .records) (reachedCount page (checkPage page)) n i
+        → checkPageBy rules page ≡ refusedAt n i
+    checkPageBy-first n i x =
+        let there = reached-stack i (x .below) in
+        checkPageBy-asked page i n (x .item) (x .later) (there .0) (x .stands) (x .passed) (there .1) (x .refuses)
+
+    -- every record is one of those
+    all-reached : (k : ℕ) → recordCount page ≤ k → Unasked rules (take k (readPage page .records)) → checkPageBy rules page ≡ checkPage page
+    all-reached k h passed = checkPageBy-unasked page (subst (Unasked rules) (take-all k (readPage page .records) h) passed)
+
+    -- where document 01's walk stops, it stops among the records that it comes to
+    stops-there : (k n i : ℕ) → k ≡ min (suc i) (recordCount page) → walk apply 0 [] (readPage page .records) ≡ stopped n i
+        → walk apply 0 [] (take k (readPage page .records)) ≡ stopped n i
+    stops-there k n i size is = by (walk apply 0 [] (take k (readPage page .records))) refl
+      where
+        inside : (0 ≤ i) × (i < 0 + recordCount page)
+        inside = walk-within apply (readPage page .records) 0 [] n i is
+
+        by : (w : Walked Expr) → walk apply 0 [] (take k (readPage page .records)) ≡ w → w ≡ stopped n i
+        by (stack s) at =
+            let onward = walk-reached apply (readPage page .records) 0 k [] s at in
+            let behind = walk-within apply (drop k (readPage page .records)) (0 + length (take k (readPage page .records))) s n i (sym onward ∙ is) in
+            absurd (omega (arith, inside, behind .0, size, length-take k (readPage page .records)))
+        by (stopped m j) at = sym (walk-early apply (readPage page .records) 0 k [] m j at) ∙ is
+
+    refused-as : (n i : ℕ) → checkPage page ≡ refusedAt n i → Unasked rules (take (min (suc i) (recordCount page)) (readPage page .records))
+        → checkPageBy rules page ≡ checkPage page
+    unfolding checkPageBy checkPage
+    refused-as n i is passed = by (walk apply 0 [] (readPage page .records)) refl is
+      where
+        by : (w : Walked Expr) → walk apply 0 [] (readPage page .records) ≡ w → finished (readPage page .ending) (recordCount page) w ≡ refusedAt n i
+            → finished (readPage page .ending) (recordCount page) (walk (applyBy rules) 0 [] (readPage page .records))
+            ≡ finished (readPage page .ending) (recordCount page) (walk apply 0 [] (readPage page .records))
+        by (stack s) at e =
+            let last = end-index (readPage page .ending) (recordCount page) s n i e in
+            let whole = take-all (min (suc i) (recordCount page)) (readPage page .records) (omega (arith, last)) in
+            ap (finished (readPage page .ending) (recordCount page)) (walk-as-document (readPage page .records) 0 [] (subst (Unasked rules) whole passed))
+        by (stopped m j) at e =
+            let index : j ≡ i = cc in
+            let there = stops-there (min (suc i) (recordCount page)) m j (ap (λ (k : ℕ). min (suc k) (recordCount page)) (sym index)) at in
+            let same = walk-as-document (take (min (suc i) (recordCount page)) (readPage page .records)) 0 [] passed in
+            ap (finished (readPage page .ending) (recordCount page))
+            (walk-early (applyBy rules) (readPage page .records) 0 (min (suc i) (recordCount page)) [] m j (same ∙ there) ∙ sym at)
+
+    -- no rule refuses a record that document 01's check comes to
+    pub checkPageBy-none : Unasked rules (take (reachedCount page (checkPage page)) (readPage page .records)) → checkPageBy rules page ≡ checkPage page
+    checkPageBy-none = by (checkPage page) refl (checkPage-in page)
+      where
+        by : (c : Checked Expr) → checkPage page ≡ c → CheckedIn (recordCount page) c
+            → Unasked rules (take (reachedCount page c) (readPage page .records)) → checkPageBy rules page ≡ checkPage page
+        by (accepted e n) is size passed = all-reached n (omega arith) passed
+        by (refusedAt n i) is size passed = refused-as n i is passed

@@ -3,3 +3,4 @@ pub mod Table
 pub mod Functions
 pub mod Lookup
 pub mod Answers
+pub mod TableContract

@@ -37,12 +37,10 @@ abbrev pub functionAt : List ℕ → FunctionField → Read signature.Function
 functionAt page (function-answer.Got f next) = got (functionOn page f) (drop next page)
 functionAt page (function-answer.Bad f) = refused (faultOf f)
 
--- the name lies on the page, there are as many kinds as are declared, and what follows the name is its signature
+-- the name lies on the page, and there are as many kinds as are declared
 pub record FunctionLies (page : List ℕ) (f : Function) : Type 0 where
   pub name : Lies page (f .name)
   pub kinds : length (kindsOn page (f .kinds .start) (f .kinds .count)) ≡ f .kinds .count
-  pub rest : List ℕ
-  pub signed : got (functionOn page f) rest ≡ signature.readSignature (spanOn page (f .name)) (drop (f .name .end) page)
 
 abbrev pub functionLies : List ℕ → FunctionField → Type 0
 functionLies page (function-answer.Got f next) = FunctionLies page f

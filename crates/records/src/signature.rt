@@ -8,7 +8,7 @@ use crate::time::Amount;
 ghost use mathlib.Core.Path.{_≡_};
 ghost use lib.ListN.{drop, length};
 ghost use Rattle.page.specs.Answers.{spanOn, Lies};
-ghost use Rattle.records.specs.Signature.{readUpper, readVariadic, readSignature, readFunction};
+ghost use Rattle.records.specs.Signature.{readUpper, readVariadic, readFunction};
 ghost use Rattle.records.specs.Answers.{amountAt, kindsOn};
 ghost use Rattle.records.specs.SignatureAnswers.{variadicAt, functionAt, functionLies, readFunctionRest};
 
@@ -84,8 +84,7 @@ pub enum FunctionField {
 
 // The rest of a signature: its extra and its result.
 fn read_function_rest(page: &[u8], at: usize, name: page::Span, kinds: page::List) -> FunctionField
-    requires lies { ⌜ Lies (now page) name × (length (kindsOn (now page) (kinds .start) (kinds .count)) ≡ kinds .count) ⌝ }
-    requires signed { ⌜ readSignature (spanOn (now page) name) (drop (name .end) (now page)) ≡ readFunctionRest (spanOn (now page) name) (kindsOn (now page) (kinds .start) (kinds .count)) (drop at (now page)) ⌝ }
+    requires { ⌜ Lies (now page) name × (length (kindsOn (now page) (kinds .start) (kinds .count)) ≡ kinds .count) ⌝ }
     ensures reads { λ r. ⌜ functionAt (now (page .entry)) r ≡ readFunctionRest (spanOn (now (page .entry)) name) (kindsOn (now (page .entry)) (kinds .start) (kinds .count)) (drop at (now (page .entry))) ⌝ }
     ensures lies { λ r. ⌜ functionLies (now (page .entry)) r ⌝ }
 {

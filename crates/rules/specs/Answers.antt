@@ -94,6 +94,8 @@ refusalNumber refusal.NameTwice = 33
 -- no name, and no matcher or only ones that accept empty text
 refusalNumber refusal.EmptySelector = 34
 -- the flag of a covered pattern is wrong (document 02, No. 7)
+refusalNumber refusal.UnknownFunction = 37
+refusalNumber refusal.UnlikeSignature = 38
 refusalNumber refusal.WrongFlag = 41
 
 abbrev pub verdictMeant : Verdict → ast.Result spec.Operand

@@ -38,6 +38,8 @@ pub enum Refusal {
     SubqueryKind,
     NameTwice,
     EmptySelector,
+    UnknownFunction,
+    UnlikeSignature,
     WrongFlag,
 }
 
@@ -79,6 +81,8 @@ pub fn refusal_number(refusal: Refusal) -> u64
         Refusal::SubqueryKind => 32,
         Refusal::NameTwice => 33,
         Refusal::EmptySelector => 34,
+        Refusal::UnknownFunction => 37,
+        Refusal::UnlikeSignature => 38,
         Refusal::WrongFlag => 41,
     }
 }

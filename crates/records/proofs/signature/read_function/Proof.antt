@@ -19,13 +19,9 @@ read-function-rest-requires : tie.Need-read-function-rest-requires
 read-function-rest-requires c κs =
     let at-read-kinds = c .before .before .before in
     let at-name = at-read-kinds .before .before in
-    let at-read-text = at-name .before .before in
-    let f = rw (c .before .kinds .given .1) at (at-read-kinds .read-kinds .ensures .0) in (
-      (
-        rw (at-name .name .given .1) at (at-read-text .read-text .ensures .1),
-        rw (c .before .kinds .given .1) at (at-read-kinds .read-kinds .ensures .1),
-      ),
-      simp (← f),
+    let at-read-text = at-name .before .before in (
+      rw (at-name .name .given .1) at (at-read-text .read-text .ensures .1),
+      rw (c .before .kinds .given .1) at (at-read-kinds .read-kinds .ensures .1),
     )
 
 enum-known-f : tie.Need-enum-known-f

@@ -1,6 +1,4 @@
 -- `records::signature::read_function_rest` meets its contract, field by field. Assumes nothing.
-use lib.ListN.{drop}
-use denote.Ref.{now}
 use borrow.Author.Needs.{needs}
 use Rattle.records.proofs.signature.read_function_rest.Statement.{statement}
 use Rattle.records.proofs.signature.read_function_rest.Tie as tie
@@ -30,15 +28,8 @@ returns c =
     let at-read-variadic = at-variadic .before .before in
     let at-start = at-read-variadic .before .before in
     let e = rw (at-variadic .variadic .given .1) at (at-read-variadic .read-variadic .ensures) in
-    let f = rw (c .before .result .given .1) at (at-read-kind .read-kind .ensures) in (
-      simp (← e, ← f),
-      record {
-        name = at-start .pre .0 .0;
-        kinds = at-start .pre .0 .1;
-        rest = drop (c .before .result .given .0 .1 .0) (now (at-start .args .page));
-        signed = simp (at-start .pre .1, ← e, ← f);
-      },
-    )
+    let f = rw (c .before .result .given .1) at (at-read-kind .read-kind .ensures) in
+    (simp (← e, ← f), record { name = at-start .pre .0; kinds = at-start .pre .1 })
 
 returns-2 : tie.Need-returns-2
 returns-2 c =
