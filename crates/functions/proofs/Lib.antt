@@ -1,0 +1,3 @@
+pub mod CutLaws
+pub mod OrderLaws
+pub mod PlaceLaws
