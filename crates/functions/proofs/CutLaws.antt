@@ -25,10 +25,9 @@ module _ (end : ℕ) where
   ascendTo-next (a ∷ b ∷ starts) (suc i) t h =
       ascendTo-next (b ∷ starts) i (right-of (ltb a b) (ascendTo end (b ∷ starts)) t) (le-of-suc-le-suc h)
 
-  ascendTo-last : (starts : List ℕ) → T (ascendTo end starts) → getD starts (length starts - 1) 0 ≡ end
-  ascendTo-last [] t = absurd t
-  ascendTo-last (a ∷ []) t = eqb→eq a end t
-  ascendTo-last (a ∷ b ∷ starts) t = ascendTo-last (b ∷ starts) (right-of (ltb a b) (ascendTo end (b ∷ starts)) t)
+  pub ascendTo-last : (a : ℕ) (starts : List ℕ) → T (ascendTo end (a ∷ starts)) → getD (a ∷ starts) (length starts) 0 ≡ end
+  ascendTo-last a [] t = eqb→eq a end t
+  ascendTo-last a (b ∷ starts) t = ascendTo-last b starts (right-of (ltb a b) (ascendTo end (b ∷ starts)) t)
 
   ascendTo-inside : (starts : List ℕ) (i : ℕ) → T (ascendTo end starts) → i < length starts → getD starts i 0 ≤ end
   ascendTo-inside [] i t h = absurd t

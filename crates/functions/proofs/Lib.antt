@@ -1,3 +1,4 @@
+pub mod BeginsLaws
 pub mod CutLaws
 pub mod OrderLaws
 pub mod PlaceLaws

@@ -5,10 +5,11 @@ use mathlib.Core.Path.{_≡_, refl, sym, ap, _∙_, subst}
 use mathlib.Core.Bool.{Bool, true, false}
 use mathlib.Core.List.{List, [], _∷_}
 use mathlib.Core.Option.{Option, none, some}
-use native.Mathlib.Nat.{not-suc-le-zero, le-of-suc-le-suc, suc-le-suc, add-zero, add-suc, suc-add}
+use native.Mathlib.Nat.{not-suc-le-zero, le-of-suc-le-suc, zero-add}
+use borrow.Author.Tests.{ltb-true, ltb-false}
 use native.Mathlib.Omega.{arith}
 use lib.ListN.{length, getD}
-use lib.Dec.{T}
+use lib.Dec.{T, ltb}
 use Rattle.page.specs.Bytes.{pick, equal}
 use Rattle.page.specs.Text.{Text}
 use Rattle.functions.specs.Order.{orderOf, ascend}
@@ -38,22 +39,72 @@ pub record Left (ts : List Text) (name : Text) (low high : ℕ) : Type 0 where
   pub front : (k : ℕ) → k < low → orderOf (getD ts k []) name ≡ Before
   pub back : (k : ℕ) → high ≤ k → k < length ts → orderOf name (getD ts k []) ≡ Before
 
-module _ (ts : List Text) (name : Text) where
-  pub left-all : (n : ℕ) → length ts ≡ n → Left ts name 0 n
-  left-all n e = record {
-    ordered = omega arith;
-    inside = omega arith;
-    front = λ k l. absurd (not-suc-le-zero l);
-    back = λ k l m. absurd (omega arith);
+pub left-all : (ts : List Text) (name : Text) (n : ℕ) → length ts ≡ n → Left ts name 0 n
+left-all ts name n e = record {
+  ordered = omega arith;
+  inside = omega arith;
+  front = λ k l. absurd (not-suc-le-zero l);
+  back = λ k l m. absurd (omega arith);
+}
+
+pub left-none : {ts : List Text} {name : Text} {low high : ℕ} → Left ts name low high → high ≤ low → none ≡ placeFrom 0 ts name
+left-none {ts} {name} {low} {high} left h = sym (place-none 0 ts name (λ k l. by k l (ltb k low) refl))
+  where
+    by : (k : ℕ) → k < length ts → (x : Bool) → ltb k low ≡ x → equal (getD ts k []) name ≡ false
+    by k l true q = before-unequal (getD ts k []) name (left .front k (ltb-true k low q))
+    by k l false q = behind-unequal (getD ts k []) name (left .back k (omega (arith, ltb-false k low q)) l)
+
+-- a place among those left, in a list that ascends: the text there stands before the name, behind it, or is it
+pub record Halved (ts : List Text) (name : Text) (low high middle : ℕ) : Type 0 where
+  pub sorted : T (ascend ts)
+  pub left : Left ts name low high
+  pub from : low ≤ middle
+  pub to : middle < high
+
+module _ {ts : List Text} {name : Text} {low high middle : ℕ} (half : Halved ts name low high middle) where
+  inside : middle < length ts
+  inside = omega (arith, half .left .inside, half .to)
+
+  -- any two are in order
+  two : (i j : ℕ) → i < j → j < length ts → orderOf (getD ts i []) (getD ts j []) ≡ Before
+  two = ascend-order ts (half .sorted)
+
+  pub left-behind : orderOf (getD ts middle []) name ≡ Before → Left ts name (middle + 1) high
+  left-behind e = record {
+    ordered = omega (arith, half .to);
+    inside = half .left .inside;
+    front = λ k l. by k l (ltb k middle) refl;
+    back = half .left .back;
   }
+    where
+      by : (k : ℕ) → k < middle + 1 → (x : Bool) → ltb k middle ≡ x → orderOf (getD ts k []) name ≡ Before
+      by k l true q = before-trans (getD ts k []) (getD ts middle []) name (two k middle (ltb-true k middle q) inside) e
+      by k l false q =
+          let same : middle ≡ k = omega (arith, ltb-false k middle q) in
+          subst (λ (n : ℕ). orderOf (getD ts n []) name ≡ Before) same e
 
-  module _ (sorted : T (ascend ts)) (low high middle : ℕ) (left : Left ts name low high) (from : low ≤ middle) (to : middle < high) where
-    -- the text at the middle stands before the name, and so does every text in front of it
-    pub left-behind : orderOf (getD ts middle []) name ≡ Before → Left ts name (middle + 1) high
-    left-behind e = record { ordered = omega arith; inside = left .inside; front = λ k l. by k (k < middle) l; back = left .back }
+  pub left-front : orderOf (getD ts middle []) name ≡ Behind → Left ts name low middle
+  left-front e = record {
+    ordered = half .from;
+    inside = omega (arith, inside);
+    front = half .left .front;
+    back = λ k l m. by k l m (ltb middle k) refl;
+  }
+    where
+      turned : orderOf name (getD ts middle []) ≡ Before
+      turned = order-behind (getD ts middle []) name e
 
-    pub left-found : orderOf (getD ts middle []) name ≡ Same → some middle ≡ placeFrom 0 ts name
-    left-found e = ?
+      by : (k : ℕ) → middle ≤ k → k < length ts → (x : Bool) → ltb middle k ≡ x → orderOf name (getD ts k []) ≡ Before
+      by k l m true q = before-trans name (getD ts middle []) (getD ts k []) turned (two middle k (ltb-true middle k q) m)
+      by k l m false q =
+          let same : middle ≡ k = omega (arith, ltb-false middle k q) in
+          subst (λ (n : ℕ). orderOf name (getD ts n []) ≡ Before) same turned
 
-    pub left-none : high ≤ low → none ≡ placeFrom 0 ts name
-    left-none h = ?
+  pub left-found : orderOf (getD ts middle []) name ≡ Same → some middle ≡ placeFrom 0 ts name
+  left-found e =
+      let here : getD ts middle [] ≡ name = order-same (getD ts middle []) name e in
+      sym
+      (place-at 0 ts name middle inside (ap (λ (t : Text). equal t name) here ∙ equal-self name) (λ k l.
+        before-unequal (getD ts k []) name
+        (subst (λ (t : Text). orderOf (getD ts k []) t ≡ Before) here (two k middle l inside)))
+      ∙ ap some (zero-add middle))

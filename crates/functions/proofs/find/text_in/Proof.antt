@@ -1,9 +1,23 @@
+use native.Mathlib.Omega.{arith}
+use mathlib.Core.Path.{_≡_, sym, ap, _∙_}
+use denote.Ref.{now}
+use Rattle.functions.proofs.CutLaws.{TextPlaced, placed, cut-at}
 use borrow.Author.Needs.{needs}
 use Rattle.functions.proofs.find.text_in.Statement.{statement}
 use Rattle.functions.proofs.find.text_in.Tie as tie
 use Rattle.functions.proofs.find.text_in.Reads as reads
 use Rattle.functions.proofs.find.text_in.Lts as lts
 use Rattle.functions.proofs.find.wide.Reads as wide-reads
+
+-- where both ends are read: the text lies within the letters
+here : (c : tie.After-wide2) →
+    let at-start = c .before .before .before .before .before .before in
+    TextPlaced (now (at-start .args .letters)) (c .before .before .wide .result) (c .wide2 .result)
+here c =
+    let at-start = c .before .before .before .before .before .before in
+    rw (c .before .before .wide .ensures, c .wide2 .ensures)
+    (placed (now (at-start .args .letters)) (now (at-start .args .starts)) (at-start .args .place)
+    (at-start .pre .0) (at-start .pre .1))
 
 mul-wide : tie.Need-mul-wide
 mul-wide c = search needs
@@ -27,16 +41,16 @@ wide-requires-2 : tie.Need-wide-requires-2
 wide-requires-2 c κs = search needs
 
 sub-result : tie.Need-sub-result
-sub-result c = ?
+sub-result c = let text = here c in omega (arith, text .ordered)
 
 part-result-start : tie.Need-part-result-start
-part-result-start c = ?
+part-result-start c = let text = here c in omega (arith, text .ordered, text .inside)
 
 part-result-end : tie.Need-part-result-end
-part-result-end c = ?
+part-result-end c = let text = here c in omega (arith, text .ordered, text .inside)
 
 returns : tie.Need-returns
-returns c = ?
+returns c = let at-start = c .before .before .before .before .before .before .before in rw (c .before .before .before .wide .ensures, c .before .wide2 .ensures) (sym (cut-at (now (at-start .args .letters)) (now (at-start .args .starts)) (at-start .args .place) (at-start .pre .1)))
 
 pub text-in-spec : {M : Type 1} → statement M
 text-in-spec =
