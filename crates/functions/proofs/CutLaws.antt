@@ -1,7 +1,7 @@
 -- The texts that lie in one run of bytes: where each begins and ends, and which it is. Assumes nothing.
 use Prim.Native.Nat.{ℕ, zero, suc, _+_, _-_, _/_, _≤_, _<_}
 use mathlib.Core.Path.{_≡_, refl, sym, ap, _∙_}
-use mathlib.Core.Bool.{_&&_}
+use mathlib.Core.Bool.{Bool, _&&_}
 use mathlib.Core.List.{List, [], _∷_}
 use native.Mathlib.Nat.{not-suc-le-zero, le-of-suc-le-suc}
 use native.Mathlib.Numerals.{add-one}
@@ -42,16 +42,28 @@ module _ (end : ℕ) where
 
 -- ## isTable
 
-pub table-starts : (letters starts : List ℕ) → T (isTable letters starts) → T (ascendTo (length letters) starts)
-table-starts letters [] t = absurd t
-table-starts letters (a ∷ starts) t =
-    let ascends = ascendTo (length letters) (a ∷ starts) in
-    right-of (eqb a 0) ascends (left-of (eqb a 0 && ascends) (ascend (namesIn letters (a ∷ starts))) t)
+-- what a table of the form has
+pub record TableForm (letters starts : List ℕ) : Type 0 where
+  pub first : getD starts 0 0 ≡ 0
+  pub paired : length starts ≡ suc (countOf starts + countOf starts)
+  pub ascends : T (ascendTo (length letters) starts)
+  pub named : T (ascend (namesIn letters starts))
 
-pub table-names : (letters starts : List ℕ) → T (isTable letters starts) → T (ascend (namesIn letters starts))
-table-names letters [] t = absurd t
-table-names letters (a ∷ starts) t =
-    right-of (eqb a 0 && ascendTo (length letters) (a ∷ starts)) (ascend (namesIn letters (a ∷ starts))) t
+pub table-form : (letters starts : List ℕ) → T (isTable letters starts) → TableForm letters starts
+table-form letters [] t = absurd t
+table-form letters (a ∷ rest) t =
+    let starts : List ℕ = a ∷ rest in
+    let paired : Bool = eqb (length starts) (suc (countOf starts + countOf starts)) in
+    let ascends : Bool = ascendTo (length letters) starts in
+    let named : Bool = ascend (namesIn letters starts) in
+    let front = left-of (eqb a 0 && paired && ascends) named t in
+    let two = left-of (eqb a 0 && paired) ascends front in
+    record {
+      first = eqb→eq a 0 (left-of (eqb a 0) paired two);
+      paired = eqb→eq (length starts) (suc (countOf starts + countOf starts)) (right-of (eqb a 0) paired two);
+      ascends = right-of (eqb a 0 && paired) ascends front;
+      named = right-of (eqb a 0 && paired && ascends) named t;
+    }
 
 -- a text lies within the letters
 pub record TextPlaced (letters : List ℕ) (start end : ℕ) : Type 0 where
@@ -63,8 +75,8 @@ pub placed : (letters starts : List ℕ) (i : ℕ) → T (isTable letters starts
 placed letters starts i t h =
     rw (add-one i)
     (record {
-      ordered = ascendTo-next (length letters) starts i (table-starts letters starts t) (omega arith);
-      inside = ascendTo-inside (length letters) starts (suc i) (table-starts letters starts t) (omega arith);
+      ordered = ascendTo-next (length letters) starts i (table-form letters starts t .ascends) (omega arith);
+      inside = ascendTo-inside (length letters) starts (suc i) (table-form letters starts t .ascends) (omega arith);
     })
 
 -- ## cut

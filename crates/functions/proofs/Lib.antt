@@ -2,3 +2,5 @@ pub mod BeginsLaws
 pub mod CutLaws
 pub mod OrderLaws
 pub mod PlaceLaws
+pub mod SignatureLaws
+pub mod TableLaws

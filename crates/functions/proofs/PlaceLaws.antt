@@ -31,6 +31,64 @@ place-at i (t ∷ ts) name zero l e h = rw e (ap some (omega arith))
 place-at i (t ∷ ts) name (suc n) l e h =
     rw (h 0 (omega arith)) (place-at (suc i) ts name n (le-of-suc-le-suc l) e (λ k m. h (suc k) (omega arith)) ∙ ap some (omega arith))
 
+-- a place that is found: the name stands there, and not before
+pub record FoundAt (ts : List Text) (name : Text) (i : ℕ) : Type 0 where
+  pub inside : i < length ts
+  pub named : equal (getD ts i []) name ≡ true
+  pub first : (k : ℕ) → k < i → equal (getD ts k []) name ≡ false
+
+-- counted from i
+record FoundFrom (i : ℕ) (ts : List Text) (name : Text) (n : ℕ) : Type 0 where
+  at : ℕ
+  counted : n ≡ i + at
+  found : FoundAt ts name at
+
+found-from : (i : ℕ) (ts : List Text) (name : Text) (n : ℕ) → placeFrom i ts name ≡ some n → FoundFrom i ts name n
+found-from i [] name n e = let z : _≡_ {A = ℕ} 0 1 = cc in absurd (omega arith)
+found-from i (t ∷ ts) name n e = by (found-from (suc i) ts name n) (equal t name) refl e
+  where
+    by : (placeFrom (suc i) ts name ≡ some n → FoundFrom (suc i) ts name n) → (x : Bool) → equal t name ≡ x
+        → pick x (some i) (placeFrom (suc i) ts name) ≡ some n → FoundFrom i (t ∷ ts) name n
+    by more true q e = record {
+      at = 0;
+      counted = let same : i ≡ n = cc in omega arith;
+      found = record { inside = omega arith; named = q; first = λ k l. absurd (not-suc-le-zero l) };
+    }
+    by more false q e =
+        let rest = more e in
+        record {
+          at = suc (rest .at);
+          counted = omega (arith, rest .counted);
+          found = record {
+            inside = omega (arith, rest .found .inside);
+            named = rest .found .named;
+            first = λ k l. before k l (rest .found .first);
+          };
+        }
+      where
+        before : {m : ℕ} (k : ℕ) → k < suc m → ((k : ℕ) → k < m → equal (getD ts k []) name ≡ false)
+            → equal (getD (t ∷ ts) k []) name ≡ false
+        before zero l h = q
+        before (suc k) l h = h k (le-of-suc-le-suc l)
+
+pub place-found : (ts : List Text) (name : Text) (n : ℕ) → placeFrom 0 ts name ≡ some n → FoundAt ts name n
+place-found ts name n e =
+    let from = found-from 0 ts name n e in
+    let same : from .at ≡ n = omega (arith, from .counted) in
+    subst (FoundAt ts name) same (from .found)
+
+pub place-missing : (i : ℕ) (ts : List Text) (name : Text) → placeFrom i ts name ≡ none
+    → (k : ℕ) → k < length ts → equal (getD ts k []) name ≡ false
+place-missing i [] name e k l = absurd (not-suc-le-zero l)
+place-missing i (t ∷ ts) name e k l = by (place-missing (suc i) ts name) (equal t name) refl e k l
+  where
+    by : (placeFrom (suc i) ts name ≡ none → (k : ℕ) → k < length ts → equal (getD ts k []) name ≡ false)
+        → (x : Bool) → equal t name ≡ x → pick x (some i) (placeFrom (suc i) ts name) ≡ none
+        → (k : ℕ) → k < suc (length ts) → equal (getD (t ∷ ts) k []) name ≡ false
+    by more true q e k l = let z : _≡_ {A = ℕ} 0 1 = cc in absurd (omega arith)
+    by more false q e zero l = q
+    by more false q e (suc k) l = more e k (le-of-suc-le-suc l)
+
 -- ## By halves
 
 pub record Left (ts : List Text) (name : Text) (low high : ℕ) : Type 0 where

@@ -1,7 +1,7 @@
 -- The form of a table of functions as it lies in two arrays (document 02, No. 2: "the letters of all names lie in one run
 -- of bytes, with ascending starts, and names ascend"): so many names, then as many signatures, in one run of bytes, and
 -- where each begins; after the last stands the end. Any table of the form can be asked; document 02's No. 13 has two more.
-use Prim.Native.Nat.{ℕ, suc, _-_, _/_}
+use Prim.Native.Nat.{ℕ, suc, _+_, _-_, _/_}
 use mathlib.Core.Path.{_≡_}
 use mathlib.Core.Bool.{Bool, true, false, _&&_}
 use mathlib.Core.List.{List, [], _∷_, _++_, map}
@@ -37,9 +37,14 @@ abbrev startsAtZero : List ℕ → Bool
 startsAtZero [] = false
 startsAtZero (a ∷ starts) = eqb a 0
 
--- starts from 0 to the number of bytes, and names in order
+-- as many signatures as names, and the end
+abbrev isPaired : List ℕ → Bool
+isPaired starts = eqb (length starts) (suc (countOf starts + countOf starts))
+
+-- starts from 0 to the number of bytes, two texts for each function, and names in order
 abbrev pub isTable : List ℕ → List ℕ → Bool
-isTable letters starts = startsAtZero starts && ascendTo (length letters) starts && ascend (namesIn letters starts)
+isTable letters starts =
+    startsAtZero starts && isPaired starts && ascendTo (length letters) starts && ascend (namesIn letters starts)
 
 -- the place of a name, counted from i
 abbrev pub placeFrom : ℕ → List Text → Text → Option ℕ

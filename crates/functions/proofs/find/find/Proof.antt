@@ -10,7 +10,7 @@ use Prim.Native.Nat.{_-_}
 use native.Mathlib.Omega.{arith}
 use denote.Ref.{now}
 use Rattle.functions.specs.Table.{namesIn, placeOf}
-use Rattle.functions.proofs.CutLaws.{length-namesIn, table-names, namesIn-at}
+use Rattle.functions.proofs.CutLaws.{length-namesIn, table-form, namesIn-at}
 use Rattle.functions.proofs.PlaceLaws.{Left, left-all, left-none, left-behind, left-front, left-found}
 use borrow.Author.Needs.{needs}
 use Rattle.functions.proofs.find.find.Statement.{statement}
@@ -38,7 +38,7 @@ half : (c : tie.In-loop Inv-loop μ-loop) →
 half c =
     let at-start = c .before .before .before .before .before in
     record {
-      sorted = table-names (now (at-start .args .letters)) (now (at-start .args .starts)) (at-start .pre);
+      sorted = table-form (now (at-start .args .letters)) (now (at-start .args .starts)) (at-start .pre) .named;
       left = c .before .loop .inv;
       from = omega arith;
       to = omega (arith, c .loop-test .taken);
