@@ -1,6 +1,12 @@
 // The function table of the repository (function.rs, `FUNCTIONS`) as it lies in two arrays: the names in ascending order,
 // then their signatures as they stand in a call, and where each of these texts begins; after the last stands the end. An
 // array is built anew at each use: lend it to the functions that ask it.
+use crate::find::Found;
+use crate::find::find;
+ghost use mathlib.Core.Path.{_≡_};
+ghost use Rattle.functions.specs.Table.{names, placeFrom};
+ghost use Rattle.functions.specs.Functions.{functions};
+ghost use Rattle.functions.specs.Answers.{placeMeant};
 
 pub const LETTERS: [u8; 1222] = *b"\
     absabsentabsent_over_timeacosacoshasinasinhatanatanhavg_over_timeceilchangesclampclamp_maxclamp_mincoscosh\
@@ -213,3 +219,10 @@ pub const STARTS: [u16; 183] = [
     1217,
     1222,
 ];
+
+// The place of a function in the table.
+pub fn find_function(name: &[u8]) -> Found
+    ensures { λ r. ⌜ placeMeant r ≡ placeFrom 0 (names functions) (now (name .entry)) ⌝ }
+{
+    find(&LETTERS, &STARTS, name)
+}
