@@ -1,7 +1,7 @@
 -- The texts that lie in one run of bytes: where each begins and ends, and which it is. Assumes nothing.
 use Prim.Native.Nat.{ℕ, zero, suc, _+_, _-_, _/_, _≤_, _<_}
 use mathlib.Core.Path.{_≡_, refl, sym, ap, _∙_}
-use mathlib.Core.Bool.{Bool, _&&_}
+use mathlib.Core.Bool.{Bool, true, false, _&&_}
 use mathlib.Core.List.{List, [], _∷_}
 use native.Mathlib.Nat.{not-suc-le-zero, le-of-suc-le-suc}
 use native.Mathlib.Numerals.{add-one}
@@ -9,6 +9,7 @@ use native.Mathlib.Omega.{arith}
 use lib.ListN.{length, getD, take, drop}
 use lib.Seq.{length-take-le, getD-take}
 use lib.Dec.{T, ltb, eqb, ltb→lt, eqb→eq}
+use borrow.Author.Tests.{ltb-true, ltb-false}
 use Rattle.page.specs.Text.{Text}
 use Rattle.page.proofs.NumberLaws.{left-of, right-of}
 use Rattle.functions.specs.Order.{ascend}
@@ -17,28 +18,29 @@ use Rattle.functions.specs.Table.{cut, ascendTo, countOf, namesIn, isTab
 -- ## ascendTo
 
 module _ (end : ℕ) where
-  ascendTo-next : (starts : List ℕ) (i : ℕ) → T (ascendTo end starts) → suc i < length starts
-      → getD starts i 0 < getD starts (suc i) 0
-  ascendTo-next [] i t h = absurd (not-suc-le-zero h)
-  ascendTo-next (a ∷ []) i t h = absurd (not-suc-le-zero (le-of-suc-le-suc h))
-  ascendTo-next (a ∷ b ∷ starts) zero t h = ltb→lt a b (left-of (ltb a b) (ascendTo end (b ∷ starts)) t)
-  ascendTo-next (a ∷ b ∷ starts) (suc i) t h =
-      ascendTo-next (b ∷ starts) i (right-of (ltb a b) (ascendTo end (b ∷ starts)) t) (le-of-suc-le-suc h)
-
-  pub ascendTo-last : (a : ℕ) (starts : List ℕ) → T (ascendTo end (a ∷ starts)) → getD (a ∷ starts) (length starts) 0 ≡ end
-  ascendTo-last a [] t = eqb→eq a end t
-  ascendTo-last a (b ∷ starts) t = ascendTo-last b starts (right-of (ltb a b) (ascendTo end (b ∷ starts)) t)
-
-  ascendTo-inside : (starts : List ℕ) (i : ℕ) → T (ascendTo end starts) → i < length starts → getD starts i 0 ≤ end
-  ascendTo-inside [] i t h = absurd t
-  ascendTo-inside (a ∷ []) zero t h = omega (arith, eqb→eq a end t)
-  ascendTo-inside (a ∷ []) (suc i) t h = absurd (not-suc-le-zero (le-of-suc-le-suc h))
-  ascendTo-inside (a ∷ b ∷ starts) zero t h =
+  -- any two starts
+  ascendTo-order : (starts : List ℕ) → T (ascendTo end starts) → (i j : ℕ) → i < j → j < length starts
+      → getD starts i 0 < getD starts j 0
+  ascendTo-order [] t i j h l = absurd t
+  ascendTo-order (a ∷ starts) t i zero h l = absurd (not-suc-le-zero h)
+  ascendTo-order (a ∷ []) t i (suc j) h l = absurd (not-suc-le-zero (le-of-suc-le-suc l))
+  ascendTo-order (a ∷ b ∷ starts) t zero (suc zero) h l = ltb→lt a b (left-of (ltb a b) (ascendTo end (b ∷ starts)) t)
+  ascendTo-order (a ∷ b ∷ starts) t zero (suc (suc j)) h l =
       let rest = right-of (ltb a b) (ascendTo end (b ∷ starts)) t in
       omega
-      (arith, ltb→lt a b (left-of (ltb a b) (ascendTo end (b ∷ starts)) t), ascendTo-inside (b ∷ starts) 0 rest (omega arith))
-  ascendTo-inside (a ∷ b ∷ starts) (suc i) t h =
-      ascendTo-inside (b ∷ starts) i (right-of (ltb a b) (ascendTo end (b ∷ starts)) t) (le-of-suc-le-suc h)
+      (arith, ltb→lt a b (left-of (ltb a b) (ascendTo end (b ∷ starts)) t),
+        ascendTo-order (b ∷ starts) rest 0 (suc j) (omega arith) (le-of-suc-le-suc l))
+  ascendTo-order (a ∷ b ∷ starts) t (suc i) (suc j) h l =
+      ascendTo-order (b ∷ starts) (right-of (ltb a b) (ascendTo end (b ∷ starts)) t) i j (le-of-suc-le-suc h)
+      (le-of-suc-le-suc l)
+
+  at-end : (a : ℕ) (starts : List ℕ) → T (ascendTo end (a ∷ starts)) → getD (a ∷ starts) (length starts) 0 ≡ end
+  at-end a [] t = eqb→eq a end t
+  at-end a (b ∷ starts) t = at-end b starts (right-of (ltb a b) (ascendTo end (b ∷ starts)) t)
+
+  ascendTo-last : (starts : List ℕ) → T (ascendTo end starts) → getD starts (length starts - 1) 0 ≡ end
+  ascendTo-last [] t = absurd t
+  ascendTo-last (a ∷ starts) t = let last : length (a ∷ starts) - 1 ≡ length starts = omega arith in rw last (at-end a starts t)
 
 -- ## isTable
 
@@ -65,6 +67,17 @@ table-form letters (a ∷ rest) t =
       named = right-of (eqb a 0 && paired && ascends) named t;
     }
 
+module _ (letters starts : List ℕ) (table : T (isTable letters starts)) where
+  -- any two starts ascend, from 0 to the number of bytes
+  pub starts-first : getD starts 0 0 ≡ 0
+  starts-first = table-form letters starts table .first
+
+  pub starts-ascend : (i j : ℕ) → i < j → j < length starts → getD starts i 0 < getD starts j 0
+  starts-ascend = ascendTo-order (length letters) starts (table-form letters starts table .ascends)
+
+  pub starts-last : getD starts (length starts - 1) 0 ≡ length letters
+  starts-last = ascendTo-last (length letters) starts (table-form letters starts table .ascends)
+
 -- a text lies within the letters
 pub record TextPlaced (letters : List ℕ) (start end : ℕ) : Type 0 where
   pub ordered : start < end
@@ -72,12 +85,19 @@ pub record TextPlaced (letters : List ℕ) (start end : ℕ) : Type 0 where
 
 pub placed : (letters starts : List ℕ) (i : ℕ) → T (isTable letters starts) → i < length starts - 1
     → TextPlaced letters (getD starts i 0) (getD starts (i + 1) 0)
-placed letters starts i t h =
-    rw (add-one i)
-    (record {
-      ordered = ascendTo-next (length letters) starts i (table-form letters starts t .ascends) (omega arith);
-      inside = ascendTo-inside (length letters) starts (suc i) (table-form letters starts t .ascends) (omega arith);
-    })
+placed letters starts i t h = record {
+  ordered = starts-ascend letters starts t i (i + 1) (omega arith) (omega arith);
+  inside = by (ltb (i + 1) (length starts - 1)) refl;
+}
+  where
+    by : (x : Bool) → ltb (i + 1) (length starts - 1) ≡ x → getD starts (i + 1) 0 ≤ length letters
+    by true q =
+        omega
+        (arith, starts-ascend letters starts t (i + 1) (length starts - 1) (ltb-true (i + 1) (length starts - 1) q) (omega arith),
+          starts-last letters starts t)
+    by false q =
+        let last : i + 1 ≡ length starts - 1 = omega (arith, ltb-false (i + 1) (length starts - 1) q) in
+        omega (arith, ap (λ (k : ℕ). getD starts k 0) last, starts-last letters starts t)
 
 -- ## cut
 

@@ -162,6 +162,12 @@ before-unequal t u e = unequal t u (before-apart t u e)
 pub behind-unequal : (t u : Text) → orderOf u t ≡ Before → equal t u ≡ false
 behind-unequal t u e = unequal t u (λ s. before-apart u t e (sym s))
 
+pub unequal-apart : (t u : Text) → equal t u ≡ false → t ≡ u → ⊥
+unequal-apart t u q s =
+    let both : true ≡ false = sym (equal-self u) ∙ ap (λ (x : Text). equal x u) (sym s) ∙ q in
+    let z : _≡_ {A = ℕ} 0 1 = cc in
+    absurd (omega arith)
+
 -- ## isBefore
 
 pub before-order : (t u : Text) → T (isBefore t u) → orderOf t u ≡ Before
@@ -177,6 +183,9 @@ before-order t u h = by (orderOf t u) refl h
     by Same q h = absurd h
     by Behind q h = absurd h
 
+pub order-before : (t u : Text) → orderOf t u ≡ Before → T (isBefore t u)
+order-before t u e = rw e tt
+
 -- ## ascend
 
 -- any two texts of the list are in order
@@ -191,3 +200,15 @@ ascend-order (t ∷ u ∷ ts) h zero (suc zero) l m = before-order t u (left-of 
 ascend-order (t ∷ u ∷ ts) h zero (suc (suc j)) l m =
     before-trans t u (getD ts j []) (before-order t u (left-of (isBefore t u) (ascend (u ∷ ts)) h))
     (ascend-order (u ∷ ts) (right-of (isBefore t u) (ascend (u ∷ ts)) h) 0 (suc j) (omega arith) (le-of-suc-le-suc m))
+
+-- no text stands twice
+pub ascend-once : (ts : List Text) → T (ascend ts) → (i j : ℕ) → i < length ts → j < length ts
+    → getD ts i [] ≡ getD ts j [] → i ≡ j
+ascend-once ts h i j l m e = by (ltb i j) refl (ltb j i) refl
+  where
+    by : (x : Bool) → ltb i j ≡ x → (y : Bool) → ltb j i ≡ y → i ≡ j
+    by true q y p =
+        absurd (before-apart (getD ts i []) (getD ts j []) (ascend-order ts h i j (ltb-true i j q) m) e)
+    by false q true p =
+        absurd (before-apart (getD ts j []) (getD ts i []) (ascend-order ts h j i (ltb-true j i p) l) (sym e))
+    by false q false p = omega (arith, ltb-false i j q, ltb-false j i p)

@@ -13,10 +13,11 @@ use lib.Dec.{T}
 use Rattle.page.specs.Bytes.{pick, equal}
 use Rattle.page.specs.Text.{Text}
 use Rattle.records.specs.Signature.{Function, writeSignature}
+use Rattle.functions.specs.Order.{isBefore, ascend}
 use Rattle.functions.specs.Table.{cut, countOf, namesIn, placeFrom, placeOf, names, Formed}
 use Rattle.functions.specs.Lookup.{lookup, equalSignature, unlike}
 use Rattle.functions.specs.Answers.{beginsWith}
-use Rattle.functions.proofs.OrderLaws.{equal-texts}
+use Rattle.functions.proofs.OrderLaws.{equal-texts, unequal-apart, order-before, ascend-order, ascend-once}
 use Rattle.functions.proofs.CutLaws.{table-form, length-cut, length-namesIn}
 use Rattle.functions.proofs.PlaceLaws.{FoundAt, place-found, place-missing}
 use Rattle.functions.proofs.SignatureLaws.{begins-signature}
@@ -64,6 +65,11 @@ row-inside : (table : List Function) (i : ℕ) → i < length table → Row tabl
 row-inside [] i h = absurd (not-suc-le-zero h)
 row-inside (f ∷ table) zero h = record { row = f; is-row = refl }
 row-inside (f ∷ table) (suc i) h = let more = row-inside table i (le-of-suc-le-suc h) in record { row = more .row; is-row = more .is-row }
+
+row-below : (table : List Function) (i : ℕ) {f : Function} → rowAt table i ≡ some f → i < length table
+row-below [] i e = let z : _≡_ {A = ℕ} 0 1 = cc in absurd (omega arith)
+row-below (g ∷ table) zero e = omega arith
+row-below (g ∷ table) (suc i) e = omega (arith, row-below table i e)
 
 -- ## lookup
 
@@ -113,6 +119,40 @@ place-row table name i e =
 pub place-unknown : (table : List Function) (name : Text) → placeFrom 0 (names table) name ≡ none → lookup table name ≡ none
 place-unknown table name e = lookup-none table name (place-missing 0 (names table) name e)
 
+-- ## Any table of the form
+
+module _ {letters starts : List ℕ} {table : List Function} (formed : Formed letters starts table) where
+  names-ascend : T (ascend (names table))
+  names-ascend = subst (λ (ts : List Text). T (ascend ts)) (formed-names formed) (table-form letters starts (formed .is-table) .named)
+
+  -- any two names are in order
+  pub formed-order : (i j : ℕ) → i < j → j < length table → T (isBefore (getD (names table) i []) (getD (names table) j []))
+  formed-order i j h l =
+      order-before (getD (names table) i []) (getD (names table) j [])
+      (ascend-order (names table) names-ascend i j h (omega (arith, length-map table (λ f. f .name))))
+
+  -- no name stands twice
+  pub formed-once : (i j : ℕ) → i < length table → j < length table → getD (names table) i [] ≡ getD (names table) j [] → i ≡ j
+  formed-once i j h l =
+      ascend-once (names table) names-ascend i j (omega (arith, length-map table (λ f. f .name)))
+      (omega (arith, length-map table (λ f. f .name)))
+
+  -- a place that is found has that name, and its row is the function of the name
+  pub formed-found : (name : Text) (i : ℕ) → placeOf letters starts name ≡ some i → Stands table name i
+  formed-found name i e = place-row table name i (sym (formed-place formed name) ∙ e)
+
+  -- where none is found, there is no function of the name, and no row has it
+  pub formed-unknown : (name : Text) → placeOf letters starts name ≡ none → lookup table name ≡ none
+  formed-unknown name e = place-unknown table name (sym (formed-place formed name) ∙ e)
+
+  pub formed-missing : (name : Text) → placeOf letters starts name ≡ none → (i : ℕ) {f : Function} → rowAt table i ≡ some f
+      → f .name ≡ name → ⊥
+  formed-missing name e i {f} is same =
+      unequal-apart (getD (names table) i []) name
+      (place-missing 0 (names table) name (sym (formed-place formed name) ∙ e) i
+      (omega (arith, row-below table i is, length-map table (λ f. f .name))))
+      (row-map (λ f. f .name) table i is ∙ same)
+
 -- ## A signature beside a table's
 
 module _ {letters starts : List ℕ} {table : List Function} (formed : Formed letters starts table) where
@@ -127,14 +167,14 @@ module _ {letters starts : List ℕ} {table : List Function} (formed : Formed le
   -- the fault of a call beside the table
   module _ (f : Function) where
     pub compare-unknown : none ≡ placeOf letters starts (f .name) → some 37 ≡ unlike f (lookup table (f .name))
-    compare-unknown e = rw (place-unknown table (f .name) (sym (formed-place formed (f .name)) ∙ sym e))
+    compare-unknown e = rw (formed-unknown formed (f .name) (sym e))
 
     pub compare-found : (i : ℕ) → some i ≡ placeOf letters starts (f .name)
         → (bytes rest : List ℕ) → bytes ≡ writeSignature f ++ rest
         → (b : Bool) → beginsWith (getD (cut letters starts) (countOf starts + i) []) bytes ≡ b
         → pick b none (some 38) ≡ unlike f (lookup table (f .name))
     compare-found i e bytes rest s b q =
-        let stands = place-row table (f .name) i (sym (formed-place formed (f .name)) ∙ sym e) in
+        let stands = formed-found formed (f .name) i (sym e) in
         let like : equalSignature f (stands .row) ≡ b
             = sym (begins-signature f (stands .row) bytes rest s)
             ∙ ap (λ (t : Text). beginsWith t bytes) (sym (formed-signature i (stands .is-row))) ∙ q in
