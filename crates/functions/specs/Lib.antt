@@ -4,3 +4,4 @@ pub mod Functions
 pub mod Lookup
 pub mod Answers
 pub mod TableContract
+pub mod TableExamples
