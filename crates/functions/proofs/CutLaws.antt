@@ -27,9 +27,11 @@ module _ (end : ℕ) where
   ascendTo-order (a ∷ b ∷ starts) t zero (suc zero) h l = ltb→lt a b (left-of (ltb a b) (ascendTo end (b ∷ starts)) t)
   ascendTo-order (a ∷ b ∷ starts) t zero (suc (suc j)) h l =
       let rest = right-of (ltb a b) (ascendTo end (b ∷ starts)) t in
-      omega
-      (arith, ltb→lt a b (left-of (ltb a b) (ascendTo end (b ∷ starts)) t),
-        ascendTo-order (b ∷ starts) rest 0 (suc j) (omega arith) (le-of-suc-le-suc l))
+      omega (
+        arith,
+        ltb→lt a b (left-of (ltb a b) (ascendTo end (b ∷ starts)) t),
+        ascendTo-order (b ∷ starts) rest 0 (suc j) (omega arith) (le-of-suc-le-suc l),
+      )
   ascendTo-order (a ∷ b ∷ starts) t (suc i) (suc j) h l =
       ascendTo-order (b ∷ starts) (right-of (ltb a b) (ascendTo end (b ∷ starts)) t) i j (le-of-suc-le-suc h)
       (le-of-suc-le-suc l)
@@ -92,9 +94,11 @@ placed letters starts i t h = record {
   where
     by : (x : Bool) → ltb (i + 1) (length starts - 1) ≡ x → getD starts (i + 1) 0 ≤ length letters
     by true q =
-        omega
-        (arith, starts-ascend letters starts t (i + 1) (length starts - 1) (ltb-true (i + 1) (length starts - 1) q) (omega arith),
-          starts-last letters starts t)
+        omega (
+          arith,
+          starts-ascend letters starts t (i + 1) (length starts - 1) (ltb-true (i + 1) (length starts - 1) q) (omega arith),
+          starts-last letters starts t,
+        )
     by false q =
         let last : i + 1 ≡ length starts - 1 = omega (arith, ltb-false (i + 1) (length starts - 1) q) in
         omega (arith, ap (λ (k : ℕ). getD starts k 0) last, starts-last letters starts t)

@@ -163,6 +163,6 @@ module _ {ts : List Text} {name : Text} {low high middle : ℕ} (half : Halved t
       let here : getD ts middle [] ≡ name = order-same (getD ts middle []) name e in
       sym
       (place-at 0 ts name middle inside (ap (λ (t : Text). equal t name) here ∙ equal-self name) (λ k l.
-        before-unequal (getD ts k []) name
-        (subst (λ (t : Text). orderOf (getD ts k []) t ≡ Before) here (two k middle l inside)))
+      before-unequal (getD ts k []) name
+      (subst (λ (t : Text). orderOf (getD ts k []) t ≡ Before) here (two k middle l inside)))
       ∙ ap some (zero-add middle))

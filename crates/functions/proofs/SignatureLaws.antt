@@ -15,13 +15,10 @@ use Rattle.page.specs.Bytes.{equal}
 use Rattle.page.specs.Read.{got}
 use Rattle.page.specs.Number.{readGroups, writeNumber}
 use Rattle.page.specs.Text.{Text, writeAll, writeList}
-use Rattle.page.specs.Answers.{spanOn}
 use Rattle.page.proofs.NumberLaws.{left-of, right-of, read-written, known-bytes, Written}
 use Rattle.records.specs.Kind.{Kind, vector, scalar, matrix, string, kindNumber, equalKind}
 use Rattle.records.specs.Field.{writeKind}
-use Rattle.records.specs.Signature.{Variadic, fixed, unlimited, upTo, Function, writeVariadic, writeSignature}
-use Rattle.records.specs.SignatureAnswers.{functionOn, FunctionLies}
-use Rattle.records.specs.declared.signature.Function as answer
+use Rattle.records.specs.Signature.{Variadic, fixed, unlimited, upTo, Function, writeVariadic, readSignature, writeSignature}
 use Rattle.records.proofs.PartLaws.{signature-law}
 use Rattle.functions.specs.Answers.{beginsWith}
 use Rattle.functions.specs.Lookup.{extraNumber, equalSignature}
@@ -89,9 +86,14 @@ equalSignature-same f g h =
 
 pub same-equalSignature : (f g : Function) → SameSignature f g → equalSignature f g ≡ true
 same-equalSignature f g s =
-    rw (s .kinds, s .extra, s .result, equal-self (map kindNumber (g .argTypes)),
+    rw (
+      s .kinds,
+      s .extra,
+      s .result,
+      equal-self (map kindNumber (g .argTypes)),
       eq-eqb (extraNumber (g .variadic)) (extraNumber (g .variadic)) refl,
-      eq-eqb (kindNumber (g .returnType)) (kindNumber (g .returnType)) refl)
+      eq-eqb (kindNumber (g .returnType)) (kindNumber (g .returnType)) refl,
+    )
 
 -- ## writeSignature
 
@@ -120,7 +122,7 @@ kinds-end (j ∷ js) (k ∷ ks) x y l e =
 list-ends : Ends (writeList writeKind)
 list-ends js ks x y e =
     let numbered = sym (append-assoc (writeNumber (length js)) (writeAll writeKind js) x) ∙ e
-        ∙ append-assoc (writeNumber (length ks)) (writeAll writeKind ks) y in
+    ∙ append-assoc (writeNumber (length ks)) (writeAll writeKind ks) y in
     let count = number-ends (length js) (length ks) (writeAll writeKind js ++ x) (writeAll writeKind ks ++ y) numbered in
     kinds-end js ks x y (count .0) (count .1)
 
@@ -168,10 +170,9 @@ begins-signature f g bytes rest e = by (equalSignature f g) refl (beginsWith (wr
         p ∙ sym (same-equalSignature f g (signature-ends f g rest _ (sym e ∙ sym split)))
     by false q false p = p ∙ sym q
 
--- what follows the name of a function on a page is its signature, byte for byte
-pub lies-written : (page : List ℕ) (f : answer.Function) → ((i : ℕ) → Fits w8 (getD page i 0)) → (lies : FunctionLies page f)
-    → drop (f .name .end) page ≡ writeSignature (functionOn page f) ++ lies .rest
-lies-written page f fits lies =
-    let behind : List ℕ = drop (f .name .end) page in
-    let bytes = known-bytes behind (λ i. rw (getD-drop (f .name .end) page i 0) (fits (f .name .end + i))) in
-    subst (Written writeSignature behind) (sym (lies .signed)) (signature-law (spanOn page (f .name)) behind bytes)
+-- what is read behind a name is the signature, byte for byte
+pub signed-written : (page : List ℕ) (end : ℕ) (name : Text) → ((i : ℕ) → Fits w8 (getD page i 0)) → (f : Function) (rest : List ℕ)
+    → got f rest ≡ readSignature name (drop end page) → drop end page ≡ writeSignature f ++ rest
+signed-written page end name fits f rest e =
+    let bytes = known-bytes (drop end page) (λ i. rw (getD-drop end page i 0) (fits (end + i))) in
+    subst (Written writeSignature (drop end page)) (sym e) (signature-law name (drop end page) bytes)

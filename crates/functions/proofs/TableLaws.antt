@@ -176,8 +176,8 @@ module _ {letters starts : List ℕ} {table : List Function} (formed : Formed le
     compare-found i e bytes rest s b q =
         let stands = formed-found formed (f .name) i (sym e) in
         let like : equalSignature f (stands .row) ≡ b
-            = sym (begins-signature f (stands .row) bytes rest s)
-            ∙ ap (λ (t : Text). beginsWith t bytes) (sym (formed-signature i (stands .is-row))) ∙ q in
+        = sym (begins-signature f (stands .row) bytes rest s)
+        ∙ ap (λ (t : Text). beginsWith t bytes) (sym (formed-signature i (stands .is-row))) ∙ q in
         rw (stands .is-found, like)
 
 -- a place that is found is one of the names'

@@ -5,7 +5,11 @@ use mathlib.Core.List.{List, [], _∷_}
 use mathlib.Core.Option.{Option, none, some}
 use mathlib.Core.Path.{_≡_}
 use lib.Dec.{eqb}
-use Rattle.records.specs.Signature.{Function}
+use lib.ListN.{drop}
+use Rattle.page.specs.Read.{got}
+use Rattle.page.specs.Answers.{spanOn}
+use Rattle.page.specs.declared.text.Span.{Span}
+use Rattle.records.specs.Signature.{Function, readSignature}
 use Rattle.functions.specs.Table.{Formed}
 use Rattle.functions.specs.Lookup.{lookup, unlike}
 use Rattle.functions.specs.declared.find.Found.{Found}
@@ -30,6 +34,9 @@ beginsWith [] bytes = true
 beginsWith (a ∷ text) [] = false
 beginsWith (a ∷ text) (b ∷ bytes) = eqb a b && beginsWith text bytes
 
--- of any table that lies in the arrays: the fault of a call beside it
-abbrev pub Compares : List ℕ → List ℕ → Function → Carried → Type 0
-Compares letters starts f r = (table : List Function) → Formed letters starts table → faultMeant r ≡ unlike f (lookup table (f .name))
+-- of any table that lies in the arrays, and of any function whose name this part of the page is and whose signature
+-- stands behind it: its fault beside the table
+abbrev pub Compares : List ℕ → Span → List ℕ → List ℕ → Carried → Type 0
+Compares page name letters starts r =
+    (table : List Function) → Formed letters starts table → (f : Function) (rest : List ℕ) → f .name ≡ spanOn page name
+    → got f rest ≡ readSignature (f .name) (drop (name .end) page) → faultMeant r ≡ unlike f (lookup table (f .name))

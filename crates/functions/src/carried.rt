@@ -3,14 +3,14 @@
 use crate::find::Found;
 use crate::find::find;
 use crate::find::text_in;
+use page::Span;
 use page::same_text;
 use page::text_at;
-use records::Function;
 ghost use mathlib.Core.Path.{_≡_};
 ghost use lib.Dec.{T};
 ghost use Prim.Native.Nat.{_≤_};
 ghost use lib.ListN.{length, drop};
-ghost use Rattle.records.specs.SignatureAnswers.{functionOn, FunctionLies};
+ghost use Rattle.page.specs.Answers.{Lies};
 ghost use Rattle.functions.specs.Table.{isTable};
 ghost use Rattle.functions.specs.Answers.{beginsWith, Compares};
 
@@ -32,13 +32,12 @@ fn begins_at(page: &[u8], at: usize, text: &[u8]) -> bool
     same_text(text, &page[at..at + size])
 }
 
-// The name and the signature of a call, beside those of the table that lies in the arrays.
-pub fn compare_signature(page: &[u8], function: Function, letters: &[u8], starts: &[u16]) -> Carried
-    requires lies { ⌜ FunctionLies (now page) function ⌝ }
+// The name of a call, and the signature that stands behind it, beside those of the table that lies in the arrays.
+pub fn compare_signature(page: &[u8], name: Span, letters: &[u8], starts: &[u16]) -> Carried
+    requires lies { ⌜ Lies (now page) name ⌝ }
     requires table { ⌜ T (isTable (now letters) (now starts)) ⌝ }
-    ensures { λ r. ⌜ Compares (now (letters .entry)) (now (starts .entry)) (functionOn (now (page .entry)) function) r ⌝ }
+    ensures { λ r. ⌜ Compares (now (page .entry)) name (now (letters .entry)) (now (starts .entry)) r ⌝ }
 {
-    let name = function.name;
     let end = name.end;
     match find(letters, starts, text_at(page, name)) {
         Found::At(place) => {

@@ -1,3 +1,5 @@
+-- `functions::carried::compare_signature` meets its contract: the name is found, and what stands behind it begins with the
+-- signature of its place, or not. Assumes nothing.
 use Prim.Native.Nat.{ℕ, _<_}
 use native.Mathlib.Omega.{arith}
 use mathlib.Core.Path.{_≡_, sym, ap, _∙_}
@@ -5,15 +7,16 @@ use mathlib.Core.Bool.{Bool}
 use mathlib.Core.List.{List}
 use mathlib.Core.Option.{none, some}
 use denote.Ref.{now}
+use lib.ListN.{drop}
 use Rattle.page.specs.Bytes.{pick}
 use Rattle.page.specs.Answers.{spanOn}
-use Rattle.records.specs.Signature.{Function}
-use Rattle.records.specs.SignatureAnswers.{functionOn}
+use Rattle.page.specs.Read.{got}
+use Rattle.records.specs.Signature.{Function, readSignature}
 use Rattle.functions.specs.Table.{countOf, placeOf, Formed}
 use Rattle.functions.specs.Lookup.{lookup, unlike}
 use Rattle.functions.specs.Answers.{placeMeant}
 use Rattle.functions.proofs.CutLaws.{table-form}
-use Rattle.functions.proofs.SignatureLaws.{lies-written}
+use Rattle.functions.proofs.SignatureLaws.{signed-written}
 use Rattle.functions.proofs.TableLaws.{placeOf-inside, compare-unknown, compare-found}
 use borrow.Author.Needs.{needs}
 use Rattle.functions.proofs.carried.compare_signature.Statement.{statement}
@@ -27,35 +30,35 @@ use Rattle.page.proofs.text_at.Reads as text-at-reads
 
 -- the name stands at the place
 found : (c : tie.After-place) →
-    let at-start = c .before .before .before .before .before .before .before .before in
+    let at-start = c .before .before .before .before .before .before .before in
     some (c .place .given .0 .0)
     ≡ placeOf (now (at-start .args .letters)) (now (at-start .args .starts))
-    (spanOn (now (at-start .args .page)) (at-start .args .function .name))
+    (spanOn (now (at-start .args .page)) (at-start .args .name))
 found c =
     let at-find = c .before .before in
     sym (ap placeMeant (c .place .given .1)) ∙ rw (at-find .before .text-at .ensures) at (at-find .find .ensures)
 
 inside : (c : tie.After-place) →
-    let at-start = c .before .before .before .before .before .before .before .before in
+    let at-start = c .before .before .before .before .before .before .before in
     c .place .given .0 .0 < countOf (now (at-start .args .starts))
 inside c =
-    let at-start = c .before .before .before .before .before .before .before .before in
+    let at-start = c .before .before .before .before .before .before .before in
     placeOf-inside (now (at-start .args .letters)) (now (at-start .args .starts)) _ (c .place .given .0 .0) (found c)
 
 -- the bytes behind the name begin with the signature of that place
 compared : (c : tie.After-begins-at) (b : Bool) → c .begins-at .result ≡ b →
-    let at-start = c .before .before .before .before .before .before .before .before .before .before .before in
+    let at-start = c .before .before .before .before .before .before .before .before .before .before in
     (table : List Function) → Formed (now (at-start .args .letters)) (now (at-start .args .starts)) table →
-    let f = functionOn (now (at-start .args .page)) (at-start .args .function) in
+    (f : Function) (rest : List ℕ) → f .name ≡ spanOn (now (at-start .args .page)) (at-start .args .name) →
+    got f rest ≡ readSignature (f .name) (drop (at-start .args .name .end) (now (at-start .args .page))) →
     pick b none (some 38) ≡ unlike f (lookup table (f .name))
-compared c b e table formed =
+compared c b e table formed f rest named signed =
     let at-place = c .before .before .before in
-    let at-first-known = at-place .before .before .before .before .before .before .before in
+    let at-first-known = at-place .before .before .before .before .before .before in
     let at-start = at-first-known .before in
-    compare-found formed (functionOn (now (at-start .args .page)) (at-start .args .function))
-    (at-place .place .given .0 .0) (found at-place) _ _
-    (lies-written (now (at-start .args .page)) (at-start .args .function)
-    (at-first-known .shared-slice-known .given) (at-start .pre .0)) b
+    compare-found formed f (at-place .place .given .0 .0) (rw named (found at-place)) _ rest
+    (signed-written (now (at-start .args .page)) (at-start .args .name .end) (f .name)
+    (at-first-known .shared-slice-known .given) f rest signed) b
     (rw (← c .before .text-in .ensures) (sym (c .begins-at .ensures) ∙ e))
 
 text-at-requires : tie.Need-text-at-requires
@@ -71,7 +74,10 @@ add-text-in : tie.Need-add-text-in
 add-text-in c = omega (arith, inside (c .before))
 
 text-in-requires : tie.Need-text-in-requires
-text-in-requires c κs = (c .before .before .before .before .before .before .before .before .before .pre .1, omega (arith, inside (c .before), table-form (now (c .before .before .before .before .before .before .before .before .before .args .letters)) (now (c .before .before .before .before .before .before .before .before .before .args .starts)) (c .before .before .before .before .before .before .before .before .before .pre .1) .paired))
+text-in-requires c κs =
+    let at-start = c .before .before .before .before .before .before .before .before in
+    let form = table-form (now (at-start .args .letters)) (now (at-start .args .starts)) (at-start .pre .1) in
+    (at-start .pre .1, omega (arith, inside (c .before), form .paired))
 
 begins-at-requires : tie.Need-begins-at-requires
 begins-at-requires c κs = search needs
@@ -86,7 +92,9 @@ returns-2 : tie.Need-returns-2
 returns-2 c = compared (c .before) _ (c .if1 .left)
 
 returns-3 : tie.Need-returns-3
-returns-3 c = λ table formed. compare-unknown formed _ (sym (ap placeMeant (c .enum-told .given .1)) ∙ rw (c .before .before .before .text-at .ensures) at (c .before .before .find .ensures))
+returns-3 c = λ table formed f rest named signed.
+    compare-unknown formed f (rw named (sym (ap placeMeant (c .enum-told .given .1))
+    ∙ rw (c .before .before .before .text-at .ensures) at (c .before .before .find .ensures)))
 
 pub compare-signature-spec : {M : Type 1} → statement M
 compare-signature-spec =
