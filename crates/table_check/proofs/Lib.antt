@@ -1,0 +1,3 @@
+pub mod StandingLaws
+pub mod FaultLaws
+pub mod AskedLaws

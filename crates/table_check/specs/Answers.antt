@@ -25,20 +25,22 @@ FaultOf page at letters names r =
     → got item rest ≡ readRecord (drop at page) → findingMeant r ≡ signatureFault table item
 
 -- the first fault among so many records: none has one, or this is the first
-abbrev pub Finds : (List Function) → List ℕ → ℕ → FirstFault → Type 0
+abbrev pub Finds : List Function → List ℕ → ℕ → FirstFault → Type 0
 Finds table page count first.None = Each (λ r. signatureFault table r ≡ none) (take count (readPage page .records))
 Finds table page count (first.At r i) = FirstAsked (signatureFault table) (readPage page .records) count (refusalNumber r) i
 
 abbrev pub FindsFirst : List ℕ → ℕ → List ℕ → List ℕ → FirstFault → Type 0
 FindsFirst page count letters names r = (table : List Function) → Formed letters names table → Finds table page count r
 
--- the outcome: that of the first fault among so many records, else the one given
-abbrev pub FaultFirst : List ℕ → ℕ → List ℕ → List ℕ → Outcome → Outcome → Type 0
-FaultFirst page count letters names own outcome =
-    (table : List Function) → Formed letters names table
-    → ((n i : ℕ) → FirstAsked (signatureFault table) (readPage page .records) count n i → checkBy (withTable table) page ≡ refusal n i)
-    → (Each (λ r. signatureFault table r ≡ none) (take count (readPage page .records)) → checkBy (withTable table) page ≡ own)
-    → outcome ≡ checkBy (withTable table) page
+-- the outcome: that of the first fault, else the one given
+abbrev pub faultOr : FirstFault → Outcome → Outcome
+faultOr first.None own = own
+faultOr (first.At r i) own = refusal (refusalNumber r) i
+
+pub record FaultFirst (page : List ℕ) (count : ℕ) (letters names : List ℕ) (own outcome : Outcome) : Type 0 where
+  pub found : FirstFault
+  pub finds : FindsFirst page count letters names found
+  pub is : outcome ≡ faultOr found own
 
 -- the check with the table
 abbrev pub ChecksWith : List ℕ → List ℕ → List ℕ → Outcome → Type 0

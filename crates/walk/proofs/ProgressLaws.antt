@@ -37,7 +37,7 @@ pub record Progress (page : List ℕ) (at count : ℕ) (stack : List Expr) : Typ
   pub walked : stackAfter apply count (readPage page) ≡ ast.stack stack
   pub stands : drop at page ≡ fromRecord count page
 
-read-short : (page : List ℕ) → length page ≤ 8192 → readPage page ≡ readRecords 256 page
+pub read-short : (page : List ℕ) → length page ≤ 8192 → readPage page ≡ readRecords 256 page
 unfolding readPage
 read-short page h = rw (le-leb (length page) pageLimit h)
 

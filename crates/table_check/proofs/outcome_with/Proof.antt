@@ -1,0 +1,25 @@
+use borrow.Author.Needs.{needs}
+use Rattle.table_check.proofs.outcome_with.Statement.{statement}
+use Rattle.table_check.proofs.outcome_with.Tie as tie
+use Rattle.table_check.proofs.outcome_with.Reads as reads
+use Rattle.table_check.proofs.outcome_with.Lts as lts
+use Rattle.table_check.proofs.asked.first_fault.Reads as first-fault-reads
+
+first-fault-requires : tie.Need-first-fault-requires
+first-fault-requires c κs = search needs
+
+enum-told : tie.Need-enum-told
+enum-told c = search needs
+
+enum-known-refusal : tie.Need-enum-known-refusal
+enum-known-refusal c = search needs
+
+returns : tie.Need-returns
+returns c = ?
+
+returns-2 : tie.Need-returns-2
+returns-2 c = ?
+
+pub outcome-with-spec : {M : Type 1} → statement M
+outcome-with-spec =
+    tie.close (tie.spec first-fault-requires enum-told enum-known-refusal returns returns-2)
