@@ -1,6 +1,6 @@
 -- The texts that lie in one run of bytes: where each begins and ends, and which it is. Assumes nothing.
-use Prim.Native.Nat.{ℕ, zero, suc, _+_, _-_, _/_, _≤_, _<_}
-use mathlib.Core.Path.{_≡_, refl, sym, ap, _∙_}
+use Prim.Native.Nat.{ℕ, zero, suc, _+_, _-_, _≤_, _<_}
+use mathlib.Core.Path.{_≡_, refl, ap, _∙_}
 use mathlib.Core.Bool.{Bool, true, false, _&&_}
 use mathlib.Core.List.{List, [], _∷_}
 use native.Mathlib.Nat.{not-suc-le-zero, le-of-suc-le-suc}
@@ -10,7 +10,6 @@ use lib.ListN.{length, getD, take, drop}
 use lib.Seq.{length-take-le, getD-take}
 use lib.Dec.{T, ltb, eqb, ltb→lt, eqb→eq}
 use borrow.Author.Tests.{ltb-true, ltb-false}
-use Rattle.page.specs.Text.{Text}
 use Rattle.page.proofs.NumberLaws.{left-of, right-of}
 use Rattle.functions.specs.Order.{ascend}
 use Rattle.functions.specs.Table.{cut, ascendTo, countOf, namesIn, isTable}

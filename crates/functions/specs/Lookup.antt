@@ -9,7 +9,7 @@ use Rattle.page.specs.Bytes.{pick, equal}
 use Rattle.page.specs.Text.{Text}
 use Rattle.records.specs.Kind.{kindNumber, equalKind}
 use Rattle.records.specs.Signature.{Variadic, fixed, unlimited, upTo, Function}
-use Rattle.records.specs.Record.{Record, leaf, wrapper, binary, aggregate, call, Records, readPage}
+use Rattle.records.specs.Record.{Record, leaf, wrapper, binary, aggregate, call, Records}
 use Rattle.records.specs.Outcome.{Outcome}
 use Rattle.ast.specs.Rules.{Rules, checkBy}
 use Rattle.functions.specs.Functions.{functions}

@@ -1,3 +1,5 @@
+-- `functions::carried::begins_at` meets its contract: a page too short does not begin with the text, and in any other
+-- as many bytes as it has decide. Assumes nothing.
 use Prim.Native.Nat.{_+_, _-_}
 use native.Mathlib.Omega.{arith}
 use mathlib.Core.Path.{_≡_, _∙_}
@@ -7,15 +9,15 @@ use Rattle.functions.proofs.BeginsLaws.{begins-short, begins-equal}
 use borrow.Author.Needs.{needs}
 use Rattle.functions.proofs.carried.begins_at.Statement.{statement}
 use Rattle.functions.proofs.carried.begins_at.Tie as tie
-use Rattle.functions.proofs.carried.begins_at.Reads as reads
-use Rattle.functions.proofs.carried.begins_at.Lts as lts
-use Rattle.page.proofs.same_text.Reads as same-text-reads
 
 sub-if1 : tie.Need-sub-if1
 sub-if1 c = search needs
 
 returns : tie.Need-returns
-returns c = begins-short (now (c .before .before .before .args .text)) (drop (c .before .before .before .args .at) (now (c .before .before .before .args .page))) (omega (arith, length-drop (c .before .before .before .args .at) (now (c .before .before .before .args .page)), c .if1 .taken))
+returns c =
+    let at-start = c .before .before .before in
+    begins-short (now (at-start .args .text)) (drop (at-start .args .at) (now (at-start .args .page)))
+    (omega (arith, length-drop (at-start .args .at) (now (at-start .args .page)), c .if1 .taken))
 
 add-same-text : tie.Need-add-same-text
 add-same-text c = search needs
@@ -33,7 +35,18 @@ same-text-requires : tie.Need-same-text-requires
 same-text-requires c κs = search needs
 
 returns-2 : tie.Need-returns-2
-returns-2 c = let size : c .before .before .before .before .before .args .at + length (now (c .before .before .before .before .before .args .text)) - c .before .before .before .before .before .args .at ≡ length (now (c .before .before .before .before .before .args .text)) = omega arith in rw size at (c .same-text .ensures) ∙ begins-equal (now (c .before .before .before .before .before .args .text)) (drop (c .before .before .before .before .before .args .at) (now (c .before .before .before .before .before .args .page))) (omega (arith, length-drop (c .before .before .before .before .before .args .at) (now (c .before .before .before .before .before .args .page)), c .before .before .if1 .left, c .before .before .before .before .before .pre))
+returns-2 c =
+    let at-start = c .before .before .before .before .before in
+    let size : at-start .args .at + length (now (at-start .args .text)) - at-start .args .at
+    ≡ length (now (at-start .args .text)) = omega arith in
+    rw size at (c .same-text .ensures)
+    ∙ begins-equal (now (at-start .args .text)) (drop (at-start .args .at) (now (at-start .args .page)))
+    (omega (
+      arith,
+      length-drop (at-start .args .at) (now (at-start .args .page)),
+      c .before .before .if1 .left,
+      at-start .pre,
+    ))
 
 pub begins-at-spec : {M : Type 1} → statement M
 begins-at-spec =

@@ -1,24 +1,20 @@
-use Prim.Native.Nat.{_<_}
-use Rattle.functions.specs.Table.{countOf}
-use Rattle.functions.proofs.PlaceLaws.{Halved}
-use Prim.Native.Nat.{ℕ, _+_, _-_, _/_}
+-- `functions::find::find` meets its contract. The loop's invariant: the names in front of `low` stand before the
+-- name, those from `high` on behind it; the measure is how many are left. The laws stand in `PlaceLaws.antt`. Assumes
+-- nothing.
+use Prim.Native.Nat.{ℕ, _+_, _-_, _/_, _<_}
+use native.Mathlib.Omega.{arith}
 use mathlib.Core.Path.{_≡_, sym, _∙_}
 use mathlib.Core.List.{[]}
+use denote.Ref.{now}
+use borrow.Author.Needs.{needs}
 use lib.ListN.{getD}
 use Rattle.functions.specs.Order.{orderOf}
-use Prim.Native.Nat.{_-_}
-use native.Mathlib.Omega.{arith}
-use denote.Ref.{now}
-use Rattle.functions.specs.Table.{namesIn, placeOf}
+use Rattle.functions.specs.Table.{countOf, namesIn, placeOf}
 use Rattle.functions.proofs.CutLaws.{length-namesIn, table-form, namesIn-at}
-use Rattle.functions.proofs.PlaceLaws.{Left, left-all, left-none, left-behind, left-front, left-found}
-use borrow.Author.Needs.{needs}
+use Rattle.functions.proofs.PlaceLaws.{Left, left-all, left-none}
+use Rattle.functions.proofs.PlaceLaws.{Halved, left-behind, left-front, left-found}
 use Rattle.functions.proofs.find.find.Statement.{statement}
 use Rattle.functions.proofs.find.find.Tie as tie
-use Rattle.functions.proofs.find.find.Reads as reads
-use Rattle.functions.proofs.find.find.Lts as lts
-use Rattle.functions.proofs.find.text_in.Reads as text-in-reads
-use Rattle.functions.proofs.order.order_of.Reads as order-of-reads
 
 abbrev Inv-loop : tie.InvT-loop
 Inv-loop letters starts name low₀ high₀ low high = Left (namesIn letters starts) name low high
@@ -45,13 +41,16 @@ half c =
     }
 
 inside : (c : tie.In-loop Inv-loop μ-loop) →
-    let at-loop = c .before in
-    let at-start = at-loop .before .before .before .before in
-    middle (at-loop .loop .low) (at-loop .loop .high) < countOf (now (at-start .args .starts))
+    let at-start = c .before .before .before .before .before in
+    middle (c .before .loop .low) (c .before .loop .high) < countOf (now (at-start .args .starts))
 inside c =
     let at-start = c .before .before .before .before .before in
-    omega
-    (arith, half c .to, half c .left .inside, length-namesIn (now (at-start .args .letters)) (now (at-start .args .starts)))
+    omega (
+      arith,
+      half c .to,
+      half c .left .inside,
+      length-namesIn (now (at-start .args .letters)) (now (at-start .args .starts)),
+    )
 
 -- the name there, beside the name that is looked for
 order : (c : tie.After-order-of Inv-loop μ-loop) →
@@ -63,13 +62,17 @@ order : (c : tie.After-order-of Inv-loop μ-loop) →
     (now (at-start .args .name))
     ≡ c .order-of .result
 order c =
-    let at-loop-test = c .before .before in
-    let at-start = at-loop-test .before .before .before .before .before in
-    rw (namesIn-at (now (at-start .args .letters)) (now (at-start .args .starts)) _ (inside at-loop-test), ← c .before .text-in .ensures)
+    let at-start = c .before .before .before .before .before .before .before in
+    rw (
+      namesIn-at (now (at-start .args .letters)) (now (at-start .args .starts)) _ (inside (c .before .before)),
+      ← c .before .text-in .ensures,
+    )
     (sym (c .order-of .ensures))
 
 loop-holds : tie.Need-loop-holds Inv-loop μ-loop
-loop-holds c = left-all _ _ _ (length-namesIn (now (c .before .before .before .args .letters)) (now (c .before .before .before .args .starts)))
+loop-holds c =
+    let at-start = c .before .before .before in
+    left-all _ _ _ (length-namesIn (now (at-start .args .letters)) (now (at-start .args .starts)))
 
 sub-middle : tie.Need-sub-middle Inv-loop μ-loop
 sub-middle c = search needs
@@ -78,7 +81,9 @@ add-middle : tie.Need-add-middle Inv-loop μ-loop
 add-middle c = omega (arith, inside c)
 
 text-in-requires : tie.Need-text-in-requires Inv-loop μ-loop
-text-in-requires c κs = (c .before .before .before .before .before .pre, omega (arith, inside c))
+text-in-requires c κs =
+    let at-start = c .before .before .before .before .before in
+    (at-start .pre, omega (arith, inside c))
 
 order-of-requires : tie.Need-order-of-requires Inv-loop μ-loop
 order-of-requires c κs = search needs
@@ -88,19 +93,25 @@ enum-told c = search needs
 
 returns : tie.Need-returns Inv-loop μ-loop
 unfolding placeOf
-returns c = left-found (half (c .before .before .before .before)) (order (c .before .before) ∙ c .enum-told .given .1)
+returns c =
+    let at-loop-test = c .before .before .before .before in
+    left-found (half at-loop-test) (order (c .before .before) ∙ c .enum-told .given .1)
 
 enum-told-2 : tie.Need-enum-told-2 Inv-loop μ-loop
 enum-told-2 c = search needs
 
 add-low : tie.Need-add-low Inv-loop μ-loop
-add-low c = omega (arith, inside (c .before .before .before .before))
+add-low c =
+    let at-loop-test = c .before .before .before .before in
+    omega (arith, inside at-loop-test)
 
 loop-less : tie.Need-loop-less Inv-loop μ-loop
 loop-less c = search needs
 
 loop-again : tie.Need-loop-again Inv-loop μ-loop
-loop-again c = left-behind (half (c .before .before .before .before)) (order (c .before .before) ∙ c .enum-told2 .given .1)
+loop-again c =
+    let at-loop-test = c .before .before .before .before in
+    left-behind (half at-loop-test) (order (c .before .before) ∙ c .enum-told2 .given .1)
 
 enum-told-3 : tie.Need-enum-told-3 Inv-loop μ-loop
 enum-told-3 c = search needs
@@ -109,7 +120,9 @@ loop-less-2 : tie.Need-loop-less-2 Inv-loop μ-loop
 loop-less-2 c = search needs
 
 loop-again-2 : tie.Need-loop-again-2 Inv-loop μ-loop
-loop-again-2 c = left-front (half (c .before .before .before .before)) (order (c .before .before) ∙ c .enum-told3 .given .1)
+loop-again-2 c =
+    let at-loop-test = c .before .before .before .before in
+    left-front (half at-loop-test) (order (c .before .before) ∙ c .enum-told3 .given .1)
 
 returns-2 : tie.Need-returns-2 Inv-loop μ-loop
 unfolding placeOf

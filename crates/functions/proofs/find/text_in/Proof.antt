@@ -1,13 +1,11 @@
+-- `functions::find::text_in` meets its contract: a text of the table lies within the letters. Assumes nothing.
 use native.Mathlib.Omega.{arith}
-use mathlib.Core.Path.{_≡_, sym, ap, _∙_}
+use mathlib.Core.Path.{sym}
 use denote.Ref.{now}
 use Rattle.functions.proofs.CutLaws.{TextPlaced, placed, cut-at}
 use borrow.Author.Needs.{needs}
 use Rattle.functions.proofs.find.text_in.Statement.{statement}
 use Rattle.functions.proofs.find.text_in.Tie as tie
-use Rattle.functions.proofs.find.text_in.Reads as reads
-use Rattle.functions.proofs.find.text_in.Lts as lts
-use Rattle.functions.proofs.find.wide.Reads as wide-reads
 
 -- where both ends are read: the text lies within the letters
 here : (c : tie.After-wide2) →
@@ -50,7 +48,12 @@ part-result-end : tie.Need-part-result-end
 part-result-end c = let text = here c in omega (arith, text .ordered, text .inside)
 
 returns : tie.Need-returns
-returns c = let at-start = c .before .before .before .before .before .before .before in rw (c .before .before .before .wide .ensures, c .before .wide2 .ensures) (sym (cut-at (now (at-start .args .letters)) (now (at-start .args .starts)) (at-start .args .place) (at-start .pre .1)))
+returns c =
+    let at-wide = c .before .before .before in
+    let at-start = at-wide .before .before .before .before in
+    rw (at-wide .wide .ensures, c .before .wide2 .ensures)
+    (sym (cut-at (now (at-start .args .letters)) (now (at-start .args .starts)) (at-start .args .place)
+    (at-start .pre .1)))
 
 pub text-in-spec : {M : Type 1} → statement M
 text-in-spec =

@@ -1,12 +1,11 @@
+-- `functions::table::find_function` meets its contract: the arrays hold the table of the definition, by computation.
+-- Assumes nothing.
 use mathlib.Core.Path.{refl, _∙_}
 use Rattle.functions.specs.Functions.{functions}
 use Rattle.functions.proofs.TableLaws.{formed-place}
 use borrow.Author.Needs.{needs}
 use Rattle.functions.proofs.table.find_function.Statement.{statement}
 use Rattle.functions.proofs.table.find_function.Tie as tie
-use Rattle.functions.proofs.table.find_function.Reads as reads
-use Rattle.functions.proofs.table.find_function.Lts as lts
-use Rattle.functions.proofs.find.find.Reads as find-reads
 
 slice-aggregate-find : tie.Need-slice-aggregate-find
 slice-aggregate-find c = search needs
