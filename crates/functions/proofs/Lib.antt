@@ -3,4 +3,5 @@ pub mod CutLaws
 pub mod OrderLaws
 pub mod PlaceLaws
 pub mod SignatureLaws
+pub mod SignedLaws
 pub mod TableLaws

@@ -99,6 +99,7 @@ pub record Stands (table : List Function) (name : Text) (i : ℕ) : Type 0 where
   pub is-row : rowAt table i ≡ some row
   pub is-found : lookup table name ≡ some row
   pub named : row .name ≡ name
+  pub name-at : getD (names table) i [] ≡ name
   pub inside : i < length table
 
 pub place-row : (table : List Function) (name : Text) (i : ℕ) → placeFrom 0 (names table) name ≡ some i → Stands table name i
@@ -106,13 +107,13 @@ place-row table name i e =
     let found = place-found (names table) name i e in
     let inside : i < length table = omega (arith, found .inside, length-map table (λ f. f .name)) in
     let here = row-inside table i inside in
+    let named = equal-texts (getD (names table) i []) name (subst (λ (x : Bool). T x) (sym (found .named)) tt) in
     record {
       row = here .row;
       is-row = here .is-row;
       is-found = lookup-row table name i found ∙ here .is-row;
-      named =
-          sym (row-map (λ f. f .name) table i (here .is-row))
-          ∙ equal-texts (getD (names table) i []) name (subst (λ (x : Bool). T x) (sym (found .named)) tt);
+      named = sym (row-map (λ f. f .name) table i (here .is-row)) ∙ named;
+      name-at = named;
       inside = inside;
     }
 
