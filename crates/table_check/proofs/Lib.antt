@@ -1,3 +1,4 @@
 pub mod StandingLaws
 pub mod FaultLaws
 pub mod AskedLaws
+pub mod OutcomeLaws

@@ -1,3 +1,5 @@
+use mathlib.Core.Path.{refl}
+use Rattle.table_check.specs.declared.asked.FirstFault.the-variants.{None, At}
 use borrow.Author.Needs.{needs}
 use Rattle.table_check.proofs.outcome_with.Statement.{statement}
 use Rattle.table_check.proofs.outcome_with.Tie as tie
@@ -15,10 +17,10 @@ enum-known-refusal : tie.Need-enum-known-refusal
 enum-known-refusal c = search needs
 
 returns : tie.Need-returns
-returns c = ?
+returns c = record { found = None; finds = rw (c .enum-told .given .1) at (c .before .before .first-fault .ensures); is = refl }
 
 returns-2 : tie.Need-returns-2
-returns-2 c = ?
+returns-2 c = record { found = At (c .before .refusal .given .0 .0) (c .before .refusal .given .0 .1 .0); finds = rw (c .before .refusal .given .1) at (c .before .before .before .first-fault .ensures); is = refl }
 
 pub outcome-with-spec : {M : Type 1} → statement M
 outcome-with-spec =

@@ -21,12 +21,6 @@ use Rattle.functions.proofs.TableLaws.{placeOf-inside, compare-unknown,
 use borrow.Author.Needs.{needs}
 use Rattle.functions.proofs.carried.compare_signature.Statement.{statement}
 use Rattle.functions.proofs.carried.compare_signature.Tie as tie
-use Rattle.functions.proofs.carried.compare_signature.Reads as reads
-use Rattle.functions.proofs.carried.compare_signature.Lts as lts
-use Rattle.functions.proofs.carried.begins_at.Reads as begins-at-reads
-use Rattle.functions.proofs.find.find.Reads as find-reads
-use Rattle.functions.proofs.find.text_in.Reads as text-in-reads
-use Rattle.page.proofs.text_at.Reads as text-at-reads
 
 -- the name stands at the place
 found : (c : tie.After-place) →
