@@ -18,7 +18,8 @@ use Rattle.ast.specs.Walk.{stackAfter, walkPage}
 use Rattle.ast.specs.CheckPage.{apply, checkPage}
 use Rattle.ast.specs.Rules.{Rules, plain, guarded, ruled, applyBy, checkPageBy}
 use Rattle.ast.proofs.WalkLaws.{walk-first, walk-then, walk-reached, walk-within}
-use Rattle.ast.proofs.RulesLaws.{ruled-passes, walk-refines, end-index, Unasked}
+use Rattle.ast.proofs.EachLaws.{each-take, each-one}
+use Rattle.ast.proofs.RulesLaws.{ruled-passes, walk-refines, end-index, Unasked, walk-unasked}
 
 -- ## A page that is refused under rules
 
@@ -82,8 +83,8 @@ module _ (rules : Rules) where
     -- a rule, asked of the record before its operands are counted
     before : (r : Record) (later : List Record) → drop i (readPage page .records) ≡ r ∷ later → rules .before r ≡ some n
         → Cause page n i
-    -- document 01's check
-    document : checkPage page ≡ refusedAt n i → Cause page n i
+    -- document 01's check, where no rule refuses that record before its operands
+    document : checkPage page ≡ refusedAt n i → Unasked rules (take (suc i) (readPage page .records)) → Cause page n i
     -- a rule, asked of the record that document 01 accepts
     after : (r : Record) (later : List Record) (s t : List Expr) → drop i (readPage page .records) ≡ r ∷ later
         → stackAfter apply i (readPage page) ≡ stack s → apply r s ≡ ok t → rules .after r (map valueType s) ≡ some n
@@ -98,7 +99,7 @@ module _ (rules : Rules) where
 
 -- a record that is refused under rules
 refused-by : (rules : Rules) (r : Record) (ks : List Kind) (n : ℕ) (x : Result (List Expr)) (C : Type 0) → ruled rules r ks x ≡ refused n
-    → (rules .before r ≡ some n → C) → (x ≡ refused n → C) → ((t : List Expr) → x ≡ ok t → rules .after r ks ≡ some n → C) → C
+    → (rules .before r ≡ some n → C) → (rules .before r ≡ none → x ≡ refused n → C) → ((t : List Expr) → x ≡ ok t → rules .after r ks ≡ some n → C) → C
 refused-by rules r ks n x C e first own last = by (rules .before r) (rules .after r ks) x refl refl refl e
   where
     number : {m : ℕ} → _≡_ {A = Result (List Expr)} (refused m) (refused n) → m ≡ n
@@ -107,15 +108,9 @@ refused-by rules r ks n x C e first own last = by (rules .before r) (rules .afte
     by : (b c : Option ℕ) (y : Result (List Expr)) → rules .before r ≡ b → rules .after r ks ≡ c → x ≡ y
         → guarded b (andThen y (λ a. unless c a)) ≡ refused n → C
     by (some m) c y p q is e = first (p ∙ ap {B = Option ℕ} some (number e))
-    by none c (refused m) p q is e = own (is ∙ e)
+    by none c (refused m) p q is e = own p (is ∙ e)
     by none (some m) (ok t) p q is e = last t is (q ∙ ap {B = Option ℕ} some (number e))
     by none none (ok t) p q is e = absurd (let z : _≡_ {A = ℕ} 0 1 = cc in omega arith)
-
-each-take : {A : Type 0} (P : A → Type 0) (xs : List A) (k : ℕ) → Each P xs → Each P (take k xs)
-each-take P [] zero h = tt
-each-take P [] (suc k) h = tt
-each-take P (x ∷ xs) zero h = tt
-each-take P (x ∷ xs) (suc k) h = (h .0, each-take P xs k (h .1))
 
 -- where records before were reached, none of them is refused
 reached-first : (p : Records) (k : ℕ) (s : List Expr) (m j : ℕ) → k ≤ length (p .records)
@@ -134,12 +129,6 @@ reached-first p k s m j h reached = by (walk apply 0 [] (p .records)) (walk-reac
         omega (arith, behind .0, size, at)
 
 module _ (rules : Rules) where
-  walk-unasked : (rs : List Record) (i : ℕ) (s t : List Expr) → walk (applyBy rules) i s rs ≡ stack t → Unasked rules rs
-  walk-unasked [] i s t e = tt
-  walk-unasked (r ∷ rs) i s t e =
-      let first = walk-first (applyBy rules) r rs i s t e in
-      (ruled-passes rules r (map valueType s) (apply r s) (first .0) (first .1) .before, walk-unasked rs (suc i) (first .0) t (first .2))
-
   module _ (page : List ℕ) (n i : ℕ) where
     -- refused at its end
     end-refuses : (s : List Expr) → walk (applyBy rules) 0 [] (readPage page .records) ≡ stack s
@@ -149,8 +138,8 @@ module _ (rules : Rules) where
         let own : checkPage page ≡ refusedAt n i =
         ap (finished (readPage page .ending) (length (readPage page .records))) (walk-refines rules (readPage page .records) 0 [] s is) ∙ e in
         record {
-          cause = document own;
-          passed = each-take (λ r. rules .before r ≡ none) (readPage page .records) i (walk-unasked (readPage page .records) 0 [] s is);
+          cause = document own (each-take (λ r. rules .before r ≡ none) (readPage page .records) (suc i) (walk-unasked rules (readPage page .records) 0 [] s is));
+          passed = each-take (λ r. rules .before r ≡ none) (readPage page .records) i (walk-unasked rules (readPage page .records) 0 [] s is);
           first = λ m j q. let at : i ≡ j = cc in omega arith;
         }
 
@@ -181,14 +170,20 @@ module _ (rules : Rules) where
           ∙ ap {B = Walked Expr} (λ k. stopped n k) (zero-add (length (take i records)) ∙ length-take-le i records inside)
           )
 
+      passed-at : Unasked rules (take i records)
+      passed-at = subst (λ (k : ℕ). Unasked rules (take k records)) at-place (x .passed)
+
+      passed-on : rules .before (x .item) ≡ none → Unasked rules (take (suc i) records)
+      passed-on p = each-one (λ r. rules .before r ≡ none) records i stands-at passed-at p
+
       record-refuses : RefusedUnder rules page n i
       unfolding checkPage
       record-refuses = record {
         cause = refused-by rules (x .item) (map valueType (x .stackBefore)) n (apply (x .item) (x .stackBefore)) (Cause rules page n i) (x .refuses)
             (λ e. before (x .item) (x .later) stands-at e)
-            (λ e. document (own e))
+            (λ p e. document (own e) (passed-on p))
             (λ t e f. after (x .item) (x .later) (x .stackBefore) t stands-at reached-at e f);
-        passed = subst (λ (k : ℕ). Unasked rules (take k records)) at-place (x .passed);
+        passed = passed-at;
         first = λ m j q. reached-first (readPage page) i (x .stackBefore) m j inside reached-at q;
       }
 

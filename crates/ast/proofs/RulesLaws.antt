@@ -80,7 +80,7 @@ module _ (rules : Rules) where
       walk-then apply r rs i s t (first .0) (passed .passes) (walk-refines rs (suc i) (first .0) t (first .2))
 
 -- an accepted page was walked to the end, and one tree was left
-pub finished-accepts : (e : Ending) (i n : ℕ) (w : Walked Expr) (t : Expr) → finished e i w ≡ accepted t n → w ≡ stack (t ∷ [])
+finished-accepts : (e : Ending) (i n : ℕ) (w : Walked Expr) (t : Expr) → finished e i w ≡ accepted t n → w ≡ stack (t ∷ [])
 finished-accepts e i n (stopped m j) t q = absurd (let z : _≡_ {A = ℕ} 0 1 = cc in omega arith)
 finished-accepts (unreadable f) i n (stack s) t q = absurd (let z : _≡_ {A = ℕ} 0 1 = cc in omega arith)
 finished-accepts end i n (stack []) t q = absurd (let z : _≡_ {A = ℕ} 0 1 = cc in omega arith)
@@ -105,6 +105,20 @@ end-index end i (t ∷ u ∷ s) n j e = cc
 -- no rule refuses these records before their operands
 abbrev pub Unasked : Rules → List Record → Type 0
 Unasked rules = Each (λ r. rules .before r ≡ none)
+
+module _ (rules : Rules) where
+  pub walk-unasked : (rs : List Record) (i : ℕ) (s t : List Expr) → walk (applyBy rules) i s rs ≡ stack t → Unasked rules rs
+  walk-unasked [] i s t e = tt
+  walk-unasked (r ∷ rs) i s t e =
+      let first = walk-first (applyBy rules) r rs i s t e in
+      (ruled-passes rules r (map valueType s) (apply r s) (first .0) (first .1) .before, walk-unasked rs (suc i) (first .0) t (first .2))
+
+-- no rule refuses a record of a page that passes
+pub checkPageBy-passes : (rules : Rules) (page : List ℕ) (t : Expr) (n : ℕ) → checkPageBy rules page ≡ accepted t n → Unasked rules (readPage page .records)
+unfolding checkPageBy
+checkPageBy-passes rules page t n e =
+    walk-unasked rules (readPage page .records) 0 [] (t ∷ [])
+    (finished-accepts (readPage page .ending) (length (readPage page .records)) n _ t e)
 
 -- ## Rules that ask nothing after the operands
 

@@ -35,9 +35,9 @@ slice-aggregate-reached c = search needs
 
 reached-requires : tie.Need-reached-requires
 reached-requires c κs = (
-      (rw (c .before .before .refusal .given .1) at (c .before .before .before .before .before .before .walk .ensures .says) .tables .starts-size, refuses-inside (rw (c .before .before .refusal .given .1) at (c .before .before .before .before .before .before .walk .ensures .says))),
-      refuses-standing (rw (c .before .before .refusal .given .1) at (c .before .before .before .before .before .before .walk .ensures .says)),
-    )
+  (rw (c .before .before .refusal .given .1) at (c .before .before .before .before .before .before .walk .ensures .says) .tables .starts-size, refuses-inside (rw (c .before .before .refusal .given .1) at (c .before .before .before .before .before .before .walk .ensures .says))),
+  refuses-standing (rw (c .before .before .refusal .given .1) at (c .before .before .before .before .before .before .walk .ensures .says)),
+)
 
 slice-aggregate-outcome-with-2 : tie.Need-slice-aggregate-outcome-with-2
 slice-aggregate-outcome-with-2 c = search needs

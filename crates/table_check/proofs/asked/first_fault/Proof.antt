@@ -52,8 +52,11 @@ loop-less : tie.Need-loop-less Inv-loop μ-loop
 loop-less c = search needs
 
 loop-again : tie.Need-loop-again Inv-loop μ-loop
-loop-again c = (omega (arith, c .before .before .before .before .before .loop-test .taken), faultless-next (c .before .before .before .before .before .before .before .before .before .before .before .pre .0) (c .before .before .before .before .before .loop-test .taken) (c .before .before .before .before .before .before .loop .inv .1)
-    (rw (c .enum-told .given .1, c .before .before .before .wide .ensures) at (c .before .before .record-fault .ensures)))
+loop-again c = (
+  omega (arith, c .before .before .before .before .before .loop-test .taken),
+  faultless-next (c .before .before .before .before .before .before .before .before .before .before .before .pre .0) (c .before .before .before .before .before .loop-test .taken) (c .before .before .before .before .before .before .loop .inv .1)
+      (rw (c .enum-told .given .1, c .before .before .before .wide .ensures) at (c .before .before .record-fault .ensures)),
+)
 
 returns-2 : tie.Need-returns-2 Inv-loop μ-loop
 returns-2 c = faultless-all _ _ _ (c .before .loop .inv .0) (c .loop-test .left) (c .before .loop .inv .1)
