@@ -5,3 +5,4 @@ pub mod PlaceLaws
 pub mod SignatureLaws
 pub mod SignedLaws
 pub mod TableLaws
+pub mod CheckTableLaws

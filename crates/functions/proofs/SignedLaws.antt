@@ -7,8 +7,9 @@ use mathlib.Core.List.{List, [], _∷_}
 use mathlib.Core.Option.{Option, none, some}
 use native.Mathlib.Omega.{arith}
 use lib.Dec.{T}
-use Rattle.page.specs.Bytes.{pick, equal}
+use Rattle.page.specs.Bytes.{all, pick, equal}
 use Rattle.page.specs.Text.{Text}
+use Rattle.page.proofs.NumberLaws.{left-of, right-of}
 use Rattle.records.specs.Kind.{Kind}
 use Rattle.records.specs.Signature.{Variadic, Function}
 use Rattle.records.specs.Record.{Record, leaf, wrapper, binary, aggregate, call}
@@ -64,3 +65,26 @@ signed-record table (wrapper w) e = refl
 signed-record table (binary c m) e = refl
 signed-record table (aggregate c m n) e = refl
 signed-record table (call f n) e = signed-call table f n e
+
+-- what a test says of every row it says of a function without fault
+lookup-passes : (test : Function → Bool) (table : List Function) (name : Text) (g : Function) → T (all test table) → lookup table name ≡ some g
+    → T (test g)
+unfolding lookup
+lookup-passes test [] name g h e = let z : _≡_ {A = ℕ} 0 1 = cc in absurd (omega arith)
+lookup-passes test (f ∷ table) name g h e =
+    by (lookup-passes test table name g (right-of (test f) (all test table) h)) (equal (f .name) name) e
+  where
+    by : (lookup table name ≡ some g → T (test g)) → (x : Bool) → pick x (some f) (lookup table name) ≡ some g → T (test g)
+    by more true e = let same : f ≡ g = cc in subst (λ (x : Function). T (test x)) same (left-of (test f) (all test table) h)
+    by more false e = more e
+
+pub like-passes : (test : Function → Bool) (table : List Function) → T (all test table) → (f : Function)
+    → unlike f (lookup table (f .name)) ≡ none → T (test f)
+like-passes test table h f e = by (lookup table (f .name)) refl e
+  where
+    by : (found : Option Function) → lookup table (f .name) ≡ found → unlike f found ≡ none → T (test f)
+    by none q e = let z : _≡_ {A = ℕ} 0 1 = cc in absurd (omega arith)
+    by (some g) q e =
+        let named : f .name ≡ g .name = sym (lookup-name table (f .name) g q) in
+        let same = same-function f g named (equalSignature-same f g (like f g e)) in
+        subst (λ (x : Function). T (test x)) (sym same) (lookup-passes test table (f .name) g h q)

@@ -1,7 +1,7 @@
 -- The function of a name in a table, and what a call's signature is beside it (document 02, No. 2: "Refused: 37 for an
 -- unknown name, after the call's fields and before 2; 38 for a signature unlike the table's, next").
 use Prim.Native.Nat.{ℕ, suc}
-use mathlib.Core.Bool.{Bool, _&&_}
+use mathlib.Core.Bool.{Bool, _&&_, _||_, not}
 use mathlib.Core.List.{List, [], _∷_, map}
 use mathlib.Core.Option.{Option, none, some}
 use lib.Dec.{eqb}
@@ -11,6 +11,7 @@ use Rattle.records.specs.Kind.{kindNumber, equalKind}
 use Rattle.records.specs.Signature.{Variadic, fixed, unlimited, upTo, Function}
 use Rattle.records.specs.Record.{Record, leaf, wrapper, binary, aggregate, call, Records}
 use Rattle.records.specs.Outcome.{Outcome}
+use Rattle.ast.specs.Table.{isOfCheck}
 use Rattle.ast.specs.Rules.{Rules, checkBy}
 use Rattle.functions.specs.Functions.{functions}
 
@@ -51,6 +52,10 @@ withTable table = record { before = signatureFault table; after = λ r ks. none 
 -- "A page may now be checked with the table too"
 abbrev pub checkTable : List ℕ → Outcome
 checkTable = checkBy (withTable functions)
+
+-- the refusals of the check with the table: those of document 01's check, but no 29, and 37 and 38
+abbrev pub isOfTable : ℕ → Bool
+isOfTable n = (isOfCheck n && not (eqb n 29)) || eqb n 37 || eqb n 38
 
 -- ## The table's signatures in the place of those that are carried
 
