@@ -5,3 +5,4 @@ pub mod Lookup
 pub mod Answers
 pub mod TableContract
 pub mod TableExamples
+pub mod TablePages
