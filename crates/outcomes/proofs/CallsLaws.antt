@@ -24,13 +24,13 @@ use Rattle.text.specs.Pretty.{prettify}
 use Rattle.outcomes.specs.Calls.{Called, tooShort, written, writing, copy, canonicalText, splitText}
 use Rattle.outcomes.specs.Demand1.{Keeps, Agrees, Demand1}
 
-abbrev KeepsCalled : List ℕ → Called → Type 0
+abbrev pub KeepsCalled : List ℕ → Called → Type 0
 KeepsCalled before c = Keeps before (c .outcome) (c .buffer)
 
 -- ## written
 
 -- where the text fits, and where it does not
-abbrev chosen : Kind → ℕ → List ℕ → List ℕ → Bool → Called
+abbrev pub chosen : Kind → ℕ → List ℕ → List ℕ → Bool → Called
 chosen k records text buffer b =
     pick b (record { outcome = answer k (length text); buffer = text ++ drop (length text) buffer })
     (record { outcome = refusal tooShort records; buffer = buffer })
@@ -45,7 +45,7 @@ length-written text buffer h = length-append text (drop (length text) buffer) �
     whole : length text ≤ length buffer → length text + (length buffer - length text) ≡ length buffer
     whole g = omega arith
 
-written-keeps : (k : Kind) (records : ℕ) (text buffer : List ℕ) → KeepsCalled buffer (written k records text buffer)
+pub written-keeps : (k : Kind) (records : ℕ) (text buffer : List ℕ) → KeepsCalled buffer (written k records text buffer)
 written-keeps k records text buffer = by (leb (length text) (length buffer)) refl
   where
     by : (b : Bool) → leb (length text) (length buffer) ≡ b
@@ -99,18 +99,19 @@ writing-demand1 page textOf =
 
 -- ## The calls
 
+-- a number among some of one byte each
+pub among-small : (ns : List ℕ) → T (all (λ m. leb m 255) ns) → (n : ℕ) → T (any (eqb n) ns) → n ≤ 255
+among-small [] g n h = absurd h
+among-small (m ∷ ns) g n h = by (eqb n m) (eqb→eq n m) (leb→le m 255 (left-of (leb m 255) (all (λ m. leb m 255) ns) g))
+    (among-small ns (right-of (leb m 255) (all (λ m. leb m 255) ns) g) n) h
+  where
+    by : (b : Bool) → (T b → n ≡ m) → m ≤ 255 → (T (any (eqb n) ns) → n ≤ 255) → T (b || any (eqb n) ns) → n ≤ 255
+    by true e l others h = omega (arith, e tt)
+    by false e l others h = others h
+
 -- every number of the table has one byte
 pub isInTable-small : (n : ℕ) → T (isInTable n) → n ≤ 255
-isInTable-small n = among tableNumbers tt
-  where
-    among : (ns : List ℕ) → T (all (λ m. leb m 255) ns) → T (any (eqb n) ns) → n ≤ 255
-    among [] g h = absurd h
-    among (m ∷ ns) g h = by (eqb n m) (eqb→eq n m) (leb→le m 255 (left-of (leb m 255) (all (λ m. leb m 255) ns) g))
-        (among ns (right-of (leb m 255) (all (λ m. leb m 255) ns) g)) h
-      where
-        by : (b : Bool) → (T b → n ≡ m) → m ≤ 255 → (T (any (eqb n) ns) → n ≤ 255) → T (b || any (eqb n) ns) → n ≤ 255
-        by true e l others h = omega (arith, e tt)
-        by false e l others h = others h
+isInTable-small = among-small tableNumbers tt
 
 -- and its record is at most the limit of records
 pub inTable-record : (test : ℕ → Bool) (page : List ℕ) (n i : ℕ) → InTable test page (refusal n i) → i ≤ recordLimit

@@ -1,4 +1,5 @@
 pub mod CallsLaws
 pub mod CopyAgainLaws
 pub mod OneCopyLaws
+pub mod SignatureLaws
 pub mod WellFormedLaws

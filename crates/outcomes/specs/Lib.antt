@@ -1,4 +1,5 @@
 pub mod Calls
+pub mod Signature
 pub mod Demand1
 pub mod Output
 pub mod Computed
@@ -6,3 +7,4 @@ pub mod Examples
 pub mod Utf8Pages
 pub mod FractionPages
 pub mod PatternPages
+pub mod SignatureExamples
