@@ -1,2 +1,3 @@
 pub mod DoesLaws
 pub mod RoomLaws
+pub mod SignatureLaws

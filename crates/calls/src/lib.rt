@@ -1,5 +1,7 @@
 // The calls that write into a lent buffer. The length is known before a byte is written: a refusal leaves the buffer as
 // it was.
+pub mod signature;
+
 use measure::widths_of;
 use rules::Refusal;
 use split::prettify_len;
