@@ -5,15 +5,19 @@ use mathlib.Core.Bool.{not}
 use mathlib.Core.List.{List}
 use lib.Dec.{eqb}
 use Rattle.page.specs.Limits.{recordLimit}
+use Rattle.page.specs.Text.{Text}
 use Rattle.page.proofs.NumberLaws.{left-of}
 use Rattle.records.specs.Kind.{Kind, vector, scalar, matrix, string, kindNumber}
 use Rattle.records.specs.Outcome.{Outcome, answer, refusal}
 use Rattle.ast.specs.CheckPage.{check}
 use Rattle.ast.specs.Table.{isInTable, isOfCheck, InTable}
 use Rattle.ast.proofs.CheckLaws.{check-in}
+use Rattle.functions.specs.Functions.{functions}
 use Rattle.outcomes.specs.Calls.{Called}
 use Rattle.outcomes.specs.Demand1.{Demand1}
-use Rattle.outcomes.proofs.CallsLaws.{isInTable-small, inTable-record}
+use Rattle.outcomes.specs.Signature.{signature, signatureNumbers, OfSignature}
+use Rattle.outcomes.proofs.CallsLaws.{among-small, isInTable-small, inTable-record}
+use Rattle.outcomes.proofs.SignatureLaws.{signatureIn-of}
 use Rattle.sandzguli.specs.Words.{FitsWord}
 
 pub kindNumber-small : (k : Kind) → kindNumber k ≤ 3
@@ -41,3 +45,11 @@ check-fits page = inTable-fits page (check page) (all-but-five (check page) (che
     all-but-five : (o : Outcome) → InTable isOfCheck page o → InTable isInTable page o
     all-but-five (answer k n) h = tt
     all-but-five (refusal n i) h = (left-of (isInTable n) (not (eqb n 5)) (h .0), h .1)
+
+-- and what the call that writes a signature answers
+pub signature-fits : (name : Text) (buffer : List ℕ) → FitsWord (signature name buffer .outcome)
+signature-fits name buffer = by (signature name buffer .outcome) (signatureIn-of functions name buffer)
+  where
+    by : (o : Outcome) → OfSignature o → FitsWord o
+    by (answer k n) h = tt
+    by (refusal n i) h = (among-small signatureNumbers tt n (h .0), omega (arith, h .1))

@@ -4,6 +4,7 @@ use crate::word::empty_text_word;
 use crate::word::outcome_word;
 use calls::canonical;
 use calls::copy;
+use calls::signature::signature;
 use calls::split;
 use names::kind::kind_name;
 use names::refusal::refusal_name;
@@ -15,14 +16,15 @@ ghost use Rattle.ast.specs.Part.{labelPart};
 ghost use Rattle.names.specs.Names.{kindName, refusalName};
 ghost use Rattle.names.specs.Written.{nameWritten, DoesName};
 ghost use Rattle.outcomes.specs.Calls.{copy, canonicalText, splitText};
+ghost use Rattle.outcomes.specs.Signature.{signature};
 ghost use Rattle.sandzguli.specs.Version.{version};
 ghost use Rattle.sandzguli.specs.Words.{outcomeWord, labelWord, patternWord, DoesWord};
 
 const MAJOR: u64 = 0;
 
-const MINOR: u64 = 3;
+const MINOR: u64 = 4;
 
-const PATCH: u64 = 1;
+const PATCH: u64 = 0;
 
 #[no_mangle]
 pub extern "C" fn sandzguli_check(page: &[u8]) -> u64
@@ -65,6 +67,14 @@ pub extern "C" fn sandzguli_split(page: &[u8], out: &mut [u8]) -> u64
     ensures { λ r. ⌜ DoesWord (splitText (now (page .entry)) (now (out .entry))) r (now (out .exit)) ⌝ }
 {
     outcome_word(split(page, out))
+}
+
+// The signature of a function as it stands in a call behind the name.
+#[no_mangle]
+pub extern "C" fn sandzguli_signature(name: &[u8], out: &mut [u8]) -> u64
+    ensures { λ r. ⌜ DoesWord (signature (now (name .entry)) (now (out .entry))) r (now (out .exit)) ⌝ }
+{
+    outcome_word(signature(name, out))
 }
 
 // Whether a pattern is covered and matches empty text. No matcher holds one that is longer than a text may be.
