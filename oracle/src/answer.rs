@@ -1,6 +1,8 @@
-//! What documents 01 and 02 answer to a page: outcome, label part of 19, copy, canonical text, split text.
+//! What documents 01 and 02 answer to a page: outcome, outcome with the function table too, label part of 19, copy,
+//! canonical text, split text.
 
 use crate::copy;
+use crate::functions;
 use crate::page::read::{NumberField, Reader, TextField};
 use crate::page::record::{Kind, Record};
 use crate::page::{write, MAX_PAGE_BYTES, MAX_RECORDS};
@@ -55,6 +57,8 @@ pub enum Domain {
 pub struct Worked<'a> {
     pub page: &'a [u8],
     pub outcome: Outcome,
+    /// The outcome of the check with the function table too (document 02, No. 2).
+    pub table: Outcome,
     pub label: Option<Part>,
     pub domain: Domain,
     /// The Rust's own words, where it refused.
@@ -72,6 +76,7 @@ pub struct Worked<'a> {
 #[derive(Debug, Clone, PartialEq)]
 pub struct Answer {
     pub outcome: Outcome,
+    pub table: Outcome,
     pub label: Option<Part>,
     pub domain: Domain,
     /// The number of records, which is the index of 5.
@@ -100,7 +105,7 @@ pub struct Failure(pub String);
 
 pub fn work(page: &[u8]) -> Result<Worked<'_>, Failure> {
     let mut walk = Walk::default();
-    let stopped = walk.run(page);
+    let stopped = walk.run(page, |_| None);
     let (outcome, message) = match stopped {
         Ok(outcome) => (outcome, None),
         Err(Stop::Refused { number, message }) => {
@@ -128,6 +133,7 @@ pub fn work(page: &[u8]) -> Result<Worked<'_>, Failure> {
     Ok(Worked {
         page,
         outcome,
+        table: with_table(&walk.records, outcome),
         label,
         domain: domain(&walk.records),
         message,
@@ -136,6 +142,31 @@ pub fn work(page: &[u8]) -> Result<Worked<'_>, Failure> {
         literal: walk.literal,
         checked,
     })
+}
+
+/// The first call that the table refuses, among the records up to and including the one that document 01 refuses;
+/// otherwise document 01's outcome. `walk_with_table` goes the longer way, and tests hold the two to each other.
+fn with_table(records: &[Record], outcome: Outcome) -> Outcome {
+    let mut numbered = records.iter().enumerate();
+    let refused = numbered.find_map(|(record, read)| {
+        let number = functions::fault(read)?;
+        Some(Outcome::Refused { number, record })
+    });
+    refused.unwrap_or(outcome)
+}
+
+/// The check with the function table record by record, as document 02, No. 2, has it: the table is asked once the
+/// call's fields are read, and before its operands are counted.
+pub fn walk_with_table(page: &[u8]) -> Result<Outcome, Failure> {
+    let mut walk = Walk::default();
+    match walk.run(page, functions::fault) {
+        Ok(outcome) => Ok(outcome),
+        Err(Stop::Refused { number, .. }) => Ok(Outcome::Refused {
+            number,
+            record: walk.accepted,
+        }),
+        Err(Stop::Unforeseen(words)) => Err(Failure(words)),
+    }
 }
 
 #[derive(Default)]
@@ -157,7 +188,12 @@ fn refused(number: u8) -> Stop {
 }
 
 impl<'a> Walk<'a> {
-    fn run(&mut self, page: &'a [u8]) -> Result<Outcome, Stop> {
+    /// `before` is asked of each record that could be read, before its operands are counted.
+    fn run(
+        &mut self,
+        page: &'a [u8],
+        before: impl Fn(&Record) -> Option<u8>,
+    ) -> Result<Outcome, Stop> {
         if page.len() > MAX_PAGE_BYTES {
             return Err(refused(3));
         }
@@ -169,7 +205,10 @@ impl<'a> Walk<'a> {
             let read = reader.record();
             self.text = reader.text;
             self.literal = reader.literal;
-            self.records.push(read.map_err(refused)?);
+            let record = read.map_err(refused)?;
+            let fault = before(&record);
+            self.records.push(record);
+            fault.map_or(Ok(()), |number| Err(refused(number)))?;
             self.apply_last()?;
             self.accepted += 1;
         }
@@ -229,6 +268,7 @@ pub fn of_worked(worked: &Worked) -> Answer {
     };
     Answer {
         outcome: worked.outcome,
+        table: worked.table,
         label: worked.label,
         domain: worked.domain,
         records: worked.records.len(),

@@ -1,7 +1,7 @@
 //! The Rust crate promql-parser as the judge of pages.
 //!
 //! A page is read as document 01 says (`page`), driven record by record through the Rust's constructors and
-//! `check_ast` (`tree`), and answered (`answer`). Pages come from a seed (`generate`) or from chosen rows (`chosen`);
+//! `check_ast` (`tree`), and answered (`answer`), with the function table too (`functions`). Pages come from a seed (`generate`) or from chosen rows (`chosen`);
 //! `coverage` tells which classes of documents 01 and 02 they reached, `kept` writes the list that other programs
 //! replay.
 
@@ -15,6 +15,7 @@ pub mod covered;
 pub mod failing;
 pub mod fields;
 pub mod fill_pair;
+pub mod functions;
 pub mod generate;
 pub mod hex;
 pub mod ill_formed;

@@ -3,9 +3,27 @@
 /// The flag of a covered pattern is wrong (document 02, No. 7). The Rust has no flag, and so no message.
 pub const WRONG_FLAG: u8 = 41;
 
-/// All numbers that there are: those of document 01, and what document 02 has added so far.
-pub fn numbers() -> impl Iterator<Item = u8> {
+/// A call's name is not in the function table (document 02, No. 2): of the check with the table, and of signatures.
+pub const UNKNOWN_FUNCTION: u8 = 37;
+
+/// A call's signature is unlike the function table's (document 02, No. 2): of the check with the table alone.
+pub const UNLIKE_SIGNATURE: u8 = 38;
+
+/// The numbers of document 01's calls: its own, and what document 02 has added to them so far.
+pub fn of_calls() -> impl Iterator<Item = u8> {
     (1..=34).chain([WRONG_FLAG])
+}
+
+/// The numbers of the check with the function table, 37 and 38 behind the others. 5 is for buffers; 29 cannot arise,
+/// since no function of the table takes more arguments than it has kinds without having one.
+pub fn of_table_check() -> impl Iterator<Item = u8> {
+    let of_check = of_calls().filter(|number| !matches!(number, 5 | 29));
+    of_check.chain([UNKNOWN_FUNCTION, UNLIKE_SIGNATURE])
+}
+
+/// All numbers that there are, ascending.
+pub fn numbers() -> impl Iterator<Item = u8> {
+    (1..=34).chain([UNKNOWN_FUNCTION, UNLIKE_SIGNATURE, WRONG_FLAG])
 }
 
 /// Where a message came from: a record's constructor, or `check_ast` of what it built.

@@ -26,12 +26,12 @@ fn judge(sample: &Sample, coverage: &mut Coverage) -> Result<(), String> {
     let blamed = |words: String| format!("{words}\npage: {}", hex::text(&sample.page));
     let worked = answer::work(&sample.page).map_err(|failure| blamed(failure.0))?;
     let answer = answer::of_worked(&worked);
-    if let Some(expected) = sample.expected {
-        if answer.outcome != expected {
-            return Err(blamed(format!(
-                "made for {expected:?}, got {:?}",
-                answer.outcome
-            )));
+    for (made_for, outcome) in [
+        (sample.expected, answer.outcome),
+        (sample.table, answer.table),
+    ] {
+        if let Some(expected) = made_for.filter(|expected| *expected != outcome) {
+            return Err(blamed(format!("made for {expected:?}, got {outcome:?}")));
         }
     }
     agrees_with_itself(&sample.page, &worked, &answer).map_err(blamed)?;

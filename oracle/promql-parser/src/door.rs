@@ -1,9 +1,10 @@
-//! What the reference of document 01, 'Checking', names: the constructors and `check_ast`, as they stand in ast.rs.
+//! What the reference of document 01, 'Checking', names: the constructors and `check_ast`, as they stand in ast.rs; and
+//! the lookup in the function table of document 02, No. 2, as it stands in function.rs.
 
 use crate::label::Matchers;
 use crate::parser::ast::{self, AtModifier, BinModifier, LabelModifier, Offset};
 use crate::parser::token::TokenId;
-use crate::parser::{Expr, Function, FunctionArgs};
+use crate::parser::{function, Expr, Function, FunctionArgs};
 use std::time::Duration;
 
 type Checked = Result<Expr, String>;
@@ -59,4 +60,8 @@ pub fn new_call(function: Function, arguments: FunctionArgs) -> Checked {
 
 pub fn check_ast(expr: Expr) -> Checked {
     ast::check_ast(expr)
+}
+
+pub fn get_function(name: &str) -> Option<Function> {
+    function::get_function(name)
 }

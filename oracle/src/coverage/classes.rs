@@ -1,6 +1,6 @@
 //! The classes that a run must reach.
 
-use super::{characters, fractions, ill_formed, patterns, times, words};
+use super::{characters, fractions, functions, ill_formed, patterns, times, words};
 use crate::refusal;
 
 /// The record kinds, by their number on the page.
@@ -70,7 +70,7 @@ const SPLITS: &[&str] = &[
 
 pub fn all() -> Vec<String> {
     let mut classes: Vec<String> = Vec::new();
-    classes.extend(refusal::numbers().map(|number| format!("refusal {number:02}")));
+    classes.extend(refusal::of_calls().map(|number| format!("refusal {number:02}")));
     classes.extend(RECORDS.iter().map(|record| format!("record {record}")));
     for kind in ["Vector", "Scalar", "Matrix", "String"] {
         classes.push(format!("kind {kind}"));
@@ -93,5 +93,6 @@ pub fn all() -> Vec<String> {
     classes.extend(fractions::classes());
     classes.extend(patterns::classes());
     classes.extend(times::classes());
+    classes.extend(functions::classes());
     classes
 }

@@ -1,10 +1,11 @@
 //! Which classes of document 01 a run of pages reached: refusals, kinds, the parts of records, the rules of both texts;
-//! and of document 02 texts by words (No. 4), fractions (No. 5), patterns and their flags (No. 7), characters beyond
-//! ASCII and ill-formed texts (No. 10), @ and offset (No. 14).
+//! and of document 02 calls and the function table (No. 2), texts by words (No. 4), fractions (No. 5), patterns and
+//! their flags (No. 7), characters beyond ASCII and ill-formed texts (No. 10), @ and offset (No. 14).
 
 mod characters;
 mod classes;
 mod fractions;
+mod functions;
 mod ill_formed;
 mod patterns;
 mod records;
@@ -60,6 +61,7 @@ impl Coverage {
         self.fractions(worked, answer);
         self.patterns(worked);
         self.times(worked, answer);
+        self.functions(worked);
         match worked.outcome {
             Outcome::Refused { number, .. } => self.hit(format!("refusal {number:02}")),
             Outcome::Accepted(kind) => {

@@ -1,6 +1,6 @@
 //! Pages from a seed: good ones, planted faults, damaged copies, sizes at the limits, long texts, characters beyond
 //! ASCII and ill-formed ones, fractions and what is none, patterns with right and wrong flags, @ and offset in either
-//! order, deep nesting, short and random bytes.
+//! order, calls of the function table and what is none, deep nesting, short and random bytes.
 
 pub mod alphabet;
 mod call;
@@ -11,6 +11,7 @@ mod damage;
 mod expression;
 pub mod fault;
 pub mod fractions;
+pub mod functions;
 mod holders;
 pub mod ill_formed;
 pub mod limits;

@@ -1,5 +1,6 @@
 //! All pages of a run: the fixed ones, then as many rounds as asked for.
 
+use super::functions::{self, Tabled};
 use super::{
     bytes, codes, counted_bytes, damaged, fault, fractions, good, ill_formed, limits, long_texts,
 };
@@ -13,6 +14,8 @@ use crate::refusal::WRONG_FLAG;
 pub struct Sample {
     pub page: Vec<u8>,
     pub expected: Option<Outcome>,
+    /// The outcome with the function table too, where the page was made for one.
+    pub table: Option<Outcome>,
 }
 
 impl Sample {
@@ -20,6 +23,7 @@ impl Sample {
         Self {
             page,
             expected: None,
+            table: None,
         }
     }
 
@@ -27,6 +31,7 @@ impl Sample {
         Self {
             page,
             expected: Some(expected),
+            table: None,
         }
     }
 }
@@ -37,8 +42,18 @@ impl From<Made> for Sample {
     }
 }
 
+impl From<Tabled> for Sample {
+    fn from(made: Tabled) -> Self {
+        Self {
+            page: made.page,
+            expected: None,
+            table: Some(made.table),
+        }
+    }
+}
+
 /// Chosen pages, the limits, every code and every kind of operand, deep nesting, long values, characters beyond ASCII,
-/// fractions, patterns with their flags, @ and offset in either order.
+/// fractions, patterns with their flags, @ and offset in either order, calls of the function table.
 pub fn fixed() -> impl Iterator<Item = Sample> {
     let rows = chosen::rows().chain(chosen::outside());
     let chosen = rows.map(|row| Sample::any(row.bytes()));
@@ -57,7 +72,9 @@ pub fn fixed() -> impl Iterator<Item = Sample> {
         .chain(patterns::fixed())
         .chain(times::fixed());
     let pages = chosen.chain(limits).chain(swept).chain(nested);
-    pages.chain(texts).chain(requests.map(Sample::from))
+    let requests = requests.map(Sample::from);
+    let tabled = functions::fixed().map(Sample::from);
+    pages.chain(texts).chain(requests).chain(tabled)
 }
 
 /// Every byte string of at most two bytes.
@@ -71,14 +88,18 @@ const LONG_TEXTS: usize = 14;
 /// Pages with @ and offset in a round.
 const TIMES: usize = 40;
 
+/// Pages with calls of the function table in a round.
+const FUNCTIONS: usize = 60;
+
 /// One round: pages of ASCII, then pages with characters beyond it, then with fractions too, then with covered patterns
-/// and wrong flags, then with @ and offset.
+/// and wrong flags, then with @ and offset, then with calls of the function table.
 pub fn round(random: &mut Random) -> Vec<Sample> {
     let mut samples = ascii(random);
     samples.extend(beyond_ascii(random));
     samples.extend(with_fractions(random));
     samples.extend(with_patterns(random));
     samples.extend((0..TIMES).map(|_| Sample::from(times::random(random))));
+    samples.extend((0..FUNCTIONS).map(|_| Sample::from(functions::random(random))));
     samples
 }
 

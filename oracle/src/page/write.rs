@@ -122,8 +122,8 @@ fn modifier(page: &mut Vec<u8>, modifier: &Modifier) {
     fill(page, modifier.right_fill);
 }
 
-fn signature(page: &mut Vec<u8>, signature: &Signature) {
-    text(page, &signature.name.text);
+/// A signature behind its name: kinds, extra, result.
+pub fn signature(page: &mut Vec<u8>, signature: &Signature) {
     list(page, &signature.kinds, |page, kind| {
         number(page, kind.number())
     });
@@ -191,6 +191,7 @@ pub fn record(page: &mut Vec<u8>, record: &Record) {
             signature: called,
             arguments,
         } => {
+            text(page, &called.name.text);
             signature(page, called);
             number(page, *arguments as u64);
         }

@@ -15,6 +15,7 @@ use crate::page::record::*;
 use crate::refusal::Stage;
 use guard::guarded;
 use promql_parser::door;
+use promql_parser::parser::token::TokenType;
 use promql_parser::parser::value::ValueType;
 use promql_parser::parser::Expr;
 
@@ -37,9 +38,19 @@ pub fn apply(record: &Record, mut operands: Vec<Expr>) -> Result<Expr, Stop> {
     checked
 }
 
+/// The word of a code, by the Rust's tokens.
+pub fn word(code: u8) -> String {
+    TokenType::new(parts::token(code)).to_string()
+}
+
 /// The kind of an expression, by the Rust's `value_type`.
 pub fn kind(expr: &Expr) -> Kind {
-    match expr.value_type() {
+    kind_of(expr.value_type())
+}
+
+/// The kind that a type of the Rust is.
+pub fn kind_of(value_type: ValueType) -> Kind {
+    match value_type {
         ValueType::Vector => Kind::Vector,
         ValueType::Scalar => Kind::Scalar,
         ValueType::Matrix => Kind::Matrix,

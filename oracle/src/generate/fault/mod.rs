@@ -17,7 +17,7 @@ use crate::refusal::{self, WRONG_FLAG};
 /// The numbers that a page of this scope can be refused with: 5 depends on the buffer.
 pub fn numbers(scope: Scope) -> impl Iterator<Item = u8> {
     let has_flags = scope >= Scope::Patterns;
-    refusal::numbers().filter(move |number| match *number {
+    refusal::of_calls().filter(move |number| match *number {
         5 => false,
         WRONG_FLAG => has_flags,
         _ => true,

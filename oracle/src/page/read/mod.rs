@@ -224,7 +224,7 @@ fn is_metric_name_or_empty(text: &str) -> bool {
 }
 
 /// Like a metric name without `:`, not empty.
-fn is_function_name(text: &str) -> bool {
+pub fn is_function_name(text: &str) -> bool {
     is_name(text, |c| c.is_ascii_alphabetic() || c == '_')
 }
 
