@@ -2,10 +2,11 @@
 
 use crate::answer::{self, Answer, Domain, Failure, Outcome};
 use crate::chosen;
+use crate::functions::{names as table_names, spelling};
 use crate::generate::stream::{self, Sample};
 use crate::generate::{
-    bytes, counted_bytes, damaged, fault, fractions, good, ill_formed, long_texts, patterns, times,
-    well_formed, Scope,
+    bytes, counted_bytes, damaged, fault, fractions, functions, good, ill_formed, long_texts,
+    patterns, times, well_formed, Scope,
 };
 use crate::random::Random;
 use std::collections::HashSet;
@@ -13,14 +14,23 @@ use std::collections::HashSet;
 /// Where the list lies: it is the input of the program that replays it.
 pub const PATH: &str = concat!(env!("CARGO_MANIFEST_DIR"), "/../crates/vectors/stdin");
 
+/// Where the words of the check with the function table lie, in the list's order.
+pub const TABLE_PATH: &str = concat!(env!("CARGO_MANIFEST_DIR"), "/kept/table");
+
+/// Where names lie with the answers of the call for signatures.
+pub const SIGNATURES_PATH: &str = concat!(env!("CARGO_MANIFEST_DIR"), "/kept/signatures");
+
 const SEED: u64 = 20_261_115;
 
 /// The longest split text: it fills the program's buffer.
 const MAX_SPLIT: usize = 65_536;
 
-/// The pages in order: chosen ones first, then generated ones, those about flags, those with @ and offset; each with
-/// whether it may be outside document 01's domain. Of those about flags some are: No. 7 of document 02 says that they
-/// are believed.
+/// The longest signature of the table, in bytes.
+const MAX_SIGNATURE: usize = 8;
+
+/// The pages in order: chosen ones first, then generated ones, those about flags, those with @ and offset, those with
+/// calls of the function table; each with whether it may be outside document 01's domain. Of those about flags some
+/// are: No. 7 of document 02 says that they are believed.
 fn pages() -> impl Iterator<Item = (Vec<u8>, bool)> {
     let mut random = Random::new(SEED);
     let inside = stream::fixed()
@@ -29,7 +39,9 @@ fn pages() -> impl Iterator<Item = (Vec<u8>, bool)> {
         .map(|page| (page, false));
     let flagged = flagged(&mut random).into_iter().map(|page| (page, true));
     let timed = timed(&mut random).into_iter().map(|page| (page, false));
-    inside.chain(flagged).chain(timed)
+    let tabled = (0..300).map(|_| functions::random(&mut random).page);
+    let tabled: Vec<_> = tabled.map(|page| (page, false)).collect();
+    inside.chain(flagged).chain(timed).chain(tabled)
 }
 
 /// Pages of ASCII first, then pages with characters beyond it, then with fractions too, then with covered patterns.
@@ -154,6 +166,44 @@ pub fn list(entries: &[Entry]) -> Vec<u8> {
         for written in [&answer.copy, &answer.canonical, &answer.split] {
             put_bytes(&mut list, written);
         }
+    }
+    list
+}
+
+/// The words of the check with the function table, a word for each entry.
+pub fn table(entries: &[Entry]) -> Vec<u8> {
+    let words = entries.iter().map(|(_, answer)| answer.table.word(0));
+    words.flat_map(u64::to_le_bytes).collect()
+}
+
+/// Every name of the table, many that are near one, and others that are none: each once.
+pub fn names() -> Vec<Vec<u8>> {
+    let near = table_names().step_by(4).flat_map(spelling::near);
+    let strange = spelling::strangers().into_iter();
+    let others = near.chain(strange).map(String::into_bytes);
+    let none = [
+        b"".to_vec(),
+        b"\0".to_vec(),
+        b"abs\0".to_vec(),
+        b"ab\xff".to_vec(),
+        b"\xc3\xa9".to_vec(),
+    ];
+    let long = [65, 255, 256, 300, 65_539]
+        .map(|length| b"abs".iter().copied().cycle().take(length).collect());
+    let known = table_names().map(|name| name.as_bytes().to_vec());
+    let mut seen = HashSet::new();
+    let all = known.chain(others).chain(none).chain(long);
+    all.filter(|name| seen.insert(name.clone())).collect()
+}
+
+/// Each name with the word of the call for signatures that is lent eight bytes, and what it writes.
+pub fn signatures() -> Vec<u8> {
+    let mut list = Vec::new();
+    for name in names() {
+        let (word, written) = crate::functions::answer(&name, MAX_SIGNATURE);
+        put_bytes(&mut list, &name);
+        list.extend(word.to_le_bytes());
+        put_bytes(&mut list, &written);
     }
     list
 }

@@ -2,8 +2,10 @@
 
 use oracle::answer;
 use oracle::coverage::Coverage;
-use oracle::generate::{counted_bytes, fractions, ill_formed, patterns, times, well_formed, Made};
-use oracle::{chosen, kept};
+use oracle::generate::{
+    self, counted_bytes, fractions, ill_formed, patterns, times, well_formed, Made,
+};
+use oracle::{chosen, functions, kept};
 use std::collections::HashSet;
 
 #[test]
@@ -11,6 +13,19 @@ fn the_list_is_the_oracles() {
     let kept = std::fs::read(kept::PATH).expect("the list is there");
     let made = kept::entries().expect("the Rust is foreseen");
     assert!(kept == kept::list(&made), "write it again: oracle keep");
+    let table = std::fs::read(kept::TABLE_PATH).expect("the words are there");
+    assert!(table == kept::table(&made), "write it again: oracle keep");
+    assert_eq!(table.len(), 8 * made.len());
+}
+
+#[test]
+fn the_signatures_are_the_oracles() {
+    let kept = std::fs::read(kept::SIGNATURES_PATH).expect("the names are there");
+    assert!(kept == kept::signatures(), "write it again: oracle keep");
+    let names: HashSet<_> = kept::names().into_iter().collect();
+    assert!(functions::names().all(|name| names.contains(name.as_bytes())));
+    let unknown = names.len() - functions::names().count();
+    assert!(unknown > 1000, "{unknown}");
 }
 
 #[test]
@@ -64,4 +79,15 @@ fn the_list_has_the_patterns() {
 #[test]
 fn the_list_has_the_times() {
     assert_kept(times::fixed(), 300);
+}
+
+/// Calls of the function table, with its signatures and with others, and of names that it lacks.
+#[test]
+fn the_list_has_the_functions() {
+    let pages = generate::functions::fixed().map(|made| made.page);
+    assert_pages_kept(pages, 700);
+    // But for 255 nested calls, whose split text is too long for the list.
+    let is_short = |page: &Vec<u8>| page.len() < 1000;
+    let chosen = chosen::of_functions().iter().map(|row| row.bytes());
+    assert_pages_kept(chosen.filter(is_short), 30);
 }

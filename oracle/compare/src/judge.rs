@@ -13,7 +13,7 @@ const PAGE_BYTES: usize = 1 << 18;
 const BUFFER_BYTES: usize = 1 << 20;
 
 /// Bytes beside a buffer, on the side away from the guard, that no call may change.
-const MARGIN: usize = 64;
+pub(crate) const MARGIN: usize = 64;
 
 /// The memory of one thread.
 pub struct Judge {
@@ -68,6 +68,8 @@ impl Judge {
     fn calls(&mut self, lent: Lent, answer: &Answer) -> Result<(), String> {
         let label = answer.label.map_or(0, |part| part.word());
         self.asks("check", self.library.check, lent, answer.outcome.word(0))?;
+        let table = answer.table.word(0);
+        self.asks("check_table", self.library.check_table, lent, table)?;
         self.asks("joint_label", self.library.joint_label, lent, label)?;
         let Library {
             copy,
@@ -148,7 +150,12 @@ impl Judge {
 }
 
 /// Only the bytes at `at` have become another, and they are the text.
-fn is_written(before: &[u8], after: &[u8], at: usize, text: &[u8]) -> Result<(), String> {
+pub(crate) fn is_written(
+    before: &[u8],
+    after: &[u8],
+    at: usize,
+    text: &[u8],
+) -> Result<(), String> {
     let end = at + text.len();
     let pairs = after[at..end].iter().zip(text);
     let same = pairs.take_while(|(found, wanted)| found == wanted).count();
@@ -161,12 +168,12 @@ fn is_written(before: &[u8], after: &[u8], at: usize, text: &[u8]) -> Result<(),
     Ok(())
 }
 
-fn differing(library: String, oracle: String) -> String {
+pub(crate) fn differing(library: String, oracle: String) -> String {
     format!("{library}, the oracle {oracle}")
 }
 
 /// A word of the library, spelled out.
-fn words(name: &str, word: u64) -> String {
+pub(crate) fn words(name: &str, word: u64) -> String {
     if name == "joint_label" {
         return format!("label {}, {} bytes", word >> 8, word & 0xff);
     }

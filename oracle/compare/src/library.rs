@@ -1,9 +1,10 @@
-//! The library's face: six C functions; a slice passes as pointer and length.
+//! The library's face: eight C functions; a slice passes as pointer and length.
 
-/// `sandzguli_check`, `sandzguli_joint_label`; `sandzguli_pattern`, of which the bytes are a pattern.
+/// `sandzguli_check`, `sandzguli_check_table`, `sandzguli_joint_label`; `sandzguli_pattern`, of which the bytes are a
+/// pattern.
 pub type Asks = unsafe extern "C" fn(page: *const u8, page_len: usize) -> u64;
 
-/// `sandzguli_copy`, `sandzguli_canonical`, `sandzguli_split`.
+/// `sandzguli_copy`, `sandzguli_canonical`, `sandzguli_split`; `sandzguli_signature`, of which the bytes are a name.
 pub type Writes =
     unsafe extern "C" fn(page: *const u8, page_len: usize, out: *mut u8, out_len: usize) -> u64;
 
@@ -11,21 +12,25 @@ pub type Writes =
 #[derive(Clone, Copy)]
 pub struct Library {
     pub check: Asks,
+    pub check_table: Asks,
     pub joint_label: Asks,
     pub copy: Writes,
     pub canonical: Writes,
     pub split: Writes,
     pub pattern: Asks,
+    pub signature: Writes,
 }
 
 #[cfg(feature = "library")]
 extern "C" {
     fn sandzguli_check(page: *const u8, page_len: usize) -> u64;
+    fn sandzguli_check_table(page: *const u8, page_len: usize) -> u64;
     fn sandzguli_joint_label(page: *const u8, page_len: usize) -> u64;
     fn sandzguli_copy(page: *const u8, page_len: usize, out: *mut u8, out_len: usize) -> u64;
     fn sandzguli_canonical(page: *const u8, page_len: usize, out: *mut u8, out_len: usize) -> u64;
     fn sandzguli_split(page: *const u8, page_len: usize, out: *mut u8, out_len: usize) -> u64;
     fn sandzguli_pattern(pattern: *const u8, pattern_len: usize) -> u64;
+    fn sandzguli_signature(name: *const u8, name_len: usize, out: *mut u8, out_len: usize) -> u64;
 }
 
 #[cfg(feature = "library")]
@@ -34,11 +39,13 @@ impl Library {
     pub fn linked() -> Self {
         Self {
             check: sandzguli_check,
+            check_table: sandzguli_check_table,
             joint_label: sandzguli_joint_label,
             copy: sandzguli_copy,
             canonical: sandzguli_canonical,
             split: sandzguli_split,
             pattern: sandzguli_pattern,
+            signature: sandzguli_signature,
         }
     }
 }
@@ -58,11 +65,13 @@ impl Library {
     pub fn before() -> Self {
         Self {
             check: before_check,
+            check_table: missing,
             joint_label: before_joint_label,
             copy: before_copy,
             canonical: before_canonical,
             split: before_split,
             pattern: missing,
+            signature: missing_too,
         }
     }
 }
@@ -70,5 +79,11 @@ impl Library {
 /// The earliest archives have no such call, and no earlier one is asked.
 #[cfg(feature = "before")]
 unsafe extern "C" fn missing(_: *const u8, _: usize) -> u64 {
-    panic!("an earlier archive is not asked about patterns")
+    panic!("an earlier archive is not asked about patterns and functions")
+}
+
+/// The same of a call that writes.
+#[cfg(feature = "before")]
+unsafe extern "C" fn missing_too(_: *const u8, _: usize, _: *mut u8, _: usize) -> u64 {
+    panic!("an earlier archive is not asked about functions")
 }

@@ -2,7 +2,7 @@
 //!
 //!     oracle answer HEX         what document 01 answers to a page
 //!     oracle run SEED ROUNDS    generated pages, and the classes that they reached
-//!     oracle keep               writes the kept list again
+//!     oracle keep               writes the kept list again, and the answers about the function table beside it
 //!     oracle kept-pages FOLDER  writes each page of the kept list into a file of its own
 //!     oracle show               prints the records of framed pages from standard input, as the reading program does
 //!     oracle write              writes what the program `sheet` must write for the page on standard input
@@ -53,6 +53,7 @@ fn show(page: &[u8]) -> Result<(), String> {
     let worked = answer::work(page).map_err(|failure| failure.0)?;
     let answer = answer::of_worked(&worked);
     println!("{:?} ({:?})", answer.outcome, answer.domain);
+    println!("with the function table: {:?}", answer.table);
     if let Some(message) = worked.message {
         println!("the Rust: {message}");
     }
@@ -82,9 +83,16 @@ fn report(seed: &str, rounds: &str) -> Result<(), String> {
 fn keep() -> Result<(), String> {
     let entries = kept::entries().map_err(|failure| failure.0)?;
     let list = kept::list(&entries);
-    std::fs::write(kept::PATH, &list).map_err(|error| error.to_string())?;
+    for (path, bytes) in [
+        (kept::PATH, &list),
+        (kept::TABLE_PATH, &kept::table(&entries)),
+        (kept::SIGNATURES_PATH, &kept::signatures()),
+    ] {
+        std::fs::write(path, bytes).map_err(|error| format!("{path}: {error}"))?;
+    }
     let (pages, accepted) = kept::counts(&entries);
     println!("{pages} pages, {accepted} accepted, {} bytes", list.len());
+    println!("{} names", kept::names().len());
     Ok(())
 }
 

@@ -5,6 +5,7 @@ mod bench;
 mod characters;
 mod flags;
 mod fractions;
+mod functions;
 mod long;
 mod one_copy;
 mod patterns;
@@ -43,6 +44,11 @@ pub enum Expected {
     Sizes(usize, usize, usize),
     /// What the program writes.
     Writes(&'static str),
+    /// Document 01's check, and the check with the function table too.
+    Checks {
+        check: Outcome,
+        table: Outcome,
+    },
 }
 
 #[derive(Debug, Clone, Copy)]
@@ -74,9 +80,15 @@ pub fn rows() -> impl Iterator<Item = &'static Row> {
         flags::ROWS,
         patterns::ROWS,
         one_copy::ROWS,
+        functions::ROWS,
     ]
     .into_iter()
     .flatten()
+}
+
+/// The rows of document 02, No. 2.
+pub fn of_functions() -> &'static [Row] {
+    functions::ROWS
 }
 
 /// Rows outside document 01's domain: the page's flag decides what the pattern says about empty text.
@@ -91,7 +103,7 @@ pub fn outside() -> impl Iterator<Item = &'static Row> {
     .flatten()
 }
 
-/// The rows of the refusal table: No. 1 to 34, and 41.
+/// The rows of the refusal table: No. 1 to 34, 37, 38 and 41.
 pub fn refusal_table() -> &'static [Row] {
     refusals::ROWS
 }
@@ -142,6 +154,7 @@ impl Row {
                     )
             }
             Expected::Writes(text) => answer::program_output(answer) == spelled(text),
+            Expected::Checks { check, table } => (answer.outcome, answer.table) == (check, table),
         }
     }
 }
@@ -152,8 +165,9 @@ fn is_accepted(answer: &Answer) -> bool {
 
 fn brief(answer: &Answer) -> String {
     format!(
-        "{:?} {:?} sizes {}, {}, {}\n{}\n{}",
+        "{:?} {:?} {:?} sizes {}, {}, {}\n{}\n{}",
         answer.outcome,
+        answer.table,
         answer.label,
         answer.copy.len(),
         answer.canonical.len(),

@@ -8,9 +8,12 @@
 //!     compare fractions [COUNT]           many fractions through canonical text, so many of them random ones
 //!     compare patterns [COUNT]            all short patterns, nests that fill 255 bytes and so many random ones
 //!     compare copies [SEEDS]              pairs of pages of one query and of two, from so many seeds
+//!     compare functions [COUNT]           names of the function table, near ones and so many random ones through the
+//!                                         call for signatures; every name with every near signature through both checks
 
 use compare::copies;
 use compare::fractions::{self, Sizes};
+use compare::functions;
 use compare::library::Library;
 use compare::patterns;
 use compare::resume::Run;
@@ -21,7 +24,7 @@ use std::process::ExitCode;
 
 const USAGE: &str =
     "usage: compare fixed | seeds FIRST LAST THREADS [STATE] | texts | fractions [COUNT]
-       | patterns [COUNT] | copies [SEEDS]";
+       | patterns [COUNT] | copies [SEEDS] | functions [COUNT]";
 
 /// Seeds between two states: some ten seconds.
 const BLOCK: u64 = 1000;
@@ -43,6 +46,8 @@ fn main() -> ExitCode {
         ["patterns", count] => many_patterns(library, count).map(report_patterns),
         ["copies"] => copies::compare(library, copies::Sizes::USUAL).map(report_copies),
         ["copies", seeds] => many_copies(library, seeds).map(report_copies),
+        ["functions"] => functions::compare(library, functions::USUAL).map(report_functions),
+        ["functions", count] => many_functions(library, count).map(report_functions),
         _ => Err(USAGE.into()),
     };
     match result {
@@ -161,5 +166,18 @@ fn report_copies(tallies: copies::Tallies) {
         listed.pages + generated.pages,
         pairs.equal,
         pairs.unequal
+    );
+}
+
+fn many_functions(library: Library, count: &str) -> Result<functions::Tally, String> {
+    let random = count.parse().map_err(|_| USAGE)?;
+    functions::compare(library, random)
+}
+
+fn report_functions(tally: functions::Tally) {
+    println!(
+        "{} names of the table, {} others, {} calls for signatures; {} pages with {} calls refused by the table: no \
+         difference",
+        tally.known, tally.unknown, tally.calls, tally.pages, tally.refused
     );
 }

@@ -9,7 +9,7 @@ mod right;
 mod unknown;
 mod unlike;
 
-pub use right::counts;
+pub use right::{arguments, counts};
 
 use super::{Generator, Records, Scope};
 use crate::answer::Outcome;

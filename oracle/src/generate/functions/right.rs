@@ -20,7 +20,7 @@ pub fn counts(signature: &Signature) -> RangeInclusive<usize> {
 }
 
 /// So many arguments of the kinds that are declared.
-pub(super) fn arguments(signature: &Signature, count: usize) -> Records {
+pub fn arguments(signature: &Signature, count: usize) -> Records {
     let kinds = (0..count).map_while(|place| declared(signature, place));
     kinds.flat_map(shortest).collect()
 }
