@@ -5,15 +5,16 @@
 //! lists, signatures); only `Expr::new_*` and `check_ast` are timed, trees are dropped outside the time. 'from
 //! records': the parts are made and the tree is dropped within the time, but each pattern was compiled before and is
 //! taken from a cache. 'compiling': the same with `Matcher::new_matcher`, which compiles its pattern each time; the
-//! library has the page's flag instead and compiles nothing. `Display` and `prettify` are timed on ready trees. 'ends
-//! of records' is no call of the library: a loop that finds where records end and tests nothing, beside the
+//! library has the page's flag instead and compiles nothing. `Display` and `prettify` are timed on ready trees. 'looked
+//! up': as 'from records', with the function of each call from the Rust's own table and compared with the carried one.
+//! 'ends of records' is no call of the library: a loop that finds where records end and tests nothing, beside the
 //! 'constructors', as a floor for every check.
 
 use crate::clock::nanoseconds;
 use crate::ends;
 use crate::library::{Asks, Library, Writes};
 use oracle::answer::{self, Worked};
-use oracle::generate::{everyday, nesting};
+use oracle::generate::{everyday, functions, nesting};
 use oracle::page::record::Record;
 use oracle::random::Random;
 use oracle::tree::Ready;
@@ -30,6 +31,9 @@ const ROUND_NANOSECONDS: f64 = 2e6;
 pub(crate) const SIZES: [(&str, usize, usize); 3] =
     [("small", 5, 800), ("medium", 40, 100), ("large", 250, 16)];
 
+/// Pages of nested calls, all alike.
+const NESTED_PAGES: usize = 16;
+
 /// Room for every text.
 const BUFFER_BYTES: usize = 1 << 20;
 
@@ -44,8 +48,22 @@ pub fn print(library: &Library) {
         println!("{words}: {records} records, {} bytes", bytes / count);
         print_calls(library, &subject);
     }
+    print_functions(library);
     print_nested("canonical", library.canonical);
     print_nested("split", library.split);
+}
+
+/// Both checks on 255 nested calls; beside the check with the table the Rust looks each function up by its name.
+fn print_functions(library: &Library) {
+    let pages = vec![functions::nested_abs(); NESTED_PAGES];
+    let subject = Subject::new(&pages);
+    println!("255 nested calls, {} bytes", pages[0].len());
+    let rust = || subject.built_from_records(|record| Ready::from(record));
+    let (ours, rust) = subject.beside(|| subject.asked(library.check), rust);
+    print_row("check, from records", ours, Some(rust));
+    let rust = || subject.built_from_records(Ready::looked_up);
+    let (ours, rust) = subject.beside(|| subject.asked(library.check_table), rust);
+    print_row("check_table, looked up", ours, Some(rust));
 }
 
 /// Pages of so many records.

@@ -5,7 +5,8 @@ use crate::bench::{everyday_pages, Subject, ROUNDS, SIZES};
 use crate::instructions;
 use crate::library::{Library, Writes};
 
-/// Prints nanoseconds a page: all calls on pages of three sizes, then check on selectors with long values.
+/// Prints nanoseconds a page: all calls on pages of three sizes, then check on selectors with long values and on nested
+/// calls; of these last the check with the function table too, which an earlier archive may not have.
 pub fn print(before: &Library, after: &Library) {
     println!("nanoseconds of CPU time a page, the least of {ROUNDS} alternating rounds");
     println!("                           before       after   ratio");
@@ -18,11 +19,23 @@ pub fn print(before: &Library, after: &Library) {
         print_writes("canonical", &subject, before.canonical, after.canonical);
         print_writes("split", &subject, before.split, after.split);
     }
-    let [_, values] = &instructions::SETS;
+    let [_, values, functions] = &instructions::SETS;
     println!("check, values of so many bytes");
     for name in values.pages {
         let pages = instructions::pages(name).expect("a page with these values");
         print_check(name, &Subject::new(&pages), before, after);
+    }
+    for name in functions.pages {
+        let pages = instructions::pages(name).expect("a page of these calls");
+        let subject = Subject::new(&pages);
+        println!("{name}");
+        print_check("check", &subject, before, after);
+        let times = subject.beside(
+            || subject.asked(after.check),
+            || subject.asked(after.check_table),
+        );
+        println!("after: check, and check_table");
+        print_row("", times);
     }
 }
 

@@ -4,7 +4,7 @@
 use crate::callgrind::{self, Profile};
 use crate::pattern_costs;
 use oracle::generate::fractions::fills;
-use oracle::generate::long_texts;
+use oracle::generate::{functions, long_texts};
 use oracle::hex;
 use oracle::page::record::{Fraction, Number};
 use std::path::Path;
@@ -26,8 +26,12 @@ pub struct Set {
     pub tables: &'static [Table],
 }
 
-/// All calls on pages of so many records; check on selectors with so many values of so many bytes.
-pub const SETS: [Set; 2] = [
+/// The page of 255 nested calls of the function table.
+const NESTED: &str = "255 nested calls";
+
+/// All calls on pages of so many records; check on selectors with so many values of so many bytes; both checks on
+/// nested calls.
+pub const SETS: [Set; 3] = [
     Set {
         calls: &["check", "copy", "canonical", "split"],
         pages: &["5", "40", "250"],
@@ -48,6 +52,11 @@ pub const SETS: [Set; 2] = [
             "16 of 255",
         ],
         tables: &[("Instructions, values", |profile| profile.instructions)],
+    },
+    Set {
+        calls: &["check", "check_table"],
+        pages: &[NESTED],
+        tables: &[("Instructions, functions", |profile| profile.instructions)],
     },
 ];
 
@@ -83,8 +92,12 @@ fn filled(name: &str) -> Option<Vec<u8>> {
     Some(fills::repeated(fills, 60))
 }
 
-/// The pages of a column: of so many records, the one with so many patterns or values, or the one with such fills.
+/// The pages of a column: of so many records, the one with so many patterns or values, the one with such fills, or the
+/// one of nested calls.
 pub fn pages(name: &str) -> Option<Vec<Vec<u8>>> {
+    if name == NESTED {
+        return Some(vec![functions::nested_abs()]);
+    }
     if let Some(page) = pattern_costs::page(name) {
         return Some(vec![page]);
     }

@@ -112,7 +112,7 @@ fn columns(figures: [u64; 2]) -> Columns {
 
 #[test]
 fn figures_above_the_newest_row_are_found() {
-    let [set, _] = &instructions::SETS;
+    let [set, ..] = &instructions::SETS;
     let document = instructions::tables(set, &columns([1_000, 2_000_000]));
     let newer = document.replace(
         "| 2,000,000 |",
@@ -145,7 +145,7 @@ fn pages_have_their_records() {
 
 #[test]
 fn pages_have_their_values() {
-    let [_, set] = &instructions::SETS;
+    let [_, set, _] = &instructions::SETS;
     for name in set.pages {
         let pages = instructions::pages(name).expect("a page with these values");
         let (count, length) = name.split_once(" of ").expect("a count and a length");
@@ -183,4 +183,18 @@ fn pages_have_their_fills() {
         assert_eq!((fills.len(), fractions.count()), (120, expected), "{name}");
     }
     assert!(instructions::pages("whole, 2 digits").is_none());
+}
+
+#[test]
+fn pages_have_their_calls() {
+    let [.., set] = &instructions::SETS;
+    let [name] = set.pages else {
+        panic!("one page");
+    };
+    let pages = instructions::pages(name).expect("a page with these calls");
+    let worked = answer::work(&pages[0]).expect("the Rust is foreseen");
+    assert!(matches!(worked.table, Outcome::Accepted(_)));
+    let is_call = |record: &&Record| matches!(record, Record::Call { .. });
+    assert_eq!(worked.records.iter().filter(is_call).count(), 255);
+    assert!(name.starts_with("255 ") && pages.len() == 1);
 }

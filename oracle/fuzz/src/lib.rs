@@ -1,12 +1,13 @@
-//! What libFuzzer runs on each input: the library's five calls on it as a page, and the call for patterns on it and on
-//! the values of its matchers, held against the oracle as `compare` does.
+//! What libFuzzer runs on each input: the library's six calls on it as a page, the call for patterns on it and on the
+//! values of its matchers, and the call for signatures on it and on the names of its calls, held against the oracle as
+//! `compare` does.
 
 #[cfg(feature = "planted")]
 mod planted;
 
 use compare::judge::Judge;
 use compare::library::Library;
-use compare::patterns::Asker;
+use compare::{functions, patterns};
 use oracle::answer::{self, Worked};
 use oracle::hex;
 use oracle::page::record::Record;
@@ -26,15 +27,28 @@ fn library() -> Library {
 fn compare(page: &[u8]) -> Result<(), String> {
     thread_local! {
         static JUDGE: RefCell<Judge> = RefCell::new(Judge::new(library(), SEED));
-        static ASKER: RefCell<Asker> = RefCell::new(Asker::new(library()));
+        static PATTERNS: RefCell<patterns::Asker> = RefCell::new(patterns::Asker::new(library()));
+        static FUNCTIONS: RefCell<functions::Asker> = RefCell::new(functions::Asker::new(library()));
     }
     let worked = answer::work(page)
         .map_err(|failure| format!("{}\npage: {}", failure.0, hex::text(page)))?;
     let answer = answer::of_worked(&worked);
     JUDGE.with_borrow_mut(|judge| judge.compare(page, &answer))?;
-    ASKER.with_borrow_mut(|asker| {
+    PATTERNS.with_borrow_mut(|asker| {
         asker.compare(page)?;
         values(&worked).try_for_each(|value| asker.compare(value))
+    })?;
+    FUNCTIONS.with_borrow_mut(|asker| {
+        asker.compare(page)?;
+        names(&worked).try_for_each(|name| asker.compare(name))
+    })
+}
+
+/// The names of all calls that were read.
+fn names<'w>(worked: &'w Worked) -> impl Iterator<Item = &'w [u8]> {
+    worked.records.iter().filter_map(|record| match record {
+        Record::Call { signature, .. } => Some(signature.name.text.as_bytes()),
+        _ => None,
     })
 }
 

@@ -71,6 +71,27 @@ impl Ready {
         }
     }
 
+    /// The parts of a call with the function that the Rust's own table has under the name, which must be the carried one
+    /// but for its mark `experimental`.
+    pub fn looked_up(record: &Record) -> Self {
+        match Ready::from(record) {
+            Ready::Call(carried, arguments) => {
+                let known = door::get_function(carried.name).expect("a function of the table");
+                let experimental = known.experimental;
+                assert!(
+                    known
+                        == Function {
+                            experimental,
+                            ..carried
+                        },
+                    "a like signature"
+                );
+                Ready::Call(known, arguments)
+            }
+            other => other,
+        }
+    }
+
     /// The constructor, on operands taken from the end of the stack; they were counted.
     pub fn construct(self, stack: &mut Vec<Expr>) -> Result<Expr, String> {
         match self {

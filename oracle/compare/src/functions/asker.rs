@@ -41,13 +41,7 @@ impl Asker {
         for end in End::BOTH {
             let start = self.name.put(end, name);
             for lent in LENGTHS {
-                self.ask(end, start, name, lent).map_err(|words| {
-                    let shown = &name[..name.len().min(100)];
-                    let [text, bytes] = [String::from_utf8_lossy(shown).into(), hex::text(shown)];
-                    format!(
-                        "signature, {end:?}, {lent} bytes lent: {words}: {text:?}\nname: {bytes}"
-                    )
-                })?;
+                self.ask(end, start, name, lent)?;
             }
             if self.name.bytes(end, name.len()) != name {
                 return Err(format!("the name has changed\nname: {}", hex::text(name)));
@@ -72,6 +66,21 @@ impl Asker {
     }
 
     fn ask(&mut self, end: End, start: *const u8, name: &[u8], lent: usize) -> Result<(), String> {
+        self.asked(end, start, name, lent).map_err(|words| {
+            let shown = &name[..name.len().min(100)];
+            let text = String::from_utf8_lossy(shown);
+            let bytes = hex::text(shown);
+            format!("signature, {end:?}, {lent} bytes lent: {words}: {text:?}\nname: {bytes}")
+        })
+    }
+
+    fn asked(
+        &mut self,
+        end: End,
+        start: *const u8,
+        name: &[u8],
+        lent: usize,
+    ) -> Result<(), String> {
         self.tally.calls += 1;
         let before: Vec<u8> = (0..lent + MARGIN).map(|_| self.random.byte()).collect();
         self.buffer.put(end, &before);

@@ -2,6 +2,7 @@
 
 mod copies;
 mod fractions;
+mod functions;
 mod patterns;
 mod planted;
 mod resume;

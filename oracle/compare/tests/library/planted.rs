@@ -1,6 +1,7 @@
 //! The comparison passes a library that answers by the oracle, and finds every planted fault.
 
 use crate::standin::{self, flags, fraction_texts, fractions, straying, texts};
+use compare::functions;
 use compare::library::Library;
 use compare::patterns::{self, Sizes};
 use compare::run;
@@ -87,6 +88,7 @@ fn a_straying_library_runs() {
             random: 0,
         };
         let _ = patterns::compare(library, sizes);
+        let _ = functions::compare(library, 0);
     }
 }
 

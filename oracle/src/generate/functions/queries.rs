@@ -25,7 +25,10 @@ impl Generator<'_> {
         let signature = *self.random.pick(&fitting);
         let counts = counts(signature);
         let most = (*counts.end()).min(signature.kinds.len() + 2);
-        let count = self.random.between(*counts.start(), most);
+        let count = match self.random.below(8) {
+            0 => *counts.end(),
+            _ => self.random.between(*counts.start(), most),
+        };
         let kinds: Vec<Kind> = (0..count)
             .map_while(|place| declared(signature, place))
             .collect();

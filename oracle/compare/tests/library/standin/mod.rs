@@ -4,22 +4,25 @@ pub mod copies;
 pub mod flags;
 pub mod fraction_texts;
 pub mod fractions;
+pub mod functions;
 pub mod patterns;
 pub mod straying;
 pub mod texts;
 
 use compare::library::Library;
 use oracle::answer::{self, Answer, Outcome};
-use oracle::covered;
+use oracle::{covered, functions as table};
 
 pub fn whole() -> Library {
     Library {
         check,
+        check_table,
         joint_label,
         copy,
         canonical,
         split,
         pattern,
+        signature,
     }
 }
 
@@ -73,6 +76,10 @@ extern "C" fn check(page: *const u8, length: usize) -> u64 {
     answer(page, length).outcome.word(0)
 }
 
+extern "C" fn check_table(page: *const u8, length: usize) -> u64 {
+    answer(page, length).table.word(0)
+}
+
 extern "C" fn joint_label(page: *const u8, length: usize) -> u64 {
     answer(page, length).label.map_or(0, |part| part.word())
 }
@@ -94,6 +101,12 @@ extern "C" fn split(page: *const u8, length: usize, out: *mut u8, out_length: us
 
 extern "C" fn pattern(pattern: *const u8, length: usize) -> u64 {
     covered::word(slice(pattern, length))
+}
+
+extern "C" fn signature(name: *const u8, length: usize, out: *mut u8, out_length: usize) -> u64 {
+    let (word, written) = table::answer(slice(name, length), out_length);
+    buffer(out, out_length)[..written.len()].copy_from_slice(&written);
+    word
 }
 
 extern "C" fn check_late(page: *const u8, length: usize) -> u64 {

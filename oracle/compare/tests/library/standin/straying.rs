@@ -1,6 +1,6 @@
 //! Libraries that read or write where they must not: the machine stops them.
 
-use super::{check, copy, patterns, whole};
+use super::{check, copy, functions, patterns, whole};
 use compare::library::Library;
 
 pub fn library(name: &str) -> Library {
@@ -30,17 +30,37 @@ pub fn library(name: &str) -> Library {
             pattern: patterns::writes_pattern,
             ..whole
         },
+        "reads behind the name" => Library {
+            signature: functions::reads_behind,
+            ..whole
+        },
+        "writes to the name" => Library {
+            signature: functions::writes_name,
+            ..whole
+        },
+        "writes behind the signature" => Library {
+            signature: functions::writes_behind,
+            ..whole
+        },
+        "asks the table behind the page" => Library {
+            check_table: reads_behind,
+            ..whole
+        },
         _ => panic!("no such library"),
     }
 }
 
-pub const ALL: [&str; 6] = [
+pub const ALL: [&str; 10] = [
     "reads behind the page",
     "reads before the page",
     "writes behind the buffer",
     "writes to the page",
     "reads behind the pattern",
     "writes to the pattern",
+    "reads behind the name",
+    "writes to the name",
+    "writes behind the signature",
+    "asks the table behind the page",
 ];
 
 extern "C" fn reads_behind(page: *const u8, length: usize) -> u64 {
