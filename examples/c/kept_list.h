@@ -21,6 +21,13 @@ struct entry {
     struct part split;
 };
 
+/* A name, with the word of the call for signatures that is lent eight bytes and what it writes. */
+struct signature_entry {
+    struct part name;
+    uint64_t word;
+    struct part written;
+};
+
 /* A list that is cut short is no list. */
 static inline void read_whole(FILE *list, uint8_t *bytes, size_t length) {
     if (fread(bytes, 1, length, list) != length) {
@@ -77,6 +84,19 @@ static inline void free_entry(struct entry *entry) {
     free(entry->copy.bytes);
     free(entry->canonical.bytes);
     free(entry->split.bytes);
+}
+
+static inline struct signature_entry read_signature_entry(FILE *list) {
+    struct signature_entry entry;
+    entry.name = read_part(list);
+    entry.word = read_little_endian(list, 8);
+    entry.written = read_part(list);
+    return entry;
+}
+
+static inline void free_signature_entry(struct signature_entry *entry) {
+    free(entry->name.bytes);
+    free(entry->written.bytes);
 }
 
 #endif

@@ -1,4 +1,7 @@
-/* The five calls on every page of the kept list (standard input), held against the answers there. */
+/* The calls on every page of the kept list (standard input), held against the answers there; the check with the function
+ * table against its words, and the call for signatures on names (oracle/KEPT.md):
+ *
+ *     replay_kept oracle/kept/table oracle/kept/signatures <crates/vectors/stdin */
 #include "kept_list.h"
 #include "sandzguli.h"
 
@@ -56,24 +59,85 @@ static void replay_writing(const struct entry *entry, writes *call, const struct
     }
 }
 
-static void replay(const struct entry *entry, size_t index) {
+static void replay(const struct entry *entry, uint64_t table_word, size_t index) {
     const struct part *page = &entry->page;
     expect(sandzguli_check(page->bytes, page->length) == entry->word, "the word of check", index);
+    expect(sandzguli_check_table(page->bytes, page->length) == table_word, "the word of check_table", index);
     expect(sandzguli_joint_label(page->bytes, page->length) == entry->label, "the label of 19", index);
-    calls += 2;
+    calls += 3;
     replay_writing(entry, sandzguli_copy, &entry->copy, index);
     replay_writing(entry, sandzguli_canonical, &entry->canonical, index);
     replay_writing(entry, sandzguli_split, &entry->split, index);
 }
 
-int main(void) {
+/* The call for the signature of a name, lent a buffer of this length. */
+static void replay_signature(const struct signature_entry *entry, size_t room, size_t index) {
+    const struct part *name = &entry->name;
+    struct part out = new_part(room);
+    memset(out.bytes, FILLING, room);
+    sandzguli_outcome outcome = sandzguli_signature(name->bytes, name->length, out.bytes, room);
+    calls += 1;
+    if (!sandzguli_is_refused(entry->word) && room < entry->written.length) {
+        expect(sandzguli_refusal_of(outcome) == SANDZGULI_OUTPUT_TOO_SHORT, "too short for a signature", index);
+        expect(sandzguli_record_of(outcome) == 0, "too short at 0", index);
+        expect(is_filling(out.bytes, room), "too short changes no byte", index);
+    } else {
+        size_t length = entry->written.length;
+        expect(outcome == entry->word, "the word of signature", index);
+        expect(length == 0 || memcmp(out.bytes, entry->written.bytes, length) == 0, "the signature", index);
+        expect(is_filling(out.bytes + length, room - length), "the bytes behind a signature", index);
+    }
+    free(out.bytes);
+}
+
+/* All names, each with exactly enough room, more, and one byte less. */
+static size_t replay_signatures(FILE *list) {
     size_t index = 0;
-    while (!is_at_end(stdin)) {
-        struct entry entry = read_entry(stdin);
-        replay(&entry, index);
+    while (!is_at_end(list)) {
+        struct signature_entry entry = read_signature_entry(list);
+        replay_signature(&entry, entry.written.length, index);
+        replay_signature(&entry, entry.written.length + 7, index);
+        if (entry.written.length > 0) {
+            replay_signature(&entry, entry.written.length - 1, index);
+        }
+        free_signature_entry(&entry);
+        index++;
+    }
+    return index;
+}
+
+static size_t replay_pages(FILE *list, FILE *table) {
+    size_t index = 0;
+    while (!is_at_end(list)) {
+        struct entry entry = read_entry(list);
+        replay(&entry, read_little_endian(table, 8), index);
         free_entry(&entry);
         index++;
     }
-    printf("%zu pages, %zu calls: as the list has it\n", index, calls);
-    return index == 0;
+    expect(is_at_end(table), "as many words as pages", index);
+    return index;
+}
+
+static FILE *opened(const char *path) {
+    FILE *file = fopen(path, "rb");
+    if (file == NULL) {
+        fprintf(stderr, "%s cannot be read\n", path);
+        exit(EXIT_FAILURE);
+    }
+    return file;
+}
+
+int main(int count, char **words) {
+    if (count != 3) {
+        fprintf(stderr, "usage: replay_kept TABLE SIGNATURES <LIST\n");
+        return EXIT_FAILURE;
+    }
+    FILE *table = opened(words[1]);
+    FILE *signatures = opened(words[2]);
+    size_t pages = replay_pages(stdin, table);
+    size_t names = replay_signatures(signatures);
+    fclose(table);
+    fclose(signatures);
+    printf("%zu pages, %zu names, %zu calls: as the list has it\n", pages, names, calls);
+    return pages == 0 || names == 0;
 }

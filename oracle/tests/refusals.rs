@@ -19,6 +19,16 @@ struct Row {
     record: usize,
 }
 
+/// The numbers whose column of calls has these words.
+fn given_by(words: &str) -> Vec<u8> {
+    let number = |line: &str| {
+        let cells: Vec<_> = line.trim_matches('|').split(" | ").map(str::trim).collect();
+        let is_given = cells.last() == Some(&words);
+        cells[0].parse().ok().filter(|_| is_given)
+    };
+    DOCUMENT.lines().filter_map(number).collect()
+}
+
 /// The rows of the document's table.
 fn told() -> Vec<Row> {
     let row = |line: &str| {
@@ -112,4 +122,15 @@ fn the_document_has_the_chosen_pages() {
         told().into_iter().map(|row| row.page).collect::<Vec<_>>(),
         pages
     );
+}
+
+/// Which numbers the check with the function table gives, and which it alone.
+#[test]
+fn the_document_has_the_calls_of_each_number() {
+    assert_eq!(given_by("table check"), OF_TABLE);
+    let mut by_table = [given_by("all"), given_by("table check")].concat();
+    by_table.sort();
+    let mut numbers: Vec<u8> = refusal::of_table_check().collect();
+    numbers.sort();
+    assert_eq!(by_table, numbers);
 }

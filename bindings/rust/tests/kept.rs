@@ -1,4 +1,5 @@
-//! The functions answer as the Rust does on the kept list; its records are read, and written as they stand there.
+//! The functions answer as the Rust does on the kept list, with the function table too, and on the names beside it; the
+//! list's records are read, and written as they stand there.
 
 mod support;
 
@@ -8,11 +9,16 @@ use support::Entry;
 
 /// The outcome that the list has for a page.
 fn outcome(entry: &Entry) -> Result<Kind, Refusal> {
-    if entry.word < 1 << 63 {
-        return Ok(Kind::of_number(entry.word).expect("a kind"));
+    of_word(entry.word)
+}
+
+/// The outcome that a word stands for; of one that wrote bytes the kind alone.
+fn of_word(word: u64) -> Result<Kind, Refusal> {
+    if word < 1 << 63 {
+        return Ok(Kind::of_number(word & 3).expect("a kind"));
     }
-    let rule = Rule::of_number(entry.word >> 16 & 0xff).expect("a rule");
-    let record = (entry.word & 0xffff) as usize;
+    let rule = Rule::of_number(word >> 16 & 0xff).expect("a rule");
+    let record = (word & 0xffff) as usize;
     Err(Refusal::new(rule, record))
 }
 
@@ -32,6 +38,44 @@ fn calls_answer_as_the_list_has_it() {
         let label = is_joint.then(|| &page[start..start + length]);
         assert_eq!(sandzguli::joint_label(page).map(str::as_bytes), label);
     }
+}
+
+#[test]
+fn the_table_check_answers_as_the_list_has_it() {
+    let mut refused = [0; 2];
+    for entry in support::entries() {
+        let outcome = of_word(entry.table);
+        assert_eq!(sandzguli::check_table(&entry.page), outcome);
+        match outcome.map_err(|refusal| refusal.rule) {
+            Err(Rule::UnknownFunction) => refused[0] += 1,
+            Err(Rule::UnlikeSignature) => refused[1] += 1,
+            _ => assert_eq!(entry.table, entry.word),
+        }
+    }
+    assert!(refused.iter().all(|count| *count > 500), "{refused:?}");
+}
+
+#[test]
+fn signatures_are_those_of_the_list() {
+    let mut known = 0;
+    for entry in support::signatures() {
+        let mut out = [0xa5; 10];
+        let written = sandzguli::signature_into(&entry.name, &mut out);
+        let kind = written.map(|written| written.kind);
+        assert_eq!(kind, of_word(entry.word));
+        let length = written.map_or(0, |written| written.bytes);
+        assert_eq!(out[..length], entry.written);
+        assert!(out[length..].iter().all(|byte| *byte == 0xa5));
+        assert_eq!(sandzguli::signature(&entry.name).is_some(), kind.is_ok());
+        if let Some(short) = length.checked_sub(1) {
+            let mut out = [0xa5; 10];
+            let refusal = sandzguli::signature_into(&entry.name, &mut out[..short]).unwrap_err();
+            assert_eq!(refusal, Refusal::new(Rule::OutputTooShort, 0));
+            assert_eq!(out, [0xa5; 10]);
+            known += 1;
+        }
+    }
+    assert_eq!(known, 91);
 }
 
 #[test]

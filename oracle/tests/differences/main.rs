@@ -5,6 +5,7 @@ mod answers;
 mod copies;
 mod document;
 mod flags;
+mod functions;
 mod queries;
 mod records;
 mod search;

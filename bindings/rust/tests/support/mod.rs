@@ -2,12 +2,20 @@
 
 const LIST: &[u8] = include_bytes!("../../../../crates/vectors/stdin");
 
+/// The words of the check with the function table, one for each entry.
+const TABLE: &[u8] = include_bytes!("../../../../oracle/kept/table");
+
+/// Names with the answers of the call for signatures.
+const SIGNATURES: &[u8] = include_bytes!("../../../../oracle/kept/signatures");
+
 /// A page and what the Rust answers. Not every test asks for all of it.
 #[allow(dead_code)]
 pub struct Entry {
     pub page: Vec<u8>,
     /// The word of check.
     pub word: u64,
+    /// The word of the check with the function table.
+    pub table: u64,
     /// Where the label of 19 starts, and its length.
     pub label: (usize, usize),
     pub copy: Vec<u8>,
@@ -28,13 +36,14 @@ fn bytes(list: &mut &[u8]) -> Vec<u8> {
     bytes.to_vec()
 }
 
-fn entry(list: &mut &[u8]) -> Entry {
+fn entry(list: &mut &[u8], table: &mut &[u8]) -> Entry {
     let page = bytes(list);
     let outcome = word(list);
     let label = word(list);
     Entry {
         page,
         word: outcome,
+        table: word(table),
         label: ((label >> 8) as usize, (label & 0xff) as usize),
         copy: bytes(list),
         canonical: bytes(list),
@@ -44,11 +53,36 @@ fn entry(list: &mut &[u8]) -> Entry {
 
 /// The whole list.
 pub fn entries() -> Vec<Entry> {
-    let mut list = LIST;
+    let [mut list, mut table] = [LIST, TABLE];
     let mut entries = Vec::new();
     while !list.is_empty() {
-        entries.push(entry(&mut list));
+        entries.push(entry(&mut list, &mut table));
     }
     assert!(entries.len() > 3000, "the list is whole");
+    assert!(table.is_empty(), "a word for each entry");
     entries
+}
+
+/// A name and what the call for signatures answers that is lent eight bytes.
+#[allow(dead_code)]
+pub struct Signature {
+    pub name: Vec<u8>,
+    pub word: u64,
+    pub written: Vec<u8>,
+}
+
+/// All names.
+#[allow(dead_code)]
+pub fn signatures() -> Vec<Signature> {
+    let mut list = SIGNATURES;
+    let mut signatures = Vec::new();
+    while !list.is_empty() {
+        signatures.push(Signature {
+            name: bytes(&mut list),
+            word: word(&mut list),
+            written: bytes(&mut list),
+        });
+    }
+    assert!(signatures.len() > 1000, "the names are whole");
+    signatures
 }

@@ -1,4 +1,4 @@
-//! Rows 1 to 5 and 9 to 11: the port and the Rust.
+//! Rows 1 to 5 and 9 to 12: the port and the Rust.
 
 use super::{is_smallest, TEXTS};
 use crate::answers::with_true_flags;
@@ -143,5 +143,24 @@ fn row_11b_tree_that_is_not_itself() {
     is_smallest_operator("11b", TEXTS, |worked| {
         let tree = worked.checked.as_ref().map(|(tree, _)| tree);
         tree != tree.cloned().as_ref()
+    });
+}
+
+/// Whether the check with the function table refuses the page so.
+fn is_refused_by_table(page: &Worked, refusal: u8) -> bool {
+    matches!(page.table, Outcome::Refused { number, .. } if number == refusal)
+}
+
+#[test]
+fn row_12a_unknown_function() {
+    is_smallest("12a", 11, |page| {
+        is_refused_by_table(page, refusal::UNKNOWN_FUNCTION)
+    });
+}
+
+#[test]
+fn row_12b_unlike_signature() {
+    is_smallest("12b", 11, |page| {
+        is_refused_by_table(page, refusal::UNLIKE_SIGNATURE)
     });
 }
