@@ -1,5 +1,5 @@
-/* The calls on every page of the kept list (standard input), held against the answers there; the check with the function
- * table against its words, and the call for signatures on names (oracle/KEPT.md):
+/* The calls on every page of the kept list (standard input), held against the answers there; the check with the
+ * function table against its words, and the call for signatures on names (oracle/KEPT.md):
  *
  *     replay_kept oracle/kept/table oracle/kept/signatures <crates/vectors/stdin */
 #include "kept_list.h"

@@ -1,5 +1,5 @@
-//! The function table (document 02, No. 2): it is the compiled one, and whole; what is generated has the outcome that it
-//! was made for, and the sentences of the request are true of the oracle's answers.
+//! The function table (document 02, No. 2): it is the compiled one, and whole; what is generated has the outcome that
+//! it was made for, and the sentences of the request are true of the oracle's answers.
 
 use oracle::answer::{self, Answer, Outcome};
 use oracle::functions::near::{self, Unlike};
@@ -8,7 +8,6 @@ use oracle::functions::{self, names, signatures};
 use oracle::generate::functions::{fixed, nested_abs, random, Tabled};
 use oracle::generate::stream;
 use oracle::hex;
-use oracle::page::read::Reader;
 use oracle::page::record::{Extra, Kind, Record, Signature, Text};
 use oracle::page::write;
 use oracle::random::Random;
@@ -211,53 +210,6 @@ fn the_literal_exception_is_as_before() {
             record: 1,
         };
         assert_eq!(answer(&page(&other)).table, unlike, "{name}");
-    }
-}
-
-/// What is written of a name reads, between the name and a count, as a call with the table's signature.
-#[test]
-fn signatures_are_read_back() {
-    for known in signatures() {
-        let name = known.name.text.as_bytes();
-        for lent in 0..=10 {
-            let (word, written) = functions::answer(name, lent);
-            let bytes = functions::bytes(known);
-            if lent < bytes.len() {
-                assert_eq!((word, written.len()), (refused(5).word(0), 0));
-                continue;
-            }
-            assert_eq!(
-                (word >> 2, word & 3),
-                (bytes.len() as u64, known.result.number())
-            );
-            let record = [&[11, name.len() as u8], name, &written, &[3]].concat();
-            let Ok(Record::Call {
-                signature,
-                arguments: 3,
-            }) = Reader::new(&record).record()
-            else {
-                panic!("{}", known.name.text);
-            };
-            assert_eq!(functions::bytes(&signature), bytes);
-            assert_eq!(signature.name.text, known.name.text);
-        }
-    }
-    let long = b"abs".repeat(100);
-    for name in [
-        b"".as_slice(),
-        b"Abs",
-        b"ab",
-        b"abs\0",
-        b"abs\xff",
-        "é".as_bytes(),
-        &long,
-    ] {
-        for lent in [0, 8, 10] {
-            assert_eq!(
-                functions::answer(name, lent),
-                (refused(37).word(0), Vec::new())
-            );
-        }
     }
 }
 

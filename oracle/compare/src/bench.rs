@@ -31,9 +31,6 @@ const ROUND_NANOSECONDS: f64 = 2e6;
 pub(crate) const SIZES: [(&str, usize, usize); 3] =
     [("small", 5, 800), ("medium", 40, 100), ("large", 250, 16)];
 
-/// Pages of nested calls, all alike.
-const NESTED_PAGES: usize = 16;
-
 /// Room for every text.
 const BUFFER_BYTES: usize = 1 << 20;
 
@@ -55,7 +52,7 @@ pub fn print(library: &Library) {
 
 /// Both checks on 255 nested calls; beside the check with the table the Rust looks each function up by its name.
 fn print_functions(library: &Library) {
-    let pages = vec![functions::nested_abs(); NESTED_PAGES];
+    let pages = vec![functions::nested_abs(); 16];
     let subject = Subject::new(&pages);
     println!("255 nested calls, {} bytes", pages[0].len());
     let rust = || subject.built_from_records(|record| Ready::from(record));

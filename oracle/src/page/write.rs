@@ -138,6 +138,11 @@ pub fn signature(page: &mut Vec<u8>, signature: &Signature) {
     number(page, signature.result.number());
 }
 
+fn function(page: &mut Vec<u8>, called: &Signature) {
+    text(page, &called.name.text);
+    signature(page, called);
+}
+
 fn binary(page: &mut Vec<u8>, code: u8, given: &Option<Modifier>) {
     number(page, code.into());
     number(page, given.is_some().into());
@@ -191,8 +196,7 @@ pub fn record(page: &mut Vec<u8>, record: &Record) {
             signature: called,
             arguments,
         } => {
-            text(page, &called.name.text);
-            signature(page, called);
+            function(page, called);
             number(page, *arguments as u64);
         }
     }

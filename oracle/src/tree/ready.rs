@@ -71,8 +71,8 @@ impl Ready {
         }
     }
 
-    /// The parts of a call with the function that the Rust's own table has under the name, which must be the carried one
-    /// but for its mark `experimental`.
+    /// The parts of a call with the function that the Rust's own table has under the name, which must be the carried
+    /// one but for its mark `experimental`.
     pub fn looked_up(record: &Record) -> Self {
         match Ready::from(record) {
             Ready::Call(carried, arguments) => {

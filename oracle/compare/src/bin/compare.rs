@@ -9,7 +9,8 @@
 //!     compare patterns [COUNT]            all short patterns, nests that fill 255 bytes and so many random ones
 //!     compare copies [SEEDS]              pairs of pages of one query and of two, from so many seeds
 //!     compare functions [COUNT]           names of the function table, near ones and so many random ones through the
-//!                                         call for signatures; every name with every near signature through both checks
+//!                                         call for signatures; every name with every near signature through both
+//!                                         checks
 
 use compare::copies;
 use compare::fractions::{self, Sizes};

@@ -1,6 +1,6 @@
 //! Calls of the function table (document 02, No. 2): as the table has them (`right`), with signatures unlike it
-//! (`unlike`), with names that it lacks (`unknown`), with and beside other faults (`order`, `faults`), and in queries of
-//! any shape (`queries`).
+//! (`unlike`), with names that it lacks (`unknown`), with and beside other faults (`order`, `faults`), and in queries
+//! of any shape (`queries`).
 
 mod faults;
 mod order;

@@ -3,49 +3,20 @@
 use super::{check, copy, functions, patterns, whole};
 use compare::library::Library;
 
+#[rustfmt::skip]
 pub fn library(name: &str) -> Library {
     let whole = whole();
     match name {
-        "reads behind the page" => Library {
-            check: reads_behind,
-            ..whole
-        },
-        "reads before the page" => Library {
-            check: reads_before,
-            ..whole
-        },
-        "writes behind the buffer" => Library {
-            copy: writes_behind,
-            ..whole
-        },
-        "writes to the page" => Library {
-            copy: writes_page,
-            ..whole
-        },
-        "reads behind the pattern" => Library {
-            pattern: patterns::reads_behind,
-            ..whole
-        },
-        "writes to the pattern" => Library {
-            pattern: patterns::writes_pattern,
-            ..whole
-        },
-        "reads behind the name" => Library {
-            signature: functions::reads_behind,
-            ..whole
-        },
-        "writes to the name" => Library {
-            signature: functions::writes_name,
-            ..whole
-        },
-        "writes behind the signature" => Library {
-            signature: functions::writes_behind,
-            ..whole
-        },
-        "asks the table behind the page" => Library {
-            check_table: reads_behind,
-            ..whole
-        },
+        "reads behind the page" => Library { check: reads_behind, ..whole },
+        "reads before the page" => Library { check: reads_before, ..whole },
+        "asks the table behind the page" => Library { check_table: reads_behind, ..whole },
+        "writes behind the buffer" => Library { copy: writes_behind, ..whole },
+        "writes to the page" => Library { copy: writes_page, ..whole },
+        "reads behind the pattern" => Library { pattern: patterns::reads_behind, ..whole },
+        "writes to the pattern" => Library { pattern: patterns::writes_pattern, ..whole },
+        "reads behind the name" => Library { signature: functions::reads_behind, ..whole },
+        "writes to the name" => Library { signature: functions::writes_name, ..whole },
+        "writes behind the signature" => Library { signature: functions::writes_behind, ..whole },
         _ => panic!("no such library"),
     }
 }
