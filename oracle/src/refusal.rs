@@ -15,7 +15,7 @@ pub fn of_calls() -> impl Iterator<Item = u8> {
 }
 
 /// The numbers of the check with the function table, 37 and 38 behind the others. 5 is for buffers; 29 cannot arise,
-/// since no function of the table takes more arguments than it has kinds without having one.
+/// since the table's functions without kinds are fixed, so that their arguments give 26.
 pub fn of_table_check() -> impl Iterator<Item = u8> {
     let of_check = of_calls().filter(|number| !matches!(number, 5 | 29));
     of_check.chain([UNKNOWN_FUNCTION, UNLIKE_SIGNATURE])

@@ -69,30 +69,25 @@ extern "C" fn unlike_behind_operands(page: *const u8, length: usize) -> u64 {
     }
 }
 
-/// Only one of the calls is asked about: the first, or the last.
-fn asks_one(worked: &Worked, pick: fn(Vec<(usize, u8, bool)>) -> Option<(usize, u8, bool)>) -> u64 {
-    let is_call = |record: &Record| matches!(record, Record::Call { .. });
-    let calls = worked
-        .records
-        .iter()
-        .enumerate()
-        .filter(|(_, record)| is_call(record));
-    let judged = calls.map(|(place, record)| {
-        let fault = functions::fault(record);
-        (place, fault.unwrap_or(0), fault.is_some())
-    });
-    match pick(judged.collect()) {
-        Some((place, number, true)) => refused(number, place).word(0),
-        _ => worked.outcome.word(0),
-    }
+fn is_call(record: &Record) -> bool {
+    matches!(record, Record::Call { .. })
+}
+
+/// Only this record is asked about.
+fn asks_about(worked: &Worked, place: Option<usize>) -> u64 {
+    let fault = place.and_then(|place| Some((functions::fault(&worked.records[place])?, place)));
+    let outcome = fault.map_or(worked.outcome, |(number, place)| refused(number, place));
+    outcome.word(0)
 }
 
 extern "C" fn first_call(page: *const u8, length: usize) -> u64 {
-    asks_one(&worked(page, length), |calls| calls.first().copied())
+    let worked = worked(page, length);
+    asks_about(&worked, worked.records.iter().position(is_call))
 }
 
 extern "C" fn last_call(page: *const u8, length: usize) -> u64 {
-    asks_one(&worked(page, length), |calls| calls.last().copied())
+    let worked = worked(page, length);
+    asks_about(&worked, worked.records.iter().rposition(is_call))
 }
 
 /// Asks only once the whole page has passed.
