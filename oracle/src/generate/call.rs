@@ -179,7 +179,7 @@ impl Generator<'_> {
         records
     }
 
-    pub(super) fn excused_number(&mut self, name: &str) -> Number {
+    fn excused_number(&mut self, name: &str) -> Number {
         let special = [Number::NaN, Number::Inf, Number::NegativeInf];
         if name == "exp" || self.random.chance(30) {
             return *self.random.pick(&special);
