@@ -24,6 +24,10 @@ pinned : T (
     && does (nameWritten (refusalName 34) []) (2 ^ 63 + 5 * 65536) []
     && does (nameWritten (refusalName 0) []) 0 []
     && does (nameWritten (refusalName 35) (lent 5)) 0 (lent 5)
+    && does (nameWritten (refusalName 36) []) 0 []
+    && does (nameWritten (refusalName 37) (lent 40)) 156 (bytes "a function that the table does not have" ++ lent 1)
+    && does (nameWritten (refusalName 38) (lent 38)) (2 ^ 63 + 5 * 65536) (lent 38)
+    && does (nameWritten (refusalName 39) (lent 5)) 0 (lent 5)
     && does (nameWritten (refusalName 40) []) 0 []
     && does (nameWritten (refusalName 41) []) (2 ^ 63 + 5 * 65536) []
     && does (nameWritten (refusalName 42) []) 0 []
@@ -41,7 +45,7 @@ differ (t ∷ ts) = all (λ u. not (equal t u)) ts && differ ts
 abbrev named : List ℕ
 named =
     1 ∷ 2 ∷ 3 ∷ 4 ∷ 5 ∷ 6 ∷ 7 ∷ 8 ∷ 9 ∷ 10 ∷ 11 ∷ 12 ∷ 13 ∷ 14 ∷ 15 ∷ 16 ∷ 17
-    ∷ 18 ∷ 19 ∷ 20 ∷ 21 ∷ 22 ∷ 23 ∷ 24 ∷ 25 ∷ 26 ∷ 27 ∷ 28 ∷ 29 ∷ 30 ∷ 31 ∷ 32 ∷ 33 ∷ 34 ∷ 41 ∷ []
+    ∷ 18 ∷ 19 ∷ 20 ∷ 21 ∷ 22 ∷ 23 ∷ 24 ∷ 25 ∷ 26 ∷ 27 ∷ 28 ∷ 29 ∷ 30 ∷ 31 ∷ 32 ∷ 33 ∷ 34 ∷ 37 ∷ 38 ∷ 41 ∷ []
 
 -- their names differ from each other and from that of 0, so that none of them is empty
 distinct : T (differ (map refusalName (0 ∷ named)))

@@ -10,7 +10,7 @@ use Rattle.page.specs.Bytes.{bytes}
 abbrev pub kindNames : List String
 kindNames = "vector" ∷ "scalar" ∷ "matrix" ∷ "string" ∷ []
 
--- by number; no refusal has the number 0, or one from 35 to 40
+-- by number; no refusal has the number 0, 35, 36, 39 or 40
 abbrev pub refusalNames : List String
 refusalNames =
     ""
@@ -48,7 +48,10 @@ refusalNames =
     ∷ "subquery operand is no vector"
     ∷ "metric name and a __name__ matcher"
     ∷ "no name, and no matcher or only ones that accept empty text"
-    ∷ "" ∷ "" ∷ "" ∷ "" ∷ "" ∷ ""
+    ∷ "" ∷ ""
+    ∷ "a function that the table does not have"
+    ∷ "a signature unlike the function table's"
+    ∷ "" ∷ ""
     ∷ "the flag of a pattern is wrong: 1 if it matches empty text, else 0"
     ∷ []
 

@@ -1,9 +1,9 @@
-// The names of refusals, by their numbers. 0 has none, and neither have 35 to 40.
+// The names of refusals, by their numbers. 0 has none, and neither have 35, 36, 39 and 40.
 use crate::table::write_name;
 ghost use Rattle.names.specs.Names.{refusalName};
 ghost use Rattle.names.specs.Written.{nameWritten, DoesName};
 
-const LETTERS: [u8; 1295] = *b"\
+const LETTERS: [u8; 1373] = *b"\
     record cut short, bad number or code\
     operands missing, or not one expression at the end\
     a limit passed (page, records, text, list, count or time)\
@@ -38,6 +38,8 @@ const LETTERS: [u8; 1295] = *b"\
     subquery operand is no vector\
     metric name and a __name__ matcher\
     no name, and no matcher or only ones that accept empty text\
+    a function that the table does not have\
+    a signature unlike the function table's\
     the flag of a pattern is wrong: 1 if it matches empty text, else 0";
 
 const STARTS: [u16; 43] = [
@@ -79,11 +81,11 @@ const STARTS: [u16; 43] = [
     1229,
     1229,
     1229,
-    1229,
-    1229,
-    1229,
-    1229,
-    1295,
+    1268,
+    1307,
+    1307,
+    1307,
+    1373,
 ];
 
 pub fn refusal_name(number: u64, out: &mut [u8]) -> u64
