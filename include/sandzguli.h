@@ -1,10 +1,11 @@
 /* Sandzguli: PromQL queries as byte pages, checked and printed.
  *
- * A page holds a query as records in postfix order. Four calls take any byte string as a page and need no check before
- * them: check, copy, canonical text, split text. Each answers with one word: the kind of the query and the count of
- * bytes written, or why the page is refused and the index of the record that breaks the rule, counted from 0. A fifth
- * call finds the label of refusal 19. A sixth takes a pattern and tells its flag. Names of kinds and refusals, and the
- * version, need no page. docs/REFUSALS.md has an example page for each refusal.
+ * A page holds a query as records in postfix order. Five calls take any byte string as a page and need no check before
+ * them: check, check with the function table, copy, canonical text, split text. Each answers with one word: the kind of
+ * the query and the count of bytes written, or why the page is refused and the index of the record that breaks the
+ * rule, counted from 0. A sixth call finds the label of refusal 19. Two more take no page: one tells the flag of a
+ * pattern, one writes the signature of a function. Names of kinds and refusals, and the version, need neither.
+ * docs/REFUSALS.md has an example page for each refusal.
  *
  * String literals, labels, and the names and values of matchers may hold UTF-8 (RFC 3629). Where they are ill-formed,
  * as those that end inside a character, they are refused with 4; so are metric and function names that are no ASCII
@@ -24,24 +25,30 @@
  * patterns, as `a**`, `(?:a)`, `(a`, `[a]`, `a{2}` and `\d`, are not covered: there the flag is believed, so keep it
  * true. sandzguli_pattern tells the flag of a covered pattern, and which patterns are not covered.
  *
- * Page and pattern are only read. They may be at any address; NULL is allowed where the length is 0.
+ * A call of a function carries its signature: the kinds of its arguments, its extra and the kind of its result. Check,
+ * copy and both texts believe it. sandzguli_check_table does not: it asks the function table, which is that of the Rust
+ * crate promql-parser (`FUNCTIONS` in function.rs, 91 names), and refuses names that it lacks with 37, signatures that
+ * are unlike its own with 38. sandzguli_signature writes the signature of a name, so that nobody writes one by hand.
+ *
+ * Page, pattern and name are only read. They may be at any address; NULL is allowed where the length is 0.
  *
  * The buffer `out` is lent for the call. An accepted call writes the bytes that it reports, from the start of `out`,
  * and leaves the rest of `out` as it was; no terminating zero is written. A refused call changes no byte of it. NULL is
  * allowed where its length is 0.
  *
- * `page` and `out` must not overlap. Where they do, the answer means nothing, and memory beyond the end of `out` may be
- * written: the library is proved and compiled on the word that they do not.
+ * `out` must not overlap `page` or `name`. Where it does, the answer means nothing, and memory beyond the end of `out`
+ * may be written: the library is proved and compiled on the word that it does not.
  *
- * Refusal 5 (the lent buffer is too short) is tested last: of pages only those that check accepts are refused with it,
- * with the number of their records as index, and a longer buffer then lets the call pass. All calls otherwise agree on
- * a page's kind, or refusal and record.
+ * Refusal 5 (the lent buffer is too short) is tested last, and a longer buffer then lets the call pass. Of pages only
+ * those that check accepts are refused with it, with the number of their records as index; names and signatures that do
+ * not fit have the index 0. All calls otherwise agree on a page's kind, or refusal and record, but for the two refusals
+ * that sandzguli_check_table has alone: 37 and 38.
  *
- * How long a buffer must be: SANDZGULI_COPY_BYTES hold every copy, SANDZGULI_CANONICAL_BYTES every canonical text and
- * SANDZGULI_NAME_BYTES every name (all proved). Canonical text is written without being measured first where the buffer
- * has 4 bytes for each byte of the page and 128 for each record. Split texts have no proved bound: above 65,536 bytes
- * they are rare (the longest that was built has 156,571). Where a split text may be longer than the buffer, lend more
- * after refusal 5, as examples/c/print_query.c does.
+ * How long a buffer must be: SANDZGULI_COPY_BYTES hold every copy, SANDZGULI_CANONICAL_BYTES every canonical text,
+ * SANDZGULI_NAME_BYTES every name and SANDZGULI_SIGNATURE_BYTES every signature (all proved). Canonical text is written
+ * without being measured first where the buffer has 4 bytes for each byte of the page and 128 for each record. Split
+ * texts have no proved bound: above 65,536 bytes they are rare (the longest that was built has 156,571). Where a split
+ * text may be longer than the buffer, lend more after refusal 5, as examples/c/print_query.c does.
  *
  * Calls keep nothing between them, allocate nothing and use no global state: any thread may call at any time, with a
  * page that no one writes to meanwhile. All calls on a page recurse over the bytes of its patterns, and both texts over
@@ -63,8 +70,8 @@ extern "C" {
 
 /* The version of this header. sandzguli_version tells that of the archive, as one number of the same form. */
 #define SANDZGULI_VERSION_MAJOR 0
-#define SANDZGULI_VERSION_MINOR 3
-#define SANDZGULI_VERSION_PATCH 1
+#define SANDZGULI_VERSION_MINOR 4
+#define SANDZGULI_VERSION_PATCH 0
 #define SANDZGULI_VERSION \
     (SANDZGULI_VERSION_MAJOR * 65536 + SANDZGULI_VERSION_MINOR * 256 + SANDZGULI_VERSION_PATCH)
 
@@ -82,6 +89,9 @@ extern "C" {
 
 /* No name of a kind or a refusal is longer. */
 #define SANDZGULI_NAME_BYTES 128
+
+/* No signature of the function table is longer. */
+#define SANDZGULI_SIGNATURE_BYTES 8
 
 /* No call uses more stack: the frames of the archive's functions, added up along the deepest chain of calls, are less
  * (docs/SPEED.md has each call's). Give a thread that calls the library so much beside what it uses itself. */
@@ -105,8 +115,10 @@ enum sandzguli_kind {
     SANDZGULI_STRING = 3
 };
 
-/* Why a page is refused, each with its name; 35 to 40 are no refusals. An archive that is newer than this header may
- * have more of them: sandzguli_refusal_name has their names. */
+/* Why a call refuses, each with its name; 35, 36, 39 and 40 are no refusals. Of calls on a page
+ * only those that write give 5, and only sandzguli_check_table gives 37 and 38, and not 29; all others are given by all
+ * of them. sandzguli_signature gives 5 and 37. An archive that is newer than this header may have more refusals:
+ * sandzguli_refusal_name has their names. */
 enum sandzguli_refusal {
     SANDZGULI_BAD_FIELD = 1,                /* record cut short, bad number or code */
     SANDZGULI_OPERANDS_MISSING = 2,         /* operands missing, or not one expression at the end */
@@ -142,6 +154,8 @@ enum sandzguli_refusal {
     SANDZGULI_SUBQUERY_KIND = 32,           /* subquery operand is no vector */
     SANDZGULI_NAME_TWICE = 33,              /* metric name and a __name__ matcher */
     SANDZGULI_EMPTY_SELECTOR = 34,          /* no name, and no matcher or only ones that accept empty text */
+    SANDZGULI_UNKNOWN_FUNCTION = 37,        /* a function that the table does not have */
+    SANDZGULI_UNLIKE_SIGNATURE = 38,        /* a signature unlike the function table's */
     SANDZGULI_WRONG_FLAG = 41               /* the flag of a pattern is wrong: 1 if it matches empty text, else 0 */
 };
 
@@ -154,6 +168,16 @@ enum sandzguli_pattern_answer {
 
 /* The kind of the query, or why it is refused. Writes nothing; the count of bytes is 0. */
 sandzguli_outcome sandzguli_check(const uint8_t *page, size_t page_len);
+
+/* As sandzguli_check, and asks the function table of every call too. Refused with 37 (SANDZGULI_UNKNOWN_FUNCTION) where
+ * the table does not have the name, byte by byte; with 38 (SANDZGULI_UNLIKE_SIGNATURE) where the count of kinds, one of
+ * them, the extra or the result is unlike the table's. Both are asked when all fields of the call were read and before
+ * its operands are counted, so before 2; the count of arguments is no part of a signature. The first record that is
+ * refused decides.
+ *
+ * What passes is accepted by check with the same kind, and what is refused with another number than 37 and 38, check
+ * refuses with it at the same record. It never is 29: each function of the table that declares no kinds is fixed. */
+sandzguli_outcome sandzguli_check_table(const uint8_t *page, size_t page_len);
 
 /* The page of the checked query: numbers under unary records negated, set operators many-to-many, @ before offset
  * wherever both are set on one expression. All else is as on the page, in its order. A copy of at most
@@ -184,6 +208,13 @@ sandzguli_label sandzguli_joint_label(const uint8_t *page, size_t page_len);
  * asked about. Callers set the flag on a page with it. */
 uint64_t sandzguli_pattern(const uint8_t *pattern, size_t pattern_len);
 
+/* The signature of a function by its name, as it stands in a call record behind the name: the count of its kinds, the
+ * kinds, the extra (0 fixed, 1 unlimited, 2 and the upper count), the kind of its result, each number one byte. In the
+ * record the count of arguments follows. The word has the count of bytes written, and the kind of the result as its
+ * kind. Refused with 37 at 0 for every name that the table does not have, also an empty, long or ill-formed one; else
+ * with 5 at 0 where the signature does not fit. examples/c/write_call.c writes calls with it. */
+sandzguli_outcome sandzguli_signature(const uint8_t *name, size_t name_len, uint8_t *out, size_t out_len);
+
 /* The name of a kind or of a refusal, in ASCII, for any number: `vector`, `a side is a string or a matrix`. Nothing is
  * written, and the count of bytes is 0, where the number has no name. Refused with 5 at 0 where the name does not fit.
  * The word has no kind. */
@@ -198,7 +229,7 @@ static inline int sandzguli_is_refused(sandzguli_outcome outcome) {
     return (int)(outcome >> 63);
 }
 
-/* An accepted outcome of a call on a page: the kind. */
+/* An accepted outcome of a call on a page: the kind; of sandzguli_signature: that of the function's result. */
 static inline enum sandzguli_kind sandzguli_kind_of(sandzguli_outcome outcome) {
     return (enum sandzguli_kind)(outcome & 3);
 }

@@ -25,6 +25,8 @@ static void test_null(void) {
     expect(is_refused_with(sandzguli_copy(NULL, 0, NULL, 0), SANDZGULI_OPERANDS_MISSING, 0), "copy takes NULL");
     expect(is_refused_with(sandzguli_canonical(NULL, 0, NULL, 0), SANDZGULI_OPERANDS_MISSING, 0), "canonical takes NULL");
     expect(is_refused_with(sandzguli_split(NULL, 0, NULL, 0), SANDZGULI_OPERANDS_MISSING, 0), "split takes NULL");
+    expect(is_refused_with(sandzguli_check_table(NULL, 0), SANDZGULI_OPERANDS_MISSING, 0), "check_table too");
+    expect(is_refused_with(sandzguli_signature(NULL, 0, NULL, 0), SANDZGULI_UNKNOWN_FUNCTION, 0), "signature too");
     expect(sandzguli_joint_label(NULL, 0) == 0, "joint_label takes NULL");
     expect(sandzguli_pattern(NULL, 0) == SANDZGULI_PATTERN_MATCHES_EMPTY, "pattern takes NULL, as the empty pattern");
 }
@@ -159,6 +161,74 @@ static void test_flag(void) {
     expect(!sandzguli_is_refused(sandzguli_check(page, sizeof page)), "flag 0 is believed");
 }
 
+/* `abs(up)` passes both checks; with another letter or another result only the one without the table. Without its
+ * operand each of them is refused by the table's rule first. */
+static void test_table(void) {
+    uint8_t page[] = {0x02, 0x02, 'u', 'p', 0x00, 0x0b, 0x03, 'a', 'b', 's', 0x01, 0x00, 0x00, 0x00, 0x01};
+    uint8_t *letter = &page[9], *result = &page[13], *call = &page[5];
+    size_t call_len = sizeof page - 5;
+    expect(sandzguli_check_table(page, sizeof page) == sandzguli_check(page, sizeof page), "the table has abs");
+    expect(is_refused_with(sandzguli_check_table(call, call_len), SANDZGULI_OPERANDS_MISSING, 0), "2 is check's own");
+    *result = SANDZGULI_SCALAR;
+    expect(sandzguli_check(page, sizeof page) == SANDZGULI_SCALAR, "check believes a signature");
+    expect(is_refused_with(sandzguli_check_table(page, sizeof page), SANDZGULI_UNLIKE_SIGNATURE, 1), "38 at the call");
+    expect(is_refused_with(sandzguli_check_table(call, call_len), SANDZGULI_UNLIKE_SIGNATURE, 0), "38 comes before 2");
+    *letter = 'z';
+    expect(sandzguli_check(page, sizeof page) == SANDZGULI_SCALAR, "check takes any name");
+    expect(is_refused_with(sandzguli_check_table(page, sizeof page), SANDZGULI_UNKNOWN_FUNCTION, 1), "37 before 38");
+    expect(is_refused_with(sandzguli_check_table(call, call_len), SANDZGULI_UNKNOWN_FUNCTION, 0), "37 comes before 2");
+    page[sizeof page - 1] = 17;
+    expect(is_refused_with(sandzguli_check_table(call, call_len), SANDZGULI_PAST_LIMIT, 0), "fields come before 37");
+}
+
+/* A name in memory of exactly its length, and what the library answers, with so many bytes lent. */
+static sandzguli_outcome signature_of(const char *name, uint8_t *out, size_t out_len) {
+    size_t length = strlen(name);
+    uint8_t *bytes = (uint8_t *)malloc(length);
+    expect(bytes != NULL || length == 0, "there is memory");
+    memcpy(bytes, name, length);
+    sandzguli_outcome outcome = sandzguli_signature(bytes, length, out, out_len);
+    free(bytes);
+    return outcome;
+}
+
+/* A signature into memory of exactly its length, then of one byte less: 5 at 0, and no byte changes. */
+static void test_signature(const char *name, const char *signature, size_t length, enum sandzguli_kind result) {
+    uint8_t *out = (uint8_t *)malloc(length);
+    expect(out != NULL, "there is memory");
+    memset(out, 'z', length);
+    expect(is_refused_with(signature_of(name, out, length - 1), SANDZGULI_OUTPUT_TOO_SHORT, 0), "no room for it");
+    expect(out[0] == 'z' && memcmp(out, out + 1, length - 1) == 0, "too short a buffer keeps its bytes");
+    expect(signature_of(name, out, length) == length * 4 + (uint64_t)result, "count of bytes and kind of the result");
+    expect(memcmp(out, signature, length) == 0, name);
+    free(out);
+}
+
+#define SIGNED(name, signature, result) test_signature(name, signature, sizeof signature - 1, result)
+
+/* One of each form, the first and the last name, the longest name and both forms of the longest signature. */
+static void test_signatures(void) {
+    const char *unknown[] = {"", "ab", "Abs", "abs_", "sum", "holt_winters", "zzz", "\xc3\xa9", "a\nb"};
+    uint8_t out[SANDZGULI_SIGNATURE_BYTES + 1];
+    SIGNED("abs", "\x01\x00\x00\x00", SANDZGULI_VECTOR);
+    SIGNED("year", "\x01\x00\x02\x01\x00", SANDZGULI_VECTOR);
+    SIGNED("time", "\x00\x00\x01", SANDZGULI_SCALAR);
+    SIGNED("rate", "\x01\x02\x00\x00", SANDZGULI_VECTOR);
+    SIGNED("sort_by_label", "\x02\x00\x03\x01\x00", SANDZGULI_VECTOR);
+    SIGNED("double_exponential_smoothing", "\x03\x02\x01\x01\x00\x00", SANDZGULI_VECTOR);
+    SIGNED("label_replace", "\x05\x00\x03\x03\x03\x03\x00\x00", SANDZGULI_VECTOR);
+    SIGNED("histogram_quantiles", "\x04\x00\x03\x01\x01\x02\x09\x00", SANDZGULI_VECTOR);
+    for (size_t index = 0; index < sizeof unknown / sizeof *unknown; index++) {
+        memset(out, 'z', sizeof out);
+        sandzguli_outcome outcome = signature_of(unknown[index], out, index % sizeof out);
+        expect(is_refused_with(outcome, SANDZGULI_UNKNOWN_FUNCTION, 0), "a name that the table lacks");
+        expect(out[0] == 'z' && memcmp(out, out + 1, sizeof out - 1) == 0, "an unknown name changes no byte");
+    }
+    memset(out, 'z', sizeof out);
+    expect(sandzguli_written(signature_of("scalar", out, sizeof out)) == 4, "scalar has four bytes");
+    expect(memcmp(out, "\x01\x00\x00\x01zzzzz", sizeof out) == 0, "the bytes behind a signature stay");
+}
+
 static void test_longest_page(void) {
     static uint8_t page[SANDZGULI_PAGE_BYTES + 1];
     expect(is_refused_with(sandzguli_check(page, sizeof page), SANDZGULI_PAST_LIMIT, 0), "a longer page is refused with 3");
@@ -192,11 +262,15 @@ static void test_names(void) {
     test_name(sandzguli_kind_name, SANDZGULI_STRING, "string");
     test_name(sandzguli_refusal_name, SANDZGULI_BAD_FIELD, "record cut short, bad number or code");
     test_name(sandzguli_refusal_name, SANDZGULI_SIDE_KIND, "a side is a string or a matrix");
+    test_name(sandzguli_refusal_name, SANDZGULI_UNKNOWN_FUNCTION, "a function that the table does not have");
+    test_name(sandzguli_refusal_name, SANDZGULI_UNLIKE_SIGNATURE, "a signature unlike the function table's");
     test_name(sandzguli_refusal_name, SANDZGULI_WRONG_FLAG,
               "the flag of a pattern is wrong: 1 if it matches empty text, else 0");
     test_no_name(sandzguli_kind_name, 4);
     test_no_name(sandzguli_refusal_name, 0);
     test_no_name(sandzguli_refusal_name, 35);
+    test_no_name(sandzguli_refusal_name, 36);
+    test_no_name(sandzguli_refusal_name, 39);
     test_no_name(sandzguli_refusal_name, 40);
     test_no_name(sandzguli_refusal_name, 42);
     test_no_name(sandzguli_refusal_name, 255);
@@ -230,6 +304,8 @@ int main(void) {
     test_label();
     test_patterns();
     test_flag();
+    test_table();
+    test_signatures();
     test_longest_page();
     test_names();
     test_name_bytes();

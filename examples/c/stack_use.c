@@ -1,7 +1,7 @@
 /* Measures how much stack each call uses, and fails where one uses more than SANDZGULI_STACK_BYTES: the most over the
- * kept list (standard input), over pages that nest as deep as 256 records can, in every form around several leaves, and
- * over the longest patterns, alone and on a page. A call runs in a thread whose stack was painted before; the paint
- * that is gone afterwards was used. */
+ * kept list (standard input), over pages that nest as deep as 256 records can, in every form around several leaves,
+ * over the longest patterns, alone and on a page, and over names of functions. A call runs in a thread whose stack was
+ * painted before; the paint that is gone afterwards was used. */
 #define _POSIX_C_SOURCE 200112L
 #include "kept_list.h"
 #include "sandzguli.h"
@@ -36,6 +36,11 @@ static sandzguli_outcome known(const uint8_t *page, size_t page_len, uint8_t *ou
 static sandzguli_outcome check(const uint8_t *page, size_t page_len, uint8_t *out, size_t out_len) {
     (void)out, (void)out_len;
     return sandzguli_check(page, page_len);
+}
+
+static sandzguli_outcome check_table(const uint8_t *page, size_t page_len, uint8_t *out, size_t out_len) {
+    (void)out, (void)out_len;
+    return sandzguli_check_table(page, page_len);
 }
 
 static sandzguli_outcome joint_label(const uint8_t *page, size_t page_len, uint8_t *out, size_t out_len) {
@@ -172,6 +177,14 @@ static void add_pattern(size_t opening, size_t closing) {
     add_page(page);
 }
 
+/* A name that the function table has; pages are names that it lacks. */
+static void add_name(const char *name) {
+    struct part part = new_part(strlen(name));
+    memcpy(part.bytes, name, part.length);
+    expect(!sandzguli_is_refused(sandzguli_signature(part.bytes, part.length, text, sizeof text)), "a name is known");
+    add_page(part);
+}
+
 /* Where the stack of the thread's own function lies; what a call uses lies below it. */
 static uintptr_t start;
 
@@ -214,15 +227,18 @@ static void add_kept(void) {
 
 int main(void) {
     const struct { const char *name; call *each; } calls[] = {
-        {"check", check}, {"joint_label", joint_label}, {"copy", sandzguli_copy},
+        {"check", check}, {"check_table", check_table}, {"joint_label", joint_label}, {"copy", sandzguli_copy},
         {"canonical", sandzguli_canonical}, {"split", sandzguli_split}, {"pattern", pattern},
-        {"kind_name", kind_name}, {"refusal_name", refusal_name},
+        {"signature", sandzguli_signature}, {"kind_name", kind_name}, {"refusal_name", refusal_name},
     };
     add_kept();
     add_deepest();
     add_pattern(PATTERN_BYTES, 0);
     add_pattern(PATTERN_BYTES / 2, PATTERN_BYTES / 2);
     add_pattern(0, 0);
+    add_name("abs");
+    add_name("histogram_quantiles");
+    add_name("year");
     size_t measured = used(known);
     expect(measured >= KNOWN_BYTES && measured < KNOWN_BYTES + 1024, "a known use is measured");
     printf("%zu pages; a call that uses %d bytes: %zu\n", page_count, KNOWN_BYTES, measured);
