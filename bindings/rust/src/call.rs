@@ -1,11 +1,12 @@
-//! The library's calls as safe functions: check, the label of 19, the copy, and what all calls share. Unsafe are the
-//! calls themselves, and that the label is taken as UTF-8 without a test.
+//! The library's calls as safe functions: both checks, the label of 19, the copy, and what all calls share. Unsafe are
+//! the calls themselves, and that the label is taken as UTF-8 without a test.
 
 use crate::{Kind, Refusal, Rule, COPY_BYTES};
 use std::str::{from_utf8, from_utf8_unchecked};
 
 extern "C" {
     fn sandzguli_check(page: *const u8, page_len: usize) -> u64;
+    fn sandzguli_check_table(page: *const u8, page_len: usize) -> u64;
     fn sandzguli_joint_label(page: *const u8, page_len: usize) -> u64;
     fn sandzguli_copy(page: *const u8, page_len: usize, out: *mut u8, out_len: usize) -> u64;
 }
@@ -17,7 +18,7 @@ pub(crate) type Writes = unsafe extern "C" fn(*const u8, usize, *mut u8, usize) 
 #[derive(Debug, Clone, Copy, PartialEq, Eq)]
 #[non_exhaustive]
 pub struct Written {
-    /// The kind of the query.
+    /// The kind of the query; of a signature that of the function's result.
     pub kind: Kind,
     /// How many bytes were written, from the buffer's start.
     pub bytes: usize,
@@ -40,16 +41,17 @@ pub(crate) fn asked(call: Asks, bytes: &[u8]) -> u64 {
     unsafe { call(bytes.as_ptr(), bytes.len()) }
 }
 
-pub(crate) fn written(call: Writes, page: &[u8], out: &mut [u8]) -> Result<Written, Refusal> {
-    // SAFETY: both are slices, and a borrowed page does not overlap a buffer that is borrowed mutably.
-    outcome(unsafe { call(page.as_ptr(), page.len(), out.as_mut_ptr(), out.len()) })
+/// A call on a page or on a name.
+pub(crate) fn written(call: Writes, bytes: &[u8], out: &mut [u8]) -> Result<Written, Refusal> {
+    // SAFETY: both are slices, and borrowed bytes do not overlap a buffer that is borrowed mutably.
+    outcome(unsafe { call(bytes.as_ptr(), bytes.len(), out.as_mut_ptr(), out.len()) })
 }
 
 /// The bytes that a call writes. A longer buffer is lent as long as it is too short.
-pub(crate) fn owned(call: Writes, page: &[u8], first_room: usize) -> Result<Vec<u8>, Refusal> {
+pub(crate) fn owned(call: Writes, bytes: &[u8], first_room: usize) -> Result<Vec<u8>, Refusal> {
     let mut out = vec![0; first_room];
     loop {
-        match written(call, page, &mut out) {
+        match written(call, bytes, &mut out) {
             Ok(written) => {
                 out.truncate(written.bytes);
                 return Ok(out);
@@ -70,6 +72,35 @@ pub(crate) fn owned(call: Writes, page: &[u8], first_room: usize) -> Result<Vec<
 /// ```
 pub fn check(page: &[u8]) -> Result<Kind, Refusal> {
     outcome(asked(sandzguli_check, page)).map(|written| written.kind)
+}
+
+/// [`check`] that asks the function table of every call too: a name that the table lacks is refused with
+/// [`Rule::UnknownFunction`], a signature unlike the table's with [`Rule::UnlikeSignature`].
+///
+/// Both are asked when all fields of the call were read and before its operands are counted; the first record that is
+/// refused decides. What passes, [`check`] accepts with the same kind; what is refused with another rule, [`check`]
+/// refuses with it at the same record. That rule never is [`Rule::NoDeclaredKinds`].
+///
+/// ```
+/// use sandzguli::page::{Function, Page, Record};
+/// use sandzguli::{Kind, Refusal, Rule};
+///
+/// let up = Record::selector("up", []);
+/// let page = Page::from([up.clone(), Record::call_known("abs", 1).unwrap()]).to_bytes();
+/// assert_eq!(sandzguli::check_table(&page), Ok(Kind::Vector));
+///
+/// // Made by hand, with a kind that abs does not take: only the table tells.
+/// let wrong = Function::fixed("abs", [Kind::Scalar], Kind::Scalar);
+/// let page = Page::from([Record::whole(1), Record::call(wrong, 1)]).to_bytes();
+/// assert_eq!(sandzguli::check(&page), Ok(Kind::Scalar));
+/// assert_eq!(sandzguli::check_table(&page), Err(Refusal::new(Rule::UnlikeSignature, 1)));
+///
+/// let misspelt = Function::fixed("asb", [Kind::Vector], Kind::Vector);
+/// let page = Page::from([up, Record::call(misspelt, 1)]).to_bytes();
+/// assert_eq!(sandzguli::check_table(&page).unwrap_err().rule, Rule::UnknownFunction);
+/// ```
+pub fn check_table(page: &[u8]) -> Result<Kind, Refusal> {
+    outcome(asked(sandzguli_check_table, page)).map(|written| written.kind)
 }
 
 /// The label of a page refused with 19, as that part of the page: the first group label that is also in the on list. It

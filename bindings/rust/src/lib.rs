@@ -4,14 +4,14 @@
 //! from records and reads one back; the functions below take any byte string.
 //!
 //! ```
-//! use sandzguli::page::{Code, Function, LabelModifier, Matcher, Page, Record};
+//! use sandzguli::page::{Code, LabelModifier, Matcher, Page, Record, UnknownFunction};
 //! use sandzguli::Kind;
 //!
-//! let rate = Function::fixed("rate", [Kind::Matrix], Kind::Vector);
+//! # fn main() -> Result<(), UnknownFunction> {
 //! let page = Page::from([
 //!     Record::selector("http_requests_total", [Matcher::equal("job", "api")]),
 //!     Record::Range(300_000),
-//!     Record::call(rate, 1),
+//!     Record::call_known("rate", 1)?,
 //!     Record::aggregate(Code::Sum, LabelModifier::by(["instance"]), 1),
 //! ])
 //! .to_bytes();
@@ -21,6 +21,8 @@
 //!     sandzguli::canonical(&page).unwrap(),
 //!     r#"sum by (instance) (rate(http_requests_total{job="api"}[5m]))"#
 //! );
+//! # Ok(())
+//! # }
 //! ```
 //!
 //! A page that is no query is refused with a [`Rule`] and the record that breaks it:
@@ -65,6 +67,21 @@
 //! assert_eq!(sandzguli::check(&page).unwrap_err().rule, Rule::WrongFlag);
 //! ```
 //!
+//! A call carries its function's signature: the kinds of its arguments, how many more there may be, and what it gives.
+//! [`check`] and the texts believe it. [`check_table`] holds it to the function table, in which [`signature`] looks a
+//! name up; with [`page::Record::call_known`] nobody writes a signature by hand.
+//!
+//! ```
+//! use sandzguli::page::{Function, Page, Record};
+//! use sandzguli::{Kind, Rule};
+//!
+//! assert_eq!(sandzguli::signature("rate").unwrap().kinds, [Kind::Matrix]);
+//! let by_hand = Record::call(Function::fixed("rate", [Kind::Vector], Kind::Vector), 1);
+//! let page = Page::from([Record::selector("up", []), by_hand]).to_bytes();
+//! assert_eq!(sandzguli::check(&page), Ok(Kind::Vector));
+//! assert_eq!(sandzguli::check_table(&page).unwrap_err().rule, Rule::UnlikeSignature);
+//! ```
+//!
 //! Two pages may be one query: [`same_query`] tells whether they are, by what [`copy`] writes of each. So a sheet of
 //! queries knows which it has already.
 //!
@@ -80,14 +97,18 @@ pub mod page;
 mod pattern;
 mod refusal;
 mod same_query;
+mod signature;
 mod size;
 mod text;
 
-pub use call::{check, copy, copy_into, joint_label, Written};
+pub use call::{check, check_table, copy, copy_into, joint_label, Written};
 pub use kind::Kind;
 pub use name::{kind_name, kind_name_into, refusal_name, refusal_name_into, version};
 pub use pattern::matches_empty;
 pub use refusal::{Refusal, Rule};
 pub use same_query::{same_query, RefusedPage};
-pub use size::{CANONICAL_BYTES, COPY_BYTES, NAME_BYTES, PAGE_BYTES, RECORDS, STACK_BYTES};
+pub use signature::{signature, signature_into};
+pub use size::{
+    CANONICAL_BYTES, COPY_BYTES, NAME_BYTES, PAGE_BYTES, RECORDS, SIGNATURE_BYTES, STACK_BYTES,
+};
 pub use text::{canonical, canonical_into, canonical_str, split, split_into, split_str};

@@ -10,7 +10,8 @@ use std::fmt;
 pub struct Refusal {
     /// The rule that the page breaks.
     pub rule: Rule,
-    /// The record that breaks it, counted from 0; the number of records where none of them does.
+    /// The record that breaks it, counted from 0; the number of records where none of them does. 0 where no page was
+    /// asked about.
     pub record: usize,
 }
 
@@ -139,6 +140,11 @@ rules! {
     32 SubqueryKind "subquery operand is no vector",
     33 NameTwice "metric name and a __name__ matcher",
     34 EmptySelector "no name, and no matcher or only ones that accept empty text",
+    /// Of [`check_table`](crate::check_table) and [`signature_into`](crate::signature_into) only.
+    37 UnknownFunction "a function that the table does not have",
+    /// Of [`check_table`](crate::check_table) only. [`signature`](crate::signature) tells the right one, and
+    /// [`Record::call_known`](crate::page::Record::call_known) sets it.
+    38 UnlikeSignature "a signature unlike the function table's",
     /// [`matches_empty`](crate::matches_empty) tells the right one, and [`Matcher::re`](crate::page::Matcher::re) sets
     /// it.
     41 WrongFlag "the flag of a pattern is wrong: 1 if it matches empty text, else 0",

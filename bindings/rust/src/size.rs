@@ -15,6 +15,9 @@ pub const CANONICAL_BYTES: usize = 65536;
 /// The longest name of a kind or a refusal, in bytes (proved).
 pub const NAME_BYTES: usize = 128;
 
+/// The longest signature of the function table, in bytes (proved).
+pub const SIGNATURE_BYTES: usize = 8;
+
 /// No call of the library uses more stack, in bytes: the frames of its functions, added up along the deepest chain of
 /// calls, are less.
 ///

@@ -30,10 +30,11 @@ mod time;
 mod write;
 
 pub use code::Code;
-pub use function::{Function, Variadic};
+pub use function::{Function, Signature, UnknownFunction, Variadic};
 pub use literal::Literal;
 pub use matcher::{MatchOp, Matcher};
 pub use modifier::{BinModifier, Cardinality, LabelModifier};
+pub(crate) use read::signature as read_signature;
 pub use record::Record;
 pub use time::{AtModifier, Offset};
 
@@ -66,8 +67,9 @@ impl Page {
     }
 
     /// The bytes of the page, every number in its shortest form. What no page may hold, such as a text of 256 bytes, a
-    /// metric name with an accent or a wrong flag, is written too: [`check`](crate::check) refuses it. Texts of
-    /// strings, labels and matchers are refused for their length only, since a [`String`] is well-formed UTF-8.
+    /// metric name with an accent or a wrong flag, is written too: [`check`](crate::check) refuses it. So is a function
+    /// that the table lacks: [`check_table`](crate::check_table) refuses it. Texts of strings, labels and matchers are
+    /// refused for their length only, since a [`String`] is well-formed UTF-8.
     pub fn to_bytes(&self) -> Vec<u8> {
         let mut bytes = Vec::new();
         for record in &self.records {

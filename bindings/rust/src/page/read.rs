@@ -119,12 +119,18 @@ impl Reader<'_> {
         })
     }
 
-    fn function(&mut self) -> Field<Function> {
-        Ok(Function {
-            name: self.function_name()?,
+    fn signature(&mut self) -> Field<Signature> {
+        Ok(Signature {
             kinds: self.list(Self::kind)?,
             variadic: self.variadic()?,
             result: self.kind()?,
+        })
+    }
+
+    fn function(&mut self) -> Field<Function> {
+        Ok(Function {
+            name: self.function_name()?,
+            signature: self.signature()?,
         })
     }
 
@@ -160,6 +166,11 @@ impl Reader<'_> {
             },
         })
     }
+}
+
+/// A signature by itself, from the first of these bytes on.
+pub fn signature(bytes: &[u8]) -> Field<Signature> {
+    Reader { rest: bytes }.signature()
 }
 
 /// All records of a page, or the first one that cannot be read.

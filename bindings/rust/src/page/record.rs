@@ -1,5 +1,6 @@
 //! The twelve records of a page.
 
+use super::UnknownFunction;
 use super::{AtModifier, BinModifier, Code, Function, LabelModifier, Literal, Matcher, Offset};
 
 /// A record. All times are in milliseconds.
@@ -132,6 +133,27 @@ impl Record {
             function,
             arguments,
         }
+    }
+
+    /// The call of a function that the table has, with the signature that it has there.
+    ///
+    /// ```
+    /// use sandzguli::page::{Page, Record, UnknownFunction};
+    ///
+    /// fn clamped(highest: u64) -> Result<Page, UnknownFunction> {
+    ///     let up = Record::selector("up", []);
+    ///     let clamp = Record::call_known("clamp_max", 2)?;
+    ///     Ok(Page::from([up, Record::whole(highest), clamp]))
+    /// }
+    ///
+    /// let page = clamped(5)?.to_bytes();
+    /// assert!(sandzguli::check_table(&page).is_ok());
+    /// assert_eq!(sandzguli::canonical(&page).unwrap(), "clamp_max(up, 5)");
+    /// assert_eq!(Record::call_known("clamp_maximum", 2).unwrap_err().name, "clamp_maximum");
+    /// # Ok::<(), UnknownFunction>(())
+    /// ```
+    pub fn call_known(name: impl Into<String>, arguments: usize) -> Result<Self, UnknownFunction> {
+        Ok(Self::call(Function::known(name)?, arguments))
     }
 
     /// How many operands the record takes from the stack.

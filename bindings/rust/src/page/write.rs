@@ -100,17 +100,16 @@ fn put_bin_modifier(bytes: &mut Vec<u8>, modifier: &BinModifier) {
     put_option(bytes, modifier.right_fill, put_literal);
 }
 
-fn put_function(bytes: &mut Vec<u8>, function: &Function) {
-    put_text(bytes, &function.name);
-    put_list(bytes, &function.kinds, |bytes, kind| {
+fn put_signature(bytes: &mut Vec<u8>, signature: &Signature) {
+    put_list(bytes, &signature.kinds, |bytes, kind| {
         put_number(bytes, kind.number());
     });
-    match function.variadic {
+    match signature.variadic {
         Variadic::Fixed => put_number(bytes, 0),
         Variadic::Unlimited => put_number(bytes, 1),
         Variadic::UpTo(upper) => put_pair(bytes, 2, upper),
     }
-    put_number(bytes, function.result.number());
+    put_number(bytes, signature.result.number());
 }
 
 /// The first number of a record.
@@ -165,7 +164,8 @@ pub fn record(bytes: &mut Vec<u8>, record: &Record) {
             function,
             arguments,
         } => {
-            put_function(bytes, function);
+            put_text(bytes, &function.name);
+            put_signature(bytes, &function.signature);
             put_number(bytes, *arguments as u64);
         }
     }
