@@ -14,8 +14,30 @@ struct Row {
     name: String,
     page: Vec<u8>,
     record: usize,
-    /// Whether check gives it too, and not only the calls that write.
-    is_checks: bool,
+    calls: Calls,
+}
+
+/// Which calls refuse the page so.
+struct Calls {
+    check: bool,
+    table_check: bool,
+    /// Copy, canonical text and split text.
+    writing: bool,
+}
+
+fn calls(words: &str) -> Calls {
+    let (check, table_check, writing) = match words {
+        "all" => (true, true, true),
+        "all but both checks" => (false, false, true),
+        "all but table check" => (true, false, true),
+        "table check" => (false, true, false),
+        _ => panic!("{words}"),
+    };
+    Calls {
+        check,
+        table_check,
+        writing,
+    }
 }
 
 /// Bytes in hexadecimal; `08*256;` stands for 256 bytes 08.
@@ -50,11 +72,7 @@ fn row(line: &'static str) -> Option<Row> {
         name: cells[2].replace('`', ""),
         page,
         record,
-        is_checks: match cells[6] {
-            "all" => true,
-            "all but check" => false,
-            calls => panic!("{calls}"),
-        },
+        calls: calls(cells[6]),
     })
 }
 
@@ -70,20 +88,47 @@ fn every_rule_has_its_row() {
     }
 }
 
+/// Those that the column has refuse the page so, the others do not.
 #[test]
 fn every_page_is_refused_as_its_row_says() {
+    for Row {
+        rule,
+        page,
+        record,
+        calls,
+        ..
+    } in DOCUMENT.lines().filter_map(row)
+    {
+        let refusal = Refusal::new(rule, record);
+        let checked = sandzguli::check(&page).err();
+        assert_eq!(checked == Some(refusal), calls.check, "{rule:?}");
+        let checked = sandzguli::check_table(&page).err();
+        assert_eq!(checked == Some(refusal), calls.table_check, "{rule:?}");
+        for write in [
+            sandzguli::copy_into,
+            sandzguli::canonical_into,
+            sandzguli::split_into,
+        ] {
+            let mut out = [7; 1];
+            let written = write(&page, &mut out).err();
+            assert_eq!(written == Some(refusal), calls.writing, "{rule:?}");
+            assert_eq!(out, [7]);
+        }
+    }
+}
+
+/// Where a number is the table check's alone, check accepts the page; where it is the writing calls' alone, both do.
+#[test]
+fn what_a_call_does_not_give_is_no_refusal_of_it() {
     for row in DOCUMENT.lines().filter_map(row) {
-        let refused = Err(Refusal::new(row.rule, row.record));
-        let mut out = [7; 1];
-        assert_eq!(sandzguli::copy_into(&row.page, &mut out), refused);
-        assert_eq!(sandzguli::canonical_into(&row.page, &mut out), refused);
-        assert_eq!(sandzguli::split_into(&row.page, &mut out), refused);
-        assert_eq!(out, [7]);
-        let checked = sandzguli::check(&row.page).map(drop);
-        let expected = match row.is_checks {
-            true => refused.map(drop),
-            false => Ok(()),
-        };
-        assert_eq!(checked, expected);
+        let is_checked = sandzguli::check(&row.page).is_ok();
+        assert_eq!(is_checked, !row.calls.check, "{:?}", row.rule);
+        let is_listed = sandzguli::check_table(&row.page).is_ok();
+        assert_eq!(
+            is_listed,
+            row.rule == Rule::OutputTooShort,
+            "{:?}",
+            row.rule
+        );
     }
 }

@@ -41,9 +41,10 @@ const OTHERS: [(&str, usize); 7] = [
 ];
 
 /// The calls that read patterns.
-const READING_PATTERNS: [&str; 6] = [
+const READING_PATTERNS: [&str; 7] = [
     "sandzguli_canonical",
     "sandzguli_check",
+    "sandzguli_check_table",
     "sandzguli_copy",
     "sandzguli_joint_label",
     "sandzguli_pattern",
