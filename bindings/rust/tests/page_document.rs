@@ -6,17 +6,21 @@ mod apart;
 mod document;
 #[path = "page_document/limits.rs"]
 mod limits;
+#[path = "page_document/signatures.rs"]
+mod signatures;
 
 use document::{bracketed, bytes, codes, number, number_bytes, quoted, rows, DOCUMENT};
 use sandzguli::page::{Code, Function, LabelModifier, Page, Record};
-use sandzguli::Kind;
+use sandzguli::{Kind, Refusal};
+
+/// A refusal and its record.
+fn refused(refusal: Refusal) -> String {
+    format!("refused {} at {}", refusal.number(), refusal.record)
+}
 
 /// The canonical text of a page, or its refusal and record.
 fn answer(page: &[u8]) -> String {
-    match sandzguli::canonical(page) {
-        Ok(text) => text,
-        Err(refusal) => format!("refused {} at {}", refusal.number(), refusal.record),
-    }
+    sandzguli::canonical(page).unwrap_or_else(refused)
 }
 
 /// The document's word for a record.
@@ -134,6 +138,17 @@ fn patterns_have_their_words() {
             let given = sandzguli::matches_empty(pattern).map_or(2, u64::from);
             assert_eq!(given, number(word), "{pattern}");
         }
+    }
+}
+
+#[test]
+fn pages_have_their_answers_of_the_table_check() {
+    for [page, answer] in rows(["Page", "Table check"]) {
+        let given = match sandzguli::check_table(&bytes(quoted(page)[0])) {
+            Ok(kind) => kind.to_string(),
+            Err(refusal) => refused(refusal),
+        };
+        assert_eq!(given, quoted(answer)[0], "{page}");
     }
 }
 
