@@ -6,6 +6,7 @@ use sandzguli::page::{BinModifier, Cardinality, Code, LabelModifier, Matcher};
 use sandzguli::page::{Page, Record, UnknownFunction};
 use std::error::Error;
 use std::io::{stdout, Write};
+use std::process::ExitCode;
 
 const MINUTE: u64 = 60_000;
 
@@ -39,9 +40,17 @@ fn failures() -> Result<Page, UnknownFunction> {
     Ok(Page::from(records))
 }
 
-fn main() -> Result<(), Box<dyn Error>> {
+fn write_page() -> Result<(), Box<dyn Error>> {
     let page = failures()?.to_bytes();
     sandzguli::check_table(&page)?;
     stdout().write_all(&page)?;
     Ok(())
+}
+
+fn main() -> ExitCode {
+    if let Err(error) = write_page() {
+        eprintln!("{error}");
+        return ExitCode::FAILURE;
+    }
+    ExitCode::SUCCESS
 }

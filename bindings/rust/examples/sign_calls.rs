@@ -7,6 +7,7 @@
 use sandzguli::page::{Function, Page, Record};
 use std::error::Error;
 use std::io::{stdin, stdout, Read, Write};
+use std::process::ExitCode;
 
 /// The page that passes the check with the table.
 fn signed(bytes: &[u8]) -> Result<Vec<u8>, Box<dyn Error>> {
@@ -21,9 +22,17 @@ fn signed(bytes: &[u8]) -> Result<Vec<u8>, Box<dyn Error>> {
     Ok(bytes)
 }
 
-fn main() -> Result<(), Box<dyn Error>> {
+fn write_signed() -> Result<(), Box<dyn Error>> {
     let mut bytes = Vec::new();
     stdin().read_to_end(&mut bytes)?;
     stdout().write_all(&signed(&bytes)?)?;
     Ok(())
+}
+
+fn main() -> ExitCode {
+    if let Err(error) = write_signed() {
+        eprintln!("{error}");
+        return ExitCode::FAILURE;
+    }
+    ExitCode::SUCCESS
 }
