@@ -25,10 +25,11 @@
  * patterns, as `a**`, `(?:a)`, `(a`, `[a]`, `a{2}` and `\d`, are not covered: there the flag is believed, so keep it
  * true. sandzguli_pattern tells the flag of a covered pattern, and which patterns are not covered.
  *
- * A call of a function carries its signature: the kinds of its arguments, its extra and the kind of its result. Check,
- * copy and both texts believe it. sandzguli_check_table does not: it asks the function table, which is that of the Rust
- * crate promql-parser (`FUNCTIONS` in function.rs, 91 names), and refuses names that it lacks with 37, signatures that
- * are unlike its own with 38. sandzguli_signature writes the signature of a name, so that nobody writes one by hand.
+ * A call record carries the signature of its function: the kinds of its arguments, its extra and the kind of its
+ * result. Check, copy and both texts believe it. sandzguli_check_table does not: it asks the function table, which is
+ * that of the Rust crate promql-parser (`FUNCTIONS` in function.rs, 91 names), and refuses a name that is not in it
+ * with 37, a signature unlike the table's with 38. sandzguli_signature writes the table's signature of a name, so that
+ * nobody writes one by hand.
  *
  * Page, pattern and name are only read. They may be at any address; NULL is allowed where the length is 0.
  *
@@ -115,9 +116,9 @@ enum sandzguli_kind {
     SANDZGULI_STRING = 3
 };
 
-/* Why a call refuses, each with its name; 35, 36, 39 and 40 are no refusals. Of calls on a page
- * only those that write give 5, and only sandzguli_check_table gives 37 and 38, and not 29; all others are given by all
- * of them. sandzguli_signature gives 5 and 37. An archive that is newer than this header may have more refusals:
+/* Why a call refuses, each with its name; 35, 36, 39 and 40 are no refusals. Of the five calls on a page only those
+ * that write give 5, and only sandzguli_check_table gives 37 and 38, and not 29; all others are given by all of them.
+ * sandzguli_signature gives 5 and 37. An archive that is newer than this header may have more refusals:
  * sandzguli_refusal_name has their names. */
 enum sandzguli_refusal {
     SANDZGULI_BAD_FIELD = 1,                /* record cut short, bad number or code */
@@ -169,14 +170,15 @@ enum sandzguli_pattern_answer {
 /* The kind of the query, or why it is refused. Writes nothing; the count of bytes is 0. */
 sandzguli_outcome sandzguli_check(const uint8_t *page, size_t page_len);
 
-/* As sandzguli_check, and asks the function table of every call too. Refused with 37 (SANDZGULI_UNKNOWN_FUNCTION) where
- * the table does not have the name, byte by byte; with 38 (SANDZGULI_UNLIKE_SIGNATURE) where the count of kinds, one of
- * them, the extra or the result is unlike the table's. Both are asked when all fields of the call were read and before
- * its operands are counted, so before 2; the count of arguments is no part of a signature. The first record that is
- * refused decides.
+/* As sandzguli_check, and holds every call record to the function table too. Refused with 37
+ * (SANDZGULI_UNKNOWN_FUNCTION) where the table does not have the name, byte by byte; with 38
+ * (SANDZGULI_UNLIKE_SIGNATURE) where the count of kinds, one of them, the extra or the result is unlike the table's.
+ * Both are asked when all fields of the record were read and before its operands are counted, so before 2; the count of
+ * arguments is no part of a signature. The first record that is refused decides.
  *
- * What passes is accepted by check with the same kind, and what is refused with another number than 37 and 38, check
- * refuses with it at the same record. It never is 29: each function of the table that declares no kinds is fixed. */
+ * A page that passes, check accepts with the same kind. A page that is refused with another number than 37 and 38,
+ * check refuses with it at the same record. That number is not 29: functions of the table that declare no kinds are
+ * fixed. */
 sandzguli_outcome sandzguli_check_table(const uint8_t *page, size_t page_len);
 
 /* The page of the checked query: numbers under unary records negated, set operators many-to-many, @ before offset

@@ -74,12 +74,12 @@ pub fn check(page: &[u8]) -> Result<Kind, Refusal> {
     outcome(asked(sandzguli_check, page)).map(|written| written.kind)
 }
 
-/// [`check`] that asks the function table of every call too: a name that the table lacks is refused with
+/// [`check`] that holds every call record to the function table too: a name that the table lacks is refused with
 /// [`Rule::UnknownFunction`], a signature unlike the table's with [`Rule::UnlikeSignature`].
 ///
-/// Both are asked when all fields of the call were read and before its operands are counted; the first record that is
-/// refused decides. What passes, [`check`] accepts with the same kind; what is refused with another rule, [`check`]
-/// refuses with it at the same record. That rule never is [`Rule::NoDeclaredKinds`].
+/// Both are asked when all fields of the record were read and before its operands are counted; the first record that is
+/// refused decides. A page that passes, [`check`] accepts with the same kind. A page that is refused with another rule,
+/// [`check`] refuses with it at the same record. That rule never is [`Rule::NoDeclaredKinds`].
 ///
 /// ```
 /// use sandzguli::page::{Function, Page, Record};

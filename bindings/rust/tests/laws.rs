@@ -1,12 +1,13 @@
 //! The laws that the sources cite are stated in the library's proofs: on them rests what is unsafe there, and what is
-//! said of two pages that are one query.
+//! said of two pages that are one query and of the function table.
 
 use std::fs;
 use std::path::Path;
 
-const SOURCES: [&str; 3] = [
+const SOURCES: [&str; 4] = [
     include_str!("../src/call.rs"),
     include_str!("../src/same_query.rs"),
+    include_str!("../src/signature.rs"),
     include_str!("../src/text.rs"),
 ];
 
