@@ -14,11 +14,11 @@ use Rattle.page.specs.Allowed.{IsNumber}
 use Rattle.page.proofs.LengthLaws.{writeText-some}
 use Rattle.records.specs.Stack.{operandsOf}
 use Rattle.records.specs.Literal.{Literal, negate}
-use Rattle.records.specs.Field.{writeOption, writeKind}
+use Rattle.records.specs.Field.{writeOption}
 use Rattle.records.specs.Matcher.{writeMatcher}
 use Rattle.records.specs.Modifier.{LabelModifier, BinModifier, writeLabelModifier, writeBinModifier}
 use Rattle.records.specs.Time.{Times}
-use Rattle.records.specs.Signature.{Function, writeVariadic, writeFunction}
+use Rattle.records.specs.Signature.{Function, writeSignature, writeFunction}
 use Rattle.records.specs.Record.{Leaf, number, string, selector, Wrapper, range, subquery, at, offset, unary, paren, leaf, binary, aggregate, call, writeRecord}
 use Rattle.records.specs.Allowed.{IsLeaf, IsWrapper, IsOptionOf, IsBinModifier}
 use Rattle.leaves.specs.Duration.{displayDuration}
@@ -200,9 +200,7 @@ call-short f n es node h =
       enclosed-short (f .name) es,
       writeText-some (f .name),
       length-append (11 ∷ writeFunction f) (writeNumber n),
-      length-append (writeText (f .name) ++ writeList writeKind (f .argTypes) ++ writeVariadic (f .variadic)) (writeKind (f .returnType)),
-      length-append (writeText (f .name) ++ writeList writeKind (f .argTypes)) (writeVariadic (f .variadic)),
-      length-append (writeText (f .name)) (writeList writeKind (f .argTypes)),
+      length-append (writeText (f .name)) (writeSignature f),
     ))
 
 pub aggregate-written : (c : ℕ) (m : Option LabelModifier) (n : ℕ) → length (writeLabelModifier m) ≤ length (writeRecord (aggregate c m n))
