@@ -78,8 +78,9 @@ pub fn check(page: &[u8]) -> Result<Kind, Refusal> {
 /// [`Rule::UnknownFunction`], a signature unlike the table's with [`Rule::UnlikeSignature`].
 ///
 /// Both are asked when all fields of the record were read and before its operands are counted; the first record that is
-/// refused decides. A page that passes, [`check`] accepts with the same kind. A page that is refused with another rule,
-/// [`check`] refuses with it at the same record. That rule never is [`Rule::NoDeclaredKinds`].
+/// refused decides. A page that passes, [`check`] accepts with the same kind (proved: `table-accepted`). A page that is
+/// refused with another rule, [`check`] refuses with it at the same record (`table-refused`). That rule never is
+/// [`Rule::NoDeclaredKinds`] (`table-no-29`).
 ///
 /// ```
 /// use sandzguli::page::{Function, Page, Record};

@@ -27,7 +27,8 @@ extern "C" {
 /// ```
 ///
 /// [`Function::known`](crate::page::Function::known) is the function with its signature, and
-/// [`Record::call_known`](crate::page::Record::call_known) its call.
+/// [`Record::call_known`](crate::page::Record::call_known) its call. A call record with this name and these bytes is one
+/// of the table (proved: `signature-signs`).
 pub fn signature(name: impl AsRef<[u8]>) -> Option<Signature> {
     let bytes = owned(sandzguli_signature, name.as_ref(), SIGNATURE_BYTES).ok()?;
     Some(read_signature(&bytes).expect("it is written as it stands on a page"))
