@@ -2,7 +2,7 @@
 -- hold every signature of the function table; and that a call record which is built from one is read as a call of the
 -- table's function. What is asked of every row of the table is computed. Assumes nothing.
 use Prim.Native.Nat.{ℕ, _≤_}
-use mathlib.Core.Path.{_≡_, refl, sym, ap, _∙_, subst}
+use mathlib.Core.Path.{_≡_, refl, sym, ap, _∙_}
 use mathlib.Core.Bool.{Bool, true, false, _&&_}
 use mathlib.Core.List.{List, [], _∷_, _++_, append-assoc}
 use mathlib.Core.Option.{Option, none, some}
@@ -11,7 +11,7 @@ use borrow.Author.Tests.{le-leb}
 use lib.ListN.{length, take, drop}
 use lib.Seq.{take-at}
 use lib.Dec.{T, leb, ltb, leb→le, ltb→lt}
-use Rattle.page.specs.Bytes.{pick, all, equal}
+use Rattle.page.specs.Bytes.{all}
 use Rattle.page.specs.Limits.{countLimit, functionNameLimit}
 use Rattle.page.specs.Read.{got}
 use Rattle.page.specs.Number.{writeNumber}
@@ -26,8 +26,8 @@ use Rattle.records.specs.Allowed.{IsVariadic, IsKind, IsFunction}
 use Rattle.records.proofs.ReadBackLaws.{readRecord-back}
 use Rattle.functions.specs.Functions.{functions}
 use Rattle.functions.specs.Lookup.{lookup, signatureFault}
-use Rattle.functions.proofs.OrderLaws.{equal-texts}
 use Rattle.functions.proofs.SignatureLaws.{same-equalSignature}
+use Rattle.functions.proofs.SignedLaws.{lookup-name, like-passes}
 use Rattle.outcomes.specs.Signature.{unknownFunction, signatureOf, signatureIn, signature, signatureRoom, OfSignature, Signs}
 use Rattle.outcomes.proofs.CallsLaws.{KeepsCalled, chosen, written-keeps}
 
@@ -52,24 +52,6 @@ signatureOf-of (some f) buffer = by (leb (length (writeSignature f)) (length buf
 -- it is refused with 37 or 5 only, at 0
 pub signatureIn-of : (table : List Function) (name : Text) (buffer : List ℕ) → OfSignature (signatureIn table name buffer .outcome)
 signatureIn-of table name = signatureOf-of (lookup table name)
-
--- ## A function that is found
-
--- has the name, and passes a test that every row passes
-lookup-row : (test : Function → Bool) (table : List Function) (name : Text) {f : Function} → T (all test table)
-    → lookup table name ≡ some f → T (test f) × (f .name ≡ name)
-unfolding lookup
-lookup-row test [] name t e = let z : _≡_ {A = ℕ} 0 1 = cc in absurd (omega arith)
-lookup-row test (g ∷ table) name {f} t e =
-    by (equal (g .name) name) refl (lookup-row test table name (right-of (test g) (all test table) t)) e
-  where
-    by : (b : Bool) → equal (g .name) name ≡ b → (lookup table name ≡ some f → T (test f) × (f .name ≡ name))
-        → pick b (some g) (lookup table name) ≡ some f → T (test f) × (f .name ≡ name)
-    by true q more e =
-        let same : g ≡ f = cc in
-        let named = equal-texts (g .name) name (subst (λ (x : Bool). T x) (sym q) tt) in
-        subst (λ (h : Function). T (test h) × (h .name ≡ name)) same (left-of (test g) (all test table) t, named)
-    by false q more e = more e
 
 -- ## What every row of the function table passes
 
@@ -116,26 +98,30 @@ function-allowed f h =
 -- ## A function of the table
 
 module _ (name : Text) {f : Function} (found : lookup functions name ≡ some f) where
-  row : T (isRow f) × (f .name ≡ name)
-  row = lookup-row isRow functions name rows found
+  named : f .name ≡ name
+  named = lookup-name functions name f found
+
+  -- a call of it has no fault beside the table
+  pub signature-faultless : (n : ℕ) → signatureFault functions (call f n) ≡ none
+  signature-faultless n =
+      rw (named, found, same-equalSignature f f (record { kinds = refl; extra = refl; result = refl }))
+
+  row : T (isRow f)
+  row = like-passes isRow functions rows f (signature-faultless 0)
 
   -- 8 bytes hold its signature
   pub signature-short : length (writeSignature f) ≤ signatureRoom
-  signature-short = leb→le _ signatureRoom (right-of (isAllowed f) (leb (length (writeSignature f)) signatureRoom) (row .0))
+  signature-short = leb→le _ signatureRoom (right-of (isAllowed f) (leb (length (writeSignature f)) signatureRoom) row)
 
-  -- a call record with its name and its signature is read as a call of it, and has no fault beside the table
+  -- a call record with its name and its signature is read as a call of it
   pub signature-reads : (n : ℕ) → IsCount n → (rest : List ℕ)
       → readRecord (11 ∷ (writeText name ++ (writeSignature f ++ (writeNumber n ++ rest)))) ≡ got (call f n) rest
   unfolding writeRecord
   signature-reads n h rest =
-      let allowed = function-allowed f (left-of (isAllowed f) (leb (length (writeSignature f)) signatureRoom) (row .0)) in
+      let allowed = function-allowed f (left-of (isAllowed f) (leb (length (writeSignature f)) signatureRoom) row) in
       let grouped : writeRecord (call f n) ++ rest ≡ 11 ∷ (writeText (f .name) ++ (writeSignature f ++ (writeNumber n ++ rest)))
       = simp append-assoc in
-      rw (← row .1) (ap readRecord (sym grouped) ∙ readRecord-back (call f n) (allowed, h) .reads rest)
-
-  pub signature-faultless : (n : ℕ) → signatureFault functions (call f n) ≡ none
-  signature-faultless n =
-      rw (row .1, found, same-equalSignature f f (record { kinds = refl; extra = refl; result = refl }))
+      rw (← named) (ap readRecord (sym grouped) ∙ readRecord-back (call f n) (allowed, h) .reads rest)
 
 -- ## The call
 
