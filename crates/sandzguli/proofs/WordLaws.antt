@@ -1,9 +1,10 @@
 -- The words of outcomes fit 64 bits. Assumes nothing.
 use Prim.Native.Nat.{ℕ, _≤_}
 use native.Mathlib.Omega.{arith}
-use mathlib.Core.Bool.{not}
+use mathlib.Core.Path.{_≡_}
+use mathlib.Core.Bool.{Bool, true, false, _&&_, _||_, not}
 use mathlib.Core.List.{List}
-use lib.Dec.{eqb}
+use lib.Dec.{T, eqb, eqb→eq}
 use Rattle.page.specs.Limits.{recordLimit}
 use Rattle.page.specs.Text.{Text}
 use Rattle.page.proofs.NumberLaws.{left-of}
@@ -13,6 +14,8 @@ use Rattle.ast.specs.CheckPage.{check}
 use Rattle.ast.specs.Table.{isInTable, isOfCheck, InTable}
 use Rattle.ast.proofs.CheckLaws.{check-in}
 use Rattle.functions.specs.Functions.{functions}
+use Rattle.functions.specs.Lookup.{checkTable, isOfTable}
+use Rattle.functions.proofs.CheckTableLaws.{table-in}
 use Rattle.outcomes.specs.Calls.{Called}
 use Rattle.outcomes.specs.Demand1.{Demand1}
 use Rattle.outcomes.specs.Signature.{signature, signatureNumbers, OfSignature}
@@ -45,6 +48,28 @@ check-fits page = inTable-fits page (check page) (all-but-five (check page) (che
     all-but-five : (o : Outcome) → InTable isOfCheck page o → InTable isInTable page o
     all-but-five (answer k n) h = tt
     all-but-five (refusal n i) h = (left-of (isInTable n) (not (eqb n 5)) (h .0), h .1)
+
+-- and what the check with the function table answers
+pub checkTable-fits : (page : List ℕ) → FitsWord (checkTable page)
+checkTable-fits page = by (checkTable page) (table-in page)
+  where
+    within : (i : ℕ) → i ≤ recordLimit → i ≤ 65535
+    within i l = omega arith
+
+    number : (n : ℕ) (a b c : Bool) → (T a → T (isInTable n)) → (T b → n ≡ 37) → (T c → n ≡ 38) → T (a || b || c) → n ≤ 255
+    number n true b c own e q h = isInTable-small n (own tt)
+    number n false true c own e q h = omega (arith, e tt)
+    number n false false true own e q h = omega (arith, q tt)
+    number n false false false own e q h = absurd h
+
+    by : (o : Outcome) → InTable isOfTable page o → FitsWord o
+    by (answer k n) h = tt
+    by (refusal n i) h = (
+      number n (isOfCheck n && not (eqb n 29)) (eqb n 37) (eqb n 38)
+          (λ t. left-of (isInTable n) (not (eqb n 5)) (left-of (isOfCheck n) (not (eqb n 29)) t))
+          (eqb→eq n 37) (eqb→eq n 38) (h .0),
+      within i (inTable-record isOfTable page n i h),
+    )
 
 -- and what the call that writes a signature answers
 pub signature-fits : (name : Text) (buffer : List ℕ) → FitsWord (signature name buffer .outcome)

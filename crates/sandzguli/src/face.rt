@@ -9,10 +9,12 @@ use calls::split;
 use names::kind::kind_name;
 use names::refusal::refusal_name;
 use patterns::matches_empty_text;
+use table_check::check_table;
 use walk::check;
 ghost use mathlib.Core.Path.{_≡_};
 ghost use Rattle.ast.specs.CheckPage.{check};
 ghost use Rattle.ast.specs.Part.{labelPart};
+ghost use Rattle.functions.specs.Lookup.{checkTable};
 ghost use Rattle.names.specs.Names.{kindName, refusalName};
 ghost use Rattle.names.specs.Written.{nameWritten, DoesName};
 ghost use Rattle.outcomes.specs.Calls.{copy, canonicalText, splitText};
@@ -67,6 +69,14 @@ pub extern "C" fn sandzguli_split(page: &[u8], out: &mut [u8]) -> u64
     ensures { λ r. ⌜ DoesWord (splitText (now (page .entry)) (now (out .entry))) r (now (out .exit)) ⌝ }
 {
     outcome_word(split(page, out))
+}
+
+// The check with the function table too.
+#[no_mangle]
+pub extern "C" fn sandzguli_check_table(page: &[u8]) -> u64
+    ensures { λ r. ⌜ r ≡ outcomeWord (checkTable (now (page .entry))) ⌝ }
+{
+    outcome_word(check_table(page))
 }
 
 // The signature of a function as it stands in a call behind the name.
