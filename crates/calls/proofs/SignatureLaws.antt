@@ -1,6 +1,6 @@
 -- The ends of the call that writes a signature, for any table of the form: an unknown name, too short a buffer, written.
 -- The last byte of a signature is its result kind. Assumes nothing.
-use Prim.Native.Nat.{ℕ, zero, suc, _+_, _-_, _≤_, _<_}
+use Prim.Native.Nat.{ℕ, _+_, _-_, _≤_, _<_}
 use mathlib.Core.Path.{_≡_, refl, sym, ap, _∙_, subst}
 use mathlib.Core.List.{List, [], _∷_, _++_}
 use mathlib.Core.Option.{none, some}
@@ -18,6 +18,7 @@ use Rattle.records.specs.Field.{writeKind}
 use Rattle.records.specs.Signature.{Function, writeVariadic, writeSignature}
 use Rattle.records.specs.Outcome.{Outcome, answer, refusal}
 use Rattle.functions.specs.Table.{cut, countOf, isTable, placeOf}
+use Rattle.functions.proofs.SignatureLaws.{same-kind}
 use Rattle.functions.proofs.CutLaws.{placed, cut-at}
 use Rattle.functions.proofs.TableLaws.{formed-found, formed-unknown, formed-signature}
 use Rattle.outcomes.specs.Calls.{tooShort}
@@ -26,20 +27,8 @@ use Rattle.calls.specs.Signature.{IsKindOf, PutsSignature, SignsIn}
 
 -- ## Kinds by their numbers
 
-abbrev kindFrom : ℕ → Kind
-kindFrom zero = vector
-kindFrom (suc zero) = scalar
-kindFrom (suc (suc zero)) = matrix
-kindFrom (suc (suc (suc n))) = string
-
-kind-back : (k : Kind) → kindFrom (kindNumber k) ≡ k
-kind-back vector = refl
-kind-back scalar = refl
-kind-back matrix = refl
-kind-back string = refl
-
 pub is-kind : (j : Kind) → IsKindOf (kindNumber j) j
-is-kind j k e = sym (kind-back j) ∙ ap kindFrom e ∙ kind-back k
+is-kind j k e = same-kind j k e
 
 pub is-string : (n : ℕ) → 2 < n → IsKindOf n string
 is-string n h vector e = absurd (omega arith)

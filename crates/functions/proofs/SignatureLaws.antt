@@ -40,7 +40,7 @@ kind-back scalar = refl
 kind-back matrix = refl
 kind-back string = refl
 
-same-kind : (j k : Kind) → kindNumber j ≡ kindNumber k → j ≡ k
+pub same-kind : (j k : Kind) → kindNumber j ≡ kindNumber k → j ≡ k
 same-kind j k e = sym (kind-back j) ∙ ap kindOf e ∙ kind-back k
 
 kinds-back : (ks : List Kind) → map kindOf (map kindNumber ks) ≡ ks
