@@ -1,5 +1,5 @@
 -- Where records stand: the walk's tables say it of every record that it accepted (`tables-standing`), and behind those
--- stands the next one, if there is one that can be read (`reached-more`, `reached-all`). Assumes nothing.
+-- stands the next one, if there is one that can be read (`reached-one`, `reached-bad`). Assumes nothing.
 use Prim.Native.Nat.{ℕ, zero, suc, _+_, _-_, _≤_, _<_, min}
 use mathlib.Core.Path.{_≡_, refl, sym, ap, ap₂, subst, _∙_}
 use mathlib.Core.List.{List, [], _∷_}
@@ -136,7 +136,7 @@ module _ (page : List ℕ) where
         here : RecordStands page at index
         here = stands-here index at below reads (next .left)
 
-        pub reached-one : Reaches page index (set starts index at) (suc index)
+        pub reached-one : Reaches page index (set starts index at) (index + 1)
         reached-one = record {
           known = record {
             sized = rw (length-set starts index at) (omega (arith, sized, below));

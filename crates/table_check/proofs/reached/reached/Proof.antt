@@ -1,4 +1,3 @@
-use native.Mathlib.Numerals.{add-one}
 use denote.Ref.{now}
 use native.Mathlib.Omega.{arith}
 use lib.ListN.{length}
@@ -45,8 +44,8 @@ same-length : tie.Need-same-length
 same-length c = search needs
 
 returns-3 : tie.Need-returns-3
-returns-3 c = rw (add-one (c .before .before .before .before .before .before .before .before .before .args .index)) (reached-one (now (c .before .before .before .before .before .before .before .before .before .args .page)) (c .before .before .before .before .before .before .before .before .before .pre .0 .0) (c .before .before .before .before .before .before .before .before .before .pre .0 .1) (c .before .before .before .before .before .before .before .before .before .pre .1) (c .before .before .before .next-start .ensures) (c .before .before .before .before .before .if2 .left)
-    (rw (c .enum-told .given .1) at (c .before .before .read-record .ensures .0)))
+returns-3 c = reached-one (now (c .before .before .before .before .before .before .before .before .before .args .page)) (c .before .before .before .before .before .before .before .before .before .pre .0 .0) (c .before .before .before .before .before .before .before .before .before .pre .0 .1) (c .before .before .before .before .before .before .before .before .before .pre .1) (c .before .before .before .next-start .ensures) (c .before .before .before .before .before .if2 .left)
+    (rw (c .enum-told .given .1) at (c .before .before .read-record .ensures .0))
 
 same-length-2 : tie.Need-same-length-2
 same-length-2 c = search needs
