@@ -1,7 +1,7 @@
 -- Refusal 29 is that of a call with no declared kinds whose count of arguments is not fixed (`check-bare`): a fixed one
 -- with arguments is refused with 26 before it. Assumes nothing.
 use Prim.Native.Nat.{ℕ, _+_, _-_}
-use mathlib.Core.Path.{_≡_, refl, sym, ap, _∙_}
+use mathlib.Core.Path.{_≡_, refl, ap, _∙_}
 use mathlib.Core.Bool.{Bool, true, false, _&&_, not}
 use mathlib.Core.List.{List, [], _∷_, _++_, map}
 use native.Mathlib.Omega.{arith}
@@ -14,7 +14,7 @@ use Rattle.records.specs.Signature.{Variadic, fixed, unlimited, upTo, Function}
 use Rattle.records.specs.Record.{Record, leaf, number, string, selector, wrapper, binary, aggregate, call, operands, readPage}
 use Rattle.records.specs.Stack.{operandsOf}
 use Rattle.records.specs.Outcome.{refusal}
-use Rattle.ast.specs.Refusal.{Row, when, firstFault, Result, refused, ok, unless, andThen}
+use Rattle.ast.specs.Refusal.{when, firstFault, Result, refused, ok, unless, andThen}
 use Rattle.ast.specs.Expr.{Expr}
 use Rattle.ast.specs.CheckAst.{arityRows, argsRows, argsMatch}
 use Rattle.ast.specs.CheckPage.{apply, check}
@@ -119,13 +119,13 @@ pub record BareCall (page : List ℕ) (i : ℕ) : Type 0 where
 
 pub check-bare : (page : List ℕ) (i : ℕ) → check page ≡ refusal 29 i → BareCall page i
 check-bare page i e =
-    by (found-record .refusedRecord) (found-record .isRecord) (check-refuses page 29 i (omega arith) e .1) (found-record .isRefusal)
+    by (found .refusedRecord) (found .isRecord) (check-refuses page 29 i (omega arith) e .1) (found .isRefusal)
   where
-    found-record : RefusesRecord page i 29
-    found-record = check-refuses page 29 i (omega arith) e .0
+    found : RefusesRecord page i 29
+    found = check-refuses page 29 i (omega arith) e .0
 
-    by : (r : Record) → drop i (readPage page .records) ≡ r ∷ found-record .later → T (isOfRecord r 29)
-        → apply r (found-record .stackBefore) ≡ refused 29 → BareCall page i
+    by : (r : Record) → drop i (readPage page .records) ≡ r ∷ found .later → T (isOfRecord r 29)
+        → apply r (found .stackBefore) ≡ refused 29 → BareCall page i
     by (leaf (number l)) s h q = absurd h
     by (leaf (string t)) s h q = absurd h
     by (leaf (selector x)) s h q = absurd h
@@ -135,7 +135,7 @@ check-bare page i e =
     by (call f n) s h q = record {
       function = f;
       count = n;
-      later = found-record .later;
+      later = found .later;
       stands = s;
-      bare = applied-bare f n (found-record .stackBefore) (found-record .holds) q;
+      bare = applied-bare f n (found .stackBefore) (found .holds) q;
     }

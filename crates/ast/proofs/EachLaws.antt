@@ -1,10 +1,14 @@
--- What holds of each of the first elements of a list. Assumes nothing.
+-- What holds of each element of a list, and of each of the first ones. Assumes nothing.
 use Prim.Native.Nat.{ℕ, zero, suc}
 use mathlib.Core.Path.{_≡_, sym, subst}
 use mathlib.Core.List.{List, [], _∷_}
 use native.Mathlib.Omega.{arith}
 use lib.ListN.{take, drop}
 use Rattle.page.specs.Allowed.{Each}
+
+pub each-all : {A : Type 0} (P : A → Type 0) (xs : List A) → ((x : A) → P x) → Each P xs
+each-all P [] h = tt
+each-all P (x ∷ xs) h = (h x, each-all P xs h)
 
 pub each-take : {A : Type 0} (P : A → Type 0) (xs : List A) (k : ℕ) → Each P xs → Each P (take k xs)
 each-take P [] zero h = tt

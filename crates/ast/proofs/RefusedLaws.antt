@@ -1,23 +1,22 @@
 -- What refuses a page under rules (`checkPageBy-refuses`): a rule that is asked of the record named, or document 01's own
 -- check; and neither refuses a record before it. By where the walk stopped. Assumes nothing.
-use Prim.Native.Nat.{ℕ, zero, suc, _+_, _≤_}
+use Prim.Native.Nat.{ℕ, suc, _+_, _≤_}
 use mathlib.Core.Path.{_≡_, refl, sym, ap, ap₂, subst, _∙_}
 use mathlib.Core.List.{List, [], _∷_, map}
 use mathlib.Core.Option.{Option, none, some}
 use native.Mathlib.Nat.{add-zero, zero-add}
 use native.Mathlib.Omega.{arith}
-use lib.ListN.{length, take, drop, take-append-drop, length-drop}
+use lib.ListN.{length, take, drop, length-drop}
 use lib.Seq.{length-take-le}
-use Rattle.page.specs.Allowed.{Each}
 use Rattle.records.specs.Kind.{Kind}
-use Rattle.records.specs.Record.{Record, Ending, end, unreadable, Records, readPage}
+use Rattle.records.specs.Record.{Record, Records, readPage}
 use Rattle.ast.specs.Refusal.{Result, refused, ok, unless, andThen}
 use Rattle.ast.specs.Expr.{Expr, valueType}
-use Rattle.ast.specs.Walk.{Walked, stack, stopped, proceed, Checked, accepted, refusedAt, atEnd, finished, walk}
+use Rattle.ast.specs.Walk.{Walked, stack, stopped, proceed, refusedAt, atEnd, finished, walk}
 use Rattle.ast.specs.Walk.{stackAfter, walkPage}
 use Rattle.ast.specs.CheckPage.{apply, checkPage}
-use Rattle.ast.specs.Rules.{Rules, plain, guarded, ruled, applyBy, checkPageBy}
-use Rattle.ast.proofs.WalkLaws.{walk-first, walk-then, walk-reached, walk-within}
+use Rattle.ast.specs.Rules.{Rules, guarded, ruled, applyBy, checkPageBy}
+use Rattle.ast.proofs.WalkLaws.{walk-then, walk-reached, walk-within}
 use Rattle.ast.proofs.EachLaws.{each-take, each-one}
 use Rattle.ast.proofs.RulesLaws.{ruled-passes, walk-refines, end-index, Unasked, walk-unasked}
 
@@ -138,7 +137,9 @@ module _ (rules : Rules) where
         let own : checkPage page ≡ refusedAt n i =
         ap (finished (readPage page .ending) (length (readPage page .records))) (walk-refines rules (readPage page .records) 0 [] s is) ∙ e in
         record {
-          cause = document own (each-take (λ r. rules .before r ≡ none) (readPage page .records) (suc i) (walk-unasked rules (readPage page .records) 0 [] s is));
+          cause = document own
+              (each-take (λ r. rules .before r ≡ none) (readPage page .records) (suc i)
+              (walk-unasked rules (readPage page .records) 0 [] s is));
           passed = each-take (λ r. rules .before r ≡ none) (readPage page .records) i (walk-unasked rules (readPage page .records) 0 [] s is);
           first = λ m j q. let at : i ≡ j = cc in omega arith;
         }

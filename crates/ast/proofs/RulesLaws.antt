@@ -3,25 +3,26 @@
 -- find fault with, if document 01's check comes so far (`checkPageBy-first`), and else change nothing
 -- (`checkPageBy-unasked`, `checkPageBy-none`). What refuses a page is in `RefusedLaws`. Assumes nothing.
 use Prim.Native.Nat.{ℕ, suc, _+_, _≤_, _<_, min}
-use mathlib.Core.Path.{_≡_, refl, sym, ap, ap₂, subst, _∙_}
+use mathlib.Core.Path.{_≡_, refl, sym, ap, subst, _∙_}
 use mathlib.Core.List.{List, [], _∷_, map}
 use mathlib.Core.Option.{Option, none, some}
-use native.Mathlib.Nat.{add-zero, zero-add}
+use native.Mathlib.Nat.{zero-add}
 use native.Mathlib.Omega.{arith}
 use lib.ListN.{length, take, drop, length-take, length-drop}
 use lib.Seq.{length-take-le, take-all}
 use Rattle.page.specs.Allowed.{Each}
 use Rattle.records.specs.Kind.{Kind}
-use Rattle.records.specs.Record.{Record, Ending, end, unreadable, Records, readPage}
+use Rattle.records.specs.Record.{Record, Ending, end, unreadable, readPage}
 use Rattle.ast.specs.Refusal.{Result, refused, ok, unless, andThen}
 use Rattle.ast.specs.Expr.{Expr, valueType}
 use Rattle.ast.specs.Walk.{Walked, stack, stopped, proceed, Checked, accepted, refusedAt, atEnd, finished, walk}
-use Rattle.ast.specs.Walk.{stackAfter, walkPage}
+use Rattle.ast.specs.Walk.{stackAfter}
 use Rattle.ast.specs.CheckPage.{apply, checkPage}
 use Rattle.ast.specs.Table.{recordCount}
 use Rattle.ast.specs.Rules.{Rules, plain, guarded, ruled, applyBy, checkPageBy, reachedCount, FirstAsked}
 use Rattle.ast.proofs.WalkLaws.{walk-first, walk-then, walk-reached, walk-early, walk-within}
 use Rattle.ast.proofs.CheckLaws.{CheckedIn, checkPage-in}
+use Rattle.ast.proofs.EachLaws.{each-all}
 
 -- ## ruled
 
@@ -50,25 +51,6 @@ module _ {A : Type 0} where
       by none none p q (ok s) e = record { before = p; passes = e; after = q }
 
 -- ## The walk
-
--- two effects that are the same on every record give the same walk
-walk-same : {A : Type 0} (f g : Record → List A → Result (List A)) → ((r : Record) (s : List A) → f r s ≡ g r s)
-    → (rs : List Record) (i : ℕ) (s : List A) → walk f i s rs ≡ walk g i s rs
-walk-same f g same [] i s = refl
-walk-same {A} f g same (r ∷ rs) i s =
-    ap (λ (x : Result (List A)). proceed i x (λ t. walk f (suc i) t rs)) (same r s)
-    ∙ by (λ t. walk-same f g same rs (suc i) t) (g r s)
-  where
-    by : ((t : List A) → walk f (suc i) t rs ≡ walk g (suc i) t rs) → (x : Result (List A))
-        → proceed i x (λ t. walk f (suc i) t rs) ≡ proceed i x (λ t. walk g (suc i) t rs)
-    by more (refused n) = refl
-    by more (ok t) = more t
-
-pub checkPageBy-plain : (page : List ℕ) → checkPageBy plain page ≡ checkPage page
-unfolding checkPageBy checkPage
-checkPageBy-plain page =
-    ap (λ (w : Walked Expr). finished (readPage page .ending) (length (readPage page .records)) w)
-    (walk-same (applyBy plain) apply (λ r s. ruled-plain r (map valueType s) (apply r s)) (readPage page .records) 0 [])
 
 module _ (rules : Rules) where
   -- a walk to the end is document 01's
@@ -154,7 +136,9 @@ module _ (rules : Rules) (none-after : (r : Record) (ks : List Kind) → rules .
       ap (finished (readPage page .ending) (length (readPage page .records))) (
       walk-reached (applyBy rules) (readPage page .records) 0 i [] s there
       ∙ ap (walk (applyBy rules) (0 + length (take i (readPage page .records))) s) stands
-      ∙ ap {B = Walked Expr} (λ b. proceed (0 + length (take i (readPage page .records))) (guarded b (andThen (apply r s) (λ a. unless (rules .after r (map valueType s)) a)))
+      ∙ ap {B = Walked Expr}
+      (λ b. proceed (0 + length (take i (readPage page .records)))
+      (guarded b (andThen (apply r s) (λ a. unless (rules .after r (map valueType s)) a)))
       (λ t. walk (applyBy rules) (suc (0 + length (take i (readPage page .records)))) t later)) e
       ∙ ap {B = Walked Expr} (λ k. stopped n k) (zero-add (length (take i (readPage page .records))) ∙ length-take-le i (readPage page .records) inside)
       )
@@ -227,3 +211,9 @@ module _ (rules : Rules) (none-after : (r : Record) (ks : List Kind) → rules .
             → Unasked rules (take (reachedCount page c) (readPage page .records)) → checkPageBy rules page ≡ checkPage page
         by (accepted e n) is size passed = all-reached n (omega arith) passed
         by (refusedAt n i) is size passed = refused-as n i is passed
+
+-- ## Without rules
+
+pub checkPageBy-plain : (page : List ℕ) → checkPageBy plain page ≡ checkPage page
+checkPageBy-plain page =
+    checkPageBy-unasked plain (λ r ks. refl) page (each-all (λ r. plain .before r ≡ none) (readPage page .records) (λ r. refl))

@@ -1,6 +1,6 @@
 -- What the walk says, as the outcome of check: with the contract of check for the definition's outcome it is check's
 -- contract.
-use Prim.Native.Nat.{ℕ, _-_}
+use Prim.Native.Nat.{ℕ}
 use mathlib.Core.Path.{_≡_, sym, ap, subst, _∙_}
 use mathlib.Core.List.{List}
 use Rattle.records.specs.Kind.{Kind}
