@@ -1,10 +1,10 @@
--- What refuses a page under rules (`checkPageBy-refuses`): a rule that is asked of the record named, or document 01's own
--- check; and neither refuses a record before it. By where the walk stopped. Assumes nothing.
+-- What refuses a page under rules (`checkPageBy-refuses`): a rule that is asked of the record named, or document 01's
+-- own check; and neither refuses a record before it. By where the walk stopped. Assumes nothing.
 use Prim.Native.Nat.{ℕ, suc, _+_, _≤_}
 use mathlib.Core.Path.{_≡_, refl, sym, ap, ap₂, subst, _∙_}
 use mathlib.Core.List.{List, [], _∷_, map}
 use mathlib.Core.Option.{Option, none, some}
-use native.Mathlib.Nat.{add-zero, zero-add}
+use native.Mathlib.Nat.{add-zero}
 use native.Mathlib.Omega.{arith}
 use lib.ListN.{length, take, drop, length-drop}
 use lib.Seq.{length-take-le}
@@ -16,7 +16,7 @@ use Rattle.ast.specs.Walk.{Walked, stack, stopped, proceed, refusedAt, a
 use Rattle.ast.specs.Walk.{stackAfter, walkPage}
 use Rattle.ast.specs.CheckPage.{apply, checkPage}
 use Rattle.ast.specs.Rules.{Rules, guarded, ruled, applyBy, checkPageBy}
-use Rattle.ast.proofs.WalkLaws.{walk-then, walk-reached, walk-within}
+use Rattle.ast.proofs.WalkLaws.{walk-then, walk-reached, walk-refused, walk-within}
 use Rattle.ast.proofs.EachLaws.{each-take, each-one}
 use Rattle.ast.proofs.RulesLaws.{ruled-passes, walk-refines, end-index, Unasked, walk-unasked}
 
@@ -98,7 +98,8 @@ module _ (rules : Rules) where
 
 -- a record that is refused under rules
 refused-by : (rules : Rules) (r : Record) (ks : List Kind) (n : ℕ) (x : Result (List Expr)) (C : Type 0) → ruled rules r ks x ≡ refused n
-    → (rules .before r ≡ some n → C) → (rules .before r ≡ none → x ≡ refused n → C) → ((t : List Expr) → x ≡ ok t → rules .after r ks ≡ some n → C) → C
+    → (rules .before r ≡ some n → C) → (rules .before r ≡ none → x ≡ refused n → C)
+    → ((t : List Expr) → x ≡ ok t → rules .after r ks ≡ some n → C) → C
 refused-by rules r ks n x C e first own last = by (rules .before r) (rules .after r ks) x refl refl refl e
   where
     number : {m : ℕ} → _≡_ {A = Result (List Expr)} (refused m) (refused n) → m ≡ n
@@ -164,12 +165,7 @@ module _ (rules : Rules) where
       own : apply (x .item) (x .stackBefore) ≡ refused n → checkPage page ≡ refusedAt n i
       unfolding checkPage
       own e =
-          ap (finished (readPage page .ending) (length records)) (
-          walk-reached apply records 0 i [] (x .stackBefore) reached-at
-          ∙ ap (walk apply (0 + length (take i records)) (x .stackBefore)) stands-at
-          ∙ ap {B = Walked Expr} (λ y. proceed (0 + length (take i records)) y (λ t. walk apply (suc (0 + length (take i records))) t (x .later))) e
-          ∙ ap {B = Walked Expr} (λ k. stopped n k) (zero-add (length (take i records)) ∙ length-take-le i records inside)
-          )
+          ap (finished (readPage page .ending) (length records)) (walk-refused apply records i (x .stackBefore) n stands-at reached-at e)
 
       passed-at : Unasked rules (take i records)
       passed-at = subst (λ (k : ℕ). Unasked rules (take k records)) at-place (x .passed)

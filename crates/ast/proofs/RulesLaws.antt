@@ -1,15 +1,14 @@
 -- A check by rules. Without rules it is document 01's (`checkPageBy-plain`); under any rules a page is accepted only as
--- document 01 accepts it (`checkPageBy-accepts`). Rules that ask nothing after the operands refuse the first record they
--- find fault with, if document 01's check comes so far (`checkPageBy-first`), and else change nothing
+-- document 01 accepts it (`checkPageBy-accepts`). Rules that ask nothing after the operands refuse the first record
+-- they find fault with, if document 01's check comes so far (`checkPageBy-first`), and else change nothing
 -- (`checkPageBy-unasked`, `checkPageBy-none`). What refuses a page is in `RefusedLaws`. Assumes nothing.
 use Prim.Native.Nat.{ℕ, suc, _+_, _≤_, _<_, min}
 use mathlib.Core.Path.{_≡_, refl, sym, ap, subst, _∙_}
 use mathlib.Core.List.{List, [], _∷_, map}
 use mathlib.Core.Option.{Option, none, some}
-use native.Mathlib.Nat.{zero-add}
 use native.Mathlib.Omega.{arith}
-use lib.ListN.{length, take, drop, length-take, length-drop}
-use lib.Seq.{length-take-le, take-all}
+use lib.ListN.{length, take, drop, length-take}
+use lib.Seq.{take-all}
 use Rattle.page.specs.Allowed.{Each}
 use Rattle.records.specs.Kind.{Kind}
 use Rattle.records.specs.Record.{Record, Ending, end, unreadable, readPage}
@@ -20,7 +19,7 @@ use Rattle.ast.specs.Walk.{stackAfter}
 use Rattle.ast.specs.CheckPage.{apply, checkPage}
 use Rattle.ast.specs.Table.{recordCount}
 use Rattle.ast.specs.Rules.{Rules, plain, guarded, ruled, applyBy, checkPageBy, reachedCount, FirstAsked}
-use Rattle.ast.proofs.WalkLaws.{walk-first, walk-then, walk-reached, walk-early, walk-within}
+use Rattle.ast.proofs.WalkLaws.{walk-first, walk-then, walk-reached, walk-early, walk-refused, walk-within}
 use Rattle.ast.proofs.CheckLaws.{CheckedIn, checkPage-in}
 use Rattle.ast.proofs.EachLaws.{each-all}
 
@@ -96,7 +95,8 @@ module _ (rules : Rules) where
       (ruled-passes rules r (map valueType s) (apply r s) (first .0) (first .1) .before, walk-unasked rs (suc i) (first .0) t (first .2))
 
 -- no rule refuses a record of a page that passes
-pub checkPageBy-passes : (rules : Rules) (page : List ℕ) (t : Expr) (n : ℕ) → checkPageBy rules page ≡ accepted t n → Unasked rules (readPage page .records)
+pub checkPageBy-passes : (rules : Rules) (page : List ℕ) (t : Expr) (n : ℕ) → checkPageBy rules page ≡ accepted t n
+    → Unasked rules (readPage page .records)
 unfolding checkPageBy
 checkPageBy-passes rules page t n e =
     walk-unasked rules (readPage page .records) 0 [] (t ∷ [])
@@ -131,17 +131,10 @@ module _ (rules : Rules) (none-after : (r : Record) (ks : List Kind) → rules .
       → stackAfter apply i (readPage page) ≡ stack s → rules .before r ≡ some n → checkPageBy rules page ≡ refusedAt n i
   unfolding checkPageBy
   checkPageBy-asked page i n r later s stands passed reached e =
-      let inside : i ≤ length (readPage page .records) = (let sizes = ap length stands in omega (arith, sizes, length-drop i (readPage page .records))) in
-      let there = walk-as-document (take i (readPage page .records)) 0 [] passed ∙ reached in
-      ap (finished (readPage page .ending) (length (readPage page .records))) (
-      walk-reached (applyBy rules) (readPage page .records) 0 i [] s there
-      ∙ ap (walk (applyBy rules) (0 + length (take i (readPage page .records))) s) stands
-      ∙ ap {B = Walked Expr}
-      (λ b. proceed (0 + length (take i (readPage page .records)))
-      (guarded b (andThen (apply r s) (λ a. unless (rules .after r (map valueType s)) a)))
-      (λ t. walk (applyBy rules) (suc (0 + length (take i (readPage page .records)))) t later)) e
-      ∙ ap {B = Walked Expr} (λ k. stopped n k) (zero-add (length (take i (readPage page .records))) ∙ length-take-le i (readPage page .records) inside)
-      )
+      ap (finished (readPage page .ending) (length (readPage page .records)))
+      (walk-refused (applyBy rules) (readPage page .records) i s n stands
+      (walk-as-document (take i (readPage page .records)) 0 [] passed ∙ reached)
+      (ap (λ (b : Option ℕ). guarded b (andThen (apply r s) (λ a. unless (rules .after r (map valueType s)) a))) e))
 
   -- ### From what document 01's check comes to
 
@@ -195,7 +188,8 @@ module _ (rules : Rules) (none-after : (r : Record) (ks : List Kind) → rules .
         by (stack s) at e =
             let last = end-index (readPage page .ending) (recordCount page) s n i e in
             let whole = take-all (min (suc i) (recordCount page)) (readPage page .records) (omega (arith, last)) in
-            ap (finished (readPage page .ending) (recordCount page)) (walk-as-document (readPage page .records) 0 [] (subst (Unasked rules) whole passed))
+            ap (finished (readPage page .ending) (recordCount page))
+            (walk-as-document (readPage page .records) 0 [] (subst (Unasked rules) whole passed))
         by (stopped m j) at e =
             let index : j ≡ i = cc in
             let there = stops-there (min (suc i) (recordCount page)) m j (ap (λ (k : ℕ). min (suc k) (recordCount page)) (sym index)) at in
@@ -204,7 +198,8 @@ module _ (rules : Rules) (none-after : (r : Record) (ks : List Kind) → rules .
             (walk-early (applyBy rules) (readPage page .records) 0 (min (suc i) (recordCount page)) [] m j (same ∙ there) ∙ sym at)
 
     -- no rule refuses a record that document 01's check comes to
-    pub checkPageBy-none : Unasked rules (take (reachedCount page (checkPage page)) (readPage page .records)) → checkPageBy rules page ≡ checkPage page
+    pub checkPageBy-none : Unasked rules (take (reachedCount page (checkPage page)) (readPage page .records))
+        → checkPageBy rules page ≡ checkPage page
     checkPageBy-none = by (checkPage page) refl (checkPage-in page)
       where
         by : (c : Checked Expr) → checkPage page ≡ c → CheckedIn (recordCount page) c

@@ -34,7 +34,8 @@ module _ (fuel i : ℕ) (s : List Expr) where
       → checkFrom (suc fuel) i s bytes ≡ refusedAt (faultNumber f) i
   from-bad [] f h e = absurd (let z : ⊥ = omega arith in z)
   from-bad (b ∷ bytes) f h e =
-      ap (λ (m : Read Record). finishFrom i s (followed m (λ rest. readRecords fuel rest))) (sym e) ∙ ap (λ (n : ℕ). refusedAt (faultNumber f) n) (add-zero i)
+      ap (λ (m : Read Record). finishFrom i s (followed m (λ rest. readRecords fuel rest))) (sym e)
+      ∙ ap (λ (n : ℕ). refusedAt (faultNumber f) n) (add-zero i)
 
   -- a record is read: what it does to the stack, and what is left
   module _ {r : Record} {rest : List ℕ} where
