@@ -13,7 +13,6 @@ use lib.ListN.{length, take, drop, length-drop}
 use lib.Dec.{T, eqb}
 use Rattle.page.specs.Allowed.{Each}
 use Rattle.page.specs.Bytes.{all, pick}
-use Rattle.page.specs.Text.{Text}
 use Rattle.records.specs.Kind.{Kind}
 use Rattle.records.specs.Signature.{Function}
 use Rattle.records.specs.Record.{Record, leaf, wrapper, binary, aggregate, call, Records, readPage}
@@ -27,9 +26,9 @@ use Rattle.ast.proofs.BareLaws.{isBare, check-bare}
 use Rattle.ast.proofs.CheckLaws.{check-in}
 use Rattle.ast.proofs.EachLaws.{each-last}
 use Rattle.ast.proofs.RulesLaws.{checkPageBy-accepts, checkPageBy-passes, checkPageBy-unasked, checkPageBy-asked}
-use Rattle.ast.proofs.RefusedLaws.{Cause, before, document, after, RefusedUnder, checkPageBy-refuses}
+use Rattle.ast.proofs.RefusedLaws.{Cause, before, document, after, checkPageBy-refuses}
 use Rattle.working_out.specs.WorkingOut.{workPage, isSetAside}
-use Rattle.working_out.specs.Demand3.{kindRefusals, Says, Demand3}
+use Rattle.working_out.specs.Demand3.{kindRefusals, Says}
 use Rattle.agreement.proofs.Demand3.{check-demand3}
 use Rattle.functions.specs.Functions.{functions}
 use Rattle.functions.specs.Lookup.{lookup, equalSignature, unlike, signatureFault, withTable, checkTable, isOfTable, signedBy, signedRecords}

@@ -1,5 +1,5 @@
--- The order of texts: a byte at a time, as the loop of `order_of` goes; that it is an order, and that texts that stand in
--- it are not equal. Assumes nothing.
+-- The order of texts: a byte at a time, as the loop of `order_of` goes; that it is an order, and that texts that stand
+-- in it are not equal. Assumes nothing.
 use Prim.Native.Nat.{ℕ, zero, suc, _+_, _≤_, _<_}
 use mathlib.Core.Path.{_≡_, refl, sym, ap, ap₂, _∙_, subst}
 use mathlib.Core.Bool.{Bool, true, false}

@@ -1,5 +1,5 @@
--- Signatures, and their bytes: these end by themselves, so that bytes which begin with those of two signatures show that
--- the two are the same. Assumes nothing.
+-- Signatures, and their bytes: these end by themselves, so that bytes which begin with those of two signatures show
+-- that the two are the same. Assumes nothing.
 use Prim.Native.Nat.{ℕ, zero, suc, _+_}
 use mathlib.Core.Path.{_≡_, refl, sym, ap, ap₂, _∙_, subst}
 use mathlib.Core.Bool.{Bool, true, false, _&&_}

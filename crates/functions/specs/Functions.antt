@@ -1,5 +1,5 @@
--- The function table of the repository (src/parser/function.rs, `FUNCTIONS`), in the order of the names; function.rs has
--- another order. The mark `experimental` is left out, as in document 01.
+-- The function table of the repository (src/parser/function.rs, `FUNCTIONS`), in the order of the names; function.rs
+-- has another order. The mark `experimental` is left out, as in document 01.
 use mathlib.Core.List.{List, [], _∷_}
 use Prim.Native.String.{String}
 use Rattle.page.specs.Bytes.{bytes}

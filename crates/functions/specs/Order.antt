@@ -1,5 +1,5 @@
--- The order of two texts as bytes (document 02, No. 2: "names ascend"): `_` stands after digits and capitals, and before
--- small letters; a beginning stands before the whole.
+-- The order of two texts as bytes (document 02, No. 2: "names ascend"): `_` stands after digits and capitals, and
+-- before small letters; a beginning stands before the whole.
 use mathlib.Core.Bool.{Bool, true, false, _&&_}
 use mathlib.Core.List.{List, [], _∷_}
 use lib.Dec.{ltb}

@@ -1,6 +1,7 @@
--- The form of a table of functions as it lies in two arrays (document 02, No. 2: "the letters of all names lie in one run
--- of bytes, with ascending starts, and names ascend"): so many names, then as many signatures, in one run of bytes, and
--- where each begins; after the last stands the end. Any table of the form can be asked; document 02's No. 13 has two more.
+-- The form of a table of functions as it lies in two arrays (document 02, No. 2: "the letters of all names lie in one
+-- run of bytes, with ascending starts, and names ascend"): so many names, then as many signatures, in one run of bytes,
+-- and where each begins; after the last stands the end. Any table of the form can be asked; document 02's No. 13 has
+-- two more.
 use Prim.Native.Nat.{ℕ, suc, _+_, _-_, _/_}
 use mathlib.Core.Path.{_≡_}
 use mathlib.Core.Bool.{Bool, false, _&&_}

@@ -117,7 +117,8 @@ unfolding readRecord readPage checkAst apply checkPage checkPageBy functions loo
 everyAdded = tt
 
 -- wrong answers: 2 before 37; the record of the operand; 38 for an unknown name; 37 for a name with another signature;
--- the table asked of the last call alone; 29 for an unlimited call without kinds; a call accepted by a beginning of its name
+-- the table asked of the last call alone; 29 for an unlimited call without kinds; a call accepted by a beginning of its
+-- name
 wrong : T (
     not (isSame (refusal 2 0) (checkTable (hex "0b0361627a0100000001")))
     && not (isSame (refusal 37 0) (checkTable (hex "02027570000b034162730100000001")))

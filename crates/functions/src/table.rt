@@ -1,6 +1,6 @@
-// The function table of the repository (function.rs, `FUNCTIONS`) as it lies in two arrays: the names in ascending order,
-// then their signatures as they stand in a call, and where each of these texts begins; after the last stands the end. An
-// array is built anew at each use: lend it to the functions that ask it.
+// The function table of the repository (function.rs, `FUNCTIONS`) as it lies in two arrays: the names in ascending
+// order, then their signatures as they stand in a call, and where each of these texts begins; after the last stands the
+// end. An array is built anew at each use: lend it to the functions that ask it.
 use crate::find::Found;
 use crate::find::find;
 ghost use mathlib.Core.Path.{_≡_};

@@ -1,19 +1,19 @@
 -- The loop that asks the records one after the other: none of those so far has a fault. Assumes nothing.
 use Prim.Native.Nat.{ℕ, _+_, _≤_, _<_}
-use mathlib.Core.Path.{_≡_, sym, ap, subst, _∙_}
-use mathlib.Core.List.{List, [], _∷_, _++_}
-use mathlib.Core.Option.{Option, none}
+use mathlib.Core.Path.{_≡_, sym, subst}
+use mathlib.Core.List.{List}
+use mathlib.Core.Option.{none}
 use native.Mathlib.Numerals.{add-one}
 use native.Mathlib.Omega.{arith}
-use lib.ListN.{getD, take, drop}
+use lib.ListN.{getD, take}
 use Rattle.page.specs.Allowed.{Each}
-use Rattle.records.specs.Record.{Record, readPage}
+use Rattle.records.specs.Record.{readPage}
 use Rattle.records.specs.Signature.{Function}
+use Rattle.ast.proofs.EachLaws.{each-one}
 use Rattle.functions.specs.Table.{Formed}
 use Rattle.functions.specs.Lookup.{signatureFault}
 use Rattle.rules.specs.declared.refusal.Refusal.{Refusal}
 use Rattle.judge.specs.declared.call.Finding.the-variants.{Fine, Fault}
-use Rattle.walk.proofs.FromLaws.{take-next}
 use Rattle.table_check.specs.Standing.{RecordStands, Standing}
 use Rattle.table_check.specs.Answers.{FaultOf, FindsFirst}
 use Rattle.table_check.specs.declared.asked.FirstFault.the-variants.{None, At}
@@ -23,10 +23,6 @@ abbrev pub Faultless : List ℕ → List ℕ → List ℕ → ℕ → Type 0
 Faultless page letters names i =
     (table : List Function) → Formed letters names table → Each (λ r. signatureFault table r ≡ none) (take i (readPage page .records))
 
-each-append : {A : Type 0} (P : A → Type 0) (xs : List A) (x : A) → Each P xs → P x → Each P (xs ++ (x ∷ []))
-each-append P [] x h p = (p, tt)
-each-append P (y ∷ xs) x h p = (h .0, each-append P xs x (h .1) p)
-
 module _ {page starts letters names : List ℕ} {count i : ℕ} (known : Standing page starts count) (below : i < count)
     (so-far : Faultless page letters names i) where
   stands : RecordStands page (getD starts i 0) i
@@ -34,10 +30,8 @@ module _ {page starts letters names : List ℕ} {count i : ℕ} (known : Standin
 
   pub faultless-next : FaultOf page (getD starts i 0) letters names Fine → Faultless page letters names (i + 1)
   faultless-next fault table formed =
-      let longer : take (i + 1) (readPage page .records) ≡ take i (readPage page .records) ++ (stands .item ∷ []) =
-      ap (λ (k : ℕ). take k (readPage page .records)) (add-one i) ∙ take-next (readPage page .records) i (stands .listed) in
-      subst (λ (rs : List Record). Each (λ r. signatureFault table r ≡ none) rs) (sym longer)
-      (each-append (λ r. signatureFault table r ≡ none) (take i (readPage page .records)) (stands .item) (so-far table formed)
+      subst (λ (k : ℕ). Each (λ r. signatureFault table r ≡ none) (take k (readPage page .records))) (sym (add-one i))
+      (each-one (λ r. signatureFault table r ≡ none) (readPage page .records) i (stands .listed) (so-far table formed)
       (sym (fault table formed (stands .item) (stands .rest) (stands .reads))))
 
   pub fault-first : (r : Refusal) → FaultOf page (getD starts i 0) letters names (Fault r) → FindsFirst page count letters names (At r i)

@@ -1,9 +1,9 @@
 -- The fault of the record at a position, by its bytes: the first is 11 for a call and for nothing else, then come the
 -- name, which is a text, and the signature. Assumes nothing.
-use Prim.Native.Nat.{ℕ, zero, suc, _+_, _<_}
+use Prim.Native.Nat.{ℕ, _+_, _<_}
 use mathlib.Core.Path.{_≡_, refl, sym, ap, _∙_, subst}
-use mathlib.Core.List.{List, [], _∷_, _++_}
-use mathlib.Core.Option.{Option, none, some}
+use mathlib.Core.List.{List, _++_}
+use mathlib.Core.Option.{none}
 use native.Mathlib.Omega.{arith}
 use lib.ListN.{length, getD, drop}
 use lib.Seq.{getD-drop}
@@ -12,20 +12,20 @@ use mir.Syntax.{w8}
 use mir.Val.{Fits}
 use Rattle.page.specs.Bytes.{all}
 use Rattle.page.specs.Limits.{textLimit, functionNameLimit}
-use Rattle.page.specs.Read.{Read, refused, got, Reader, andThen, _>>=_, return, readerAt}
+use Rattle.page.specs.Read.{Read, refused, got, andThen, _>>=_, return, readerAt}
 use Rattle.page.specs.Text.{Text, isText, isLabel, readAnyText, readFunctionName, readList, readCount, writeText}
 use Rattle.page.specs.Answers.{spanOn}
 use Rattle.page.specs.Listed.{Readable}
 use Rattle.page.specs.declared.text.Span.{Span}
 use Rattle.page.proofs.NumberLaws.{Written, isByte, known-bytes}
 use Rattle.page.proofs.ReaderLaws.{text-law}
-use Rattle.page.proofs.ReadBackLaws.{Got, ReadsAs, readText-back, readText-gives}
-use Rattle.page.proofs.StoredLaws.{not-refused, Chosen, choice-stored, first-readable}
+use Rattle.page.proofs.ReadBackLaws.{readText-back, readText-gives}
+use Rattle.page.proofs.StoredLaws.{not-refused, Chosen, choice-stored}
 use Rattle.page.proofs.WellFormedLaws.{label-text}
 use Rattle.float.proofs.ExactLaws.{of-got}
 use Rattle.records.specs.Kind.{Kind}
 use Rattle.records.specs.Field.{readKind}
-use Rattle.records.specs.Signature.{Variadic, Function, readVariadic, readSignature, readFunction}
+use Rattle.records.specs.Signature.{Variadic, Function, readVariadic, readSignature}
 use Rattle.records.specs.Record.{Record, leaf, wrapper, binary, aggregate, call, recordForms, readCall, readRecord, writeRecord}
 use Rattle.records.proofs.RecordLaws.{record-law}
 use Rattle.functions.specs.Table.{Formed}
@@ -42,7 +42,9 @@ signature-name n u f v = by (readList readKind u)
     by-kind : (ks : List Kind) (x : Variadic) (m : Read Kind)
         → got f v ≡ andThen m (λ k. return (record { name = n; argTypes = ks; variadic = x; returnType = k })) → f .name ≡ n
     by-kind ks x (refused g) e = not-refused e
-    by-kind ks x (got k w) e = let same : f ≡ record { name = n; argTypes = ks; variadic = x; returnType = k } = cc in ap (λ (g : Function). g .name) same
+    by-kind ks x (got k w) e =
+        let same : f ≡ record { name = n; argTypes = ks; variadic = x; returnType = k } = cc in
+        ap (λ (g : Function). g .name) same
 
     by-extra : (ks : List Kind) (m : Read Variadic)
         → got f v ≡ andThen m (λ x. readKind >>= λ k. return (record { name = n; argTypes = ks; variadic = x; returnType = k })) → f .name ≡ n
@@ -103,7 +105,8 @@ module _ (page : List ℕ) (at : ℕ) (fits : (i : ℕ) → Fits w8 (getD page i
   call-first : (f : Function) (n : ℕ) (rest : List ℕ) → got (call f n) rest ≡ readRecord (drop at page) → getD page at 0 ≡ 11
   unfolding writeRecord
   call-first f n rest e =
-      let written : drop at page ≡ writeRecord (call f n) ++ rest = subst (Written writeRecord (drop at page)) (sym e) (record-law (drop at page) (bytes-from at)) in
+      let written : drop at page ≡ writeRecord (call f n) ++ rest =
+      subst (Written writeRecord (drop at page)) (sym e) (record-law (drop at page) (bytes-from at)) in
       let zero-on : at + 0 ≡ at = omega arith in
       ap (λ (k : ℕ). getD page k 0) (sym zero-on) ∙ sym (getD-drop at page 0 0) ∙ ap (λ (s : List ℕ). getD s 0 0) written
 

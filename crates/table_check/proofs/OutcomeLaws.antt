@@ -1,6 +1,6 @@
--- The outcome of the check with a table, from what the walk says and from the first fault among the records that it came
--- to. Assumes nothing.
-use Prim.Native.Nat.{ℕ, suc, _-_, _≤_, _<_, min}
+-- The outcome of the check with a table, from what the walk says and from the first fault among the records that it
+-- came to. Assumes nothing.
+use Prim.Native.Nat.{ℕ, _≤_}
 use mathlib.Core.Path.{_≡_, refl, sym, ap, _∙_, subst}
 use mathlib.Core.List.{List}
 use mathlib.Core.Option.{none}
@@ -13,13 +13,12 @@ use Rattle.records.specs.Signature.{Function}
 use Rattle.records.specs.Record.{readPage}
 use Rattle.records.specs.Outcome.{Outcome, answer, refusal}
 use Rattle.ast.specs.Expr.{Expr}
-use Rattle.ast.specs.Walk.{Checked, accepted, refusedAt}
+use Rattle.ast.specs.Walk.{Checked, refusedAt}
 use Rattle.ast.specs.CheckPage.{checkPage, outcomeOf, check}
 use Rattle.ast.specs.Table.{recordCount}
 use Rattle.ast.specs.Rules.{reachedCount, FirstAsked, checkBy}
 use Rattle.ast.proofs.CheckLaws.{CheckedIn, checkPage-in}
 use Rattle.ast.proofs.RulesLaws.{checkPageBy-none, checkPageBy-first}
-use Rattle.functions.specs.Table.{Formed}
 use Rattle.functions.specs.Lookup.{signatureFault, withTable}
 use Rattle.rules.specs.Answers.{refusalNumber}
 use Rattle.walk.specs.Answers.{Accepts, Refuses}

@@ -1,6 +1,6 @@
 -- Where records stand: the walk's tables say it of every record that it accepted (`tables-standing`), and behind those
 -- stands the next one, if there is one that can be read (`reached-one`, `reached-bad`). Assumes nothing.
-use Prim.Native.Nat.{ℕ, zero, suc, _+_, _-_, _≤_, _<_, min}
+use Prim.Native.Nat.{ℕ, zero, suc, _+_, _-_, _≤_, _<_}
 use mathlib.Core.Path.{_≡_, refl, sym, ap, ap₂, subst, _∙_}
 use mathlib.Core.List.{List, [], _∷_}
 use native.Mathlib.Omega.{arith}
@@ -71,7 +71,8 @@ module _ (page : List ℕ) where
     tables-left (suc i) h =
         let entry = tables .entry i h in
         let stands = tables-stands i h (tables-left i (omega arith)) in
-        let next : fromRecord (suc i) page ≡ stands .rest = fromRecord-next i page ∙ ap behind (ap readRecord (sym (entry .stands)) ∙ sym (stands .reads)) in
+        let next : fromRecord (suc i) page ≡ stands .rest =
+        fromRecord-next i page ∙ ap behind (ap readRecord (sym (entry .stands)) ∙ sym (stands .reads)) in
         drop-next (readPage page .records) i (stands .listed) ∙ ap (λ (s : List ℕ). readRecords (256 - suc i) s .records) (sym next)
 
     pub tables-standing : Standing page starts n

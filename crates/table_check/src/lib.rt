@@ -1,6 +1,7 @@
-// The check of a page with a table of functions (document 02, No. 2): document 01's walk, then the table is asked of the
-// records that the walk came to, in their order. It is asked before the operands of a record are counted, so its first
-// fault decides over what the walk says of that record and of all behind it; and the walk itself pays nothing for it.
+// The check of a page with a table of functions (document 02, No. 2): document 01's walk, then the table is asked of
+// the records that the walk came to, in their order. It is asked before the operands of a record are counted, so its
+// first fault decides over what the walk says of that record and of all behind it; and the walk itself pays nothing for
+// it.
 pub mod asked;
 pub mod reached;
 

@@ -1,3 +1,5 @@
+-- `table_check::check_table` meets its contract: the repository's arrays hold its function table by computation, and
+-- demand 3 is a law of the definition (`table-demand3`). Assumes nothing.
 use mathlib.Core.Path.{refl, sym, subst}
 use denote.Ref.{now}
 use Rattle.functions.specs.Functions.{functions}
@@ -6,9 +8,6 @@ use Rattle.functions.proofs.CheckTableLaws.{table-demand3}
 use borrow.Author.Needs.{needs}
 use Rattle.table_check.proofs.check_table.Statement.{statement}
 use Rattle.table_check.proofs.check_table.Tie as tie
-use Rattle.table_check.proofs.check_table.Reads as reads
-use Rattle.table_check.proofs.check_table.Lts as lts
-use Rattle.table_check.proofs.check_with.Reads as check-with-reads
 
 slice-aggregate-check-with : tie.Need-slice-aggregate-check-with
 slice-aggregate-check-with c = search needs

@@ -1,5 +1,5 @@
--- `functions::carried::compare_signature` meets its contract: the name is found, and what stands behind it begins with the
--- signature of its place, or not. Assumes nothing.
+-- `functions::carried::compare_signature` meets its contract: the name is found, and what stands behind it begins with
+-- the signature of its place, or not. Assumes nothing.
 use Prim.Native.Nat.{ℕ, _<_}
 use native.Mathlib.Omega.{arith}
 use mathlib.Core.Path.{_≡_, sym, ap, _∙_}
@@ -29,8 +29,8 @@ found : (c : tie.After-place) →
     ≡ placeOf (now (at-start .args .letters)) (now (at-start .args .starts))
     (spanOn (now (at-start .args .page)) (at-start .args .name))
 found c =
-    let at-find = c .before .before in
-    sym (ap placeMeant (c .place .given .1)) ∙ rw (at-find .before .text-at .ensures) at (at-find .find .ensures)
+    let at-text-at = c .before .before .before in
+    sym (ap placeMeant (c .place .given .1)) ∙ rw (at-text-at .text-at .ensures) at (c .before .before .find .ensures)
 
 inside : (c : tie.After-place) →
     let at-start = c .before .before .before .before .before .before .before in
@@ -48,11 +48,11 @@ compared : (c : tie.After-begins-at) (b : Bool) → c .begins-at .result ≡ b �
     pick b none (some 38) ≡ unlike f (lookup table (f .name))
 compared c b e table formed f rest named signed =
     let at-place = c .before .before .before in
-    let at-first-known = at-place .before .before .before .before .before .before in
-    let at-start = at-first-known .before in
+    let at-shared-slice-known = at-place .before .before .before .before .before .before in
+    let at-start = at-shared-slice-known .before in
     compare-found formed f (at-place .place .given .0 .0) (rw named (found at-place)) _ rest
     (signed-written (now (at-start .args .page)) (at-start .args .name .end) (f .name)
-    (at-first-known .shared-slice-known .given) f rest signed) b
+    (at-shared-slice-known .shared-slice-known .given) f rest signed) b
     (rw (← c .before .text-in .ensures) (sym (c .begins-at .ensures) ∙ e))
 
 text-at-requires : tie.Need-text-at-requires
@@ -86,9 +86,11 @@ returns-2 : tie.Need-returns-2
 returns-2 c = compared (c .before) _ (c .if1 .left)
 
 returns-3 : tie.Need-returns-3
-returns-3 c = λ table formed f rest named signed.
+returns-3 c =
+    let at-text-at = c .before .before .before in
+    λ table formed f rest named signed.
     compare-unknown formed f (rw named (sym (ap placeMeant (c .enum-told .given .1))
-    ∙ rw (c .before .before .before .text-at .ensures) at (c .before .before .find .ensures)))
+    ∙ rw (at-text-at .text-at .ensures) at (c .before .before .find .ensures)))
 
 pub compare-signature-spec : {M : Type 1} → statement M
 compare-signature-spec =

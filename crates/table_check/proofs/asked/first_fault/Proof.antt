@@ -1,18 +1,12 @@
-use Rattle.table_check.proofs.AskedLaws.{faultless-all}
+-- `table_check::asked::first_fault` meets its contract. Invariant: the records so far have no fault beside any table
+-- that lies in the arrays (`Faultless`). The measure is the records left. The laws stand in `AskedLaws`. Assumes
+-- nothing.
 use Prim.Native.Nat.{_-_, _≤_}
-use mathlib.Core.Path.{_≡_, sym, subst}
 use native.Mathlib.Omega.{arith}
-use denote.Ref.{now}
-use lib.ListN.{getD}
-use Rattle.table_check.specs.Answers.{FaultOf}
-use Rattle.table_check.proofs.AskedLaws.{Faultless, faultless-next, fault-first}
+use Rattle.table_check.proofs.AskedLaws.{Faultless, faultless-next, fault-first, faultless-all}
 use borrow.Author.Needs.{needs}
 use Rattle.table_check.proofs.asked.first_fault.Statement.{statement}
 use Rattle.table_check.proofs.asked.first_fault.Tie as tie
-use Rattle.table_check.proofs.asked.first_fault.Reads as reads
-use Rattle.table_check.proofs.asked.first_fault.Lts as lts
-use Rattle.table_check.proofs.asked.record_fault.Reads as record-fault-reads
-use Rattle.table_check.proofs.asked.wide.Reads as wide-reads
 
 abbrev Inv-loop : tie.InvT-loop
 Inv-loop page starts count letters names i₀ i = (i ≤ count) × Faultless page letters names i
@@ -27,20 +21,40 @@ mul-wide : tie.Need-mul-wide Inv-loop μ-loop
 mul-wide c = search needs
 
 shared-slice-read-wide : tie.Need-shared-slice-read-wide Inv-loop μ-loop
-shared-slice-read-wide c = omega (arith, c .before .before .before .before .before .before .before .pre .0 .sized, c .before .loop-test .taken)
+shared-slice-read-wide c =
+    let at-start = c .before .before .before .before .before .before .before in
+    omega (arith, at-start .pre .0 .sized, c .before .loop-test .taken)
 
 wide-requires : tie.Need-wide-requires Inv-loop μ-loop
 wide-requires c κs = search needs
 
 record-fault-requires : tie.Need-record-fault-requires Inv-loop μ-loop
-record-fault-requires c κs = (rw (c .wide .ensures) (record { value = c .before .before .before .before .before .before .before .before .pre .0 .entry (c .before .before .before .loop .i) (c .before .before .loop-test .taken) .item; rest = c .before .before .before .before .before .before .before .before .pre .0 .entry (c .before .before .before .loop .i) (c .before .before .loop-test .taken) .rest; reads = c .before .before .before .before .before .before .before .before .pre .0 .entry (c .before .before .before .loop .i) (c .before .before .loop-test .taken) .reads }), c .before .before .before .before .before .before .before .before .pre .1)
+record-fault-requires c κs =
+    let at-loop-test = c .before .before in
+    let at-loop = at-loop-test .before in
+    let at-start = at-loop .before .before .before .before .before in (
+      rw (c .wide .ensures)
+          (record {
+            value = at-start .pre .0 .entry (at-loop .loop .i) (at-loop-test .loop-test .taken) .item;
+            rest = at-start .pre .0 .entry (at-loop .loop .i) (at-loop-test .loop-test .taken) .rest;
+            reads = at-start .pre .0 .entry (at-loop .loop .i) (at-loop-test .loop-test .taken) .reads;
+          }),
+      at-start .pre .1,
+    )
 
 enum-known-refusal : tie.Need-enum-known-refusal Inv-loop μ-loop
 enum-known-refusal c = search needs
 
 returns : tie.Need-returns Inv-loop μ-loop
-returns c = fault-first (c .before .before .before .before .before .before .before .before .before .before .before .before .pre .0) (c .before .before .before .before .before .before .loop-test .taken) (c .before .before .before .before .before .before .before .loop .inv .1) (c .before .refusal .given .0 .0)
-    (rw (c .before .refusal .given .1, c .before .before .before .before .wide .ensures) at (c .before .before .before .record-fault .ensures))
+returns c =
+    let at-record-fault = c .before .before .before in
+    let at-wide = at-record-fault .before in
+    let at-loop-test = at-wide .before .before in
+    let at-loop = at-loop-test .before in
+    let at-start = at-loop .before .before .before .before .before in
+    fault-first (at-start .pre .0) (at-loop-test .loop-test .taken) (at-loop .loop .inv .1)
+    (c .before .refusal .given .0 .0)
+    (rw (c .before .refusal .given .1, at-wide .wide .ensures) at (at-record-fault .record-fault .ensures))
 
 enum-told : tie.Need-enum-told Inv-loop μ-loop
 enum-told c = search needs
@@ -52,11 +66,15 @@ loop-less : tie.Need-loop-less Inv-loop μ-loop
 loop-less c = search needs
 
 loop-again : tie.Need-loop-again Inv-loop μ-loop
-loop-again c = (
-  omega (arith, c .before .before .before .before .before .loop-test .taken),
-  faultless-next (c .before .before .before .before .before .before .before .before .before .before .before .pre .0) (c .before .before .before .before .before .loop-test .taken) (c .before .before .before .before .before .before .loop .inv .1)
-      (rw (c .enum-told .given .1, c .before .before .before .wide .ensures) at (c .before .before .record-fault .ensures)),
-)
+loop-again c =
+    let at-wide = c .before .before .before in
+    let at-loop-test = at-wide .before .before in
+    let at-loop = at-loop-test .before in
+    let at-start = at-loop .before .before .before .before .before in (
+      omega (arith, at-loop-test .loop-test .taken),
+      faultless-next (at-start .pre .0) (at-loop-test .loop-test .taken) (at-loop .loop .inv .1)
+          (rw (c .enum-told .given .1, at-wide .wide .ensures) at (c .before .before .record-fault .ensures)),
+    )
 
 returns-2 : tie.Need-returns-2 Inv-loop μ-loop
 returns-2 c = faultless-all _ _ _ (c .before .loop .inv .0) (c .loop-test .left) (c .before .loop .inv .1)

@@ -1,27 +1,41 @@
-use lib.ListN.{length}
-use native.Mathlib.Omega.{arith}
+-- `table_check::asked::record_fault` meets its contract. The first byte tells a call from all others, the stored text
+-- behind it is its name, and `compare_signature` asks the table about what follows. The laws stand in `FaultLaws`.
+-- Assumes nothing.
 use denote.Ref.{now}
 use Rattle.functions.specs.declared.carried.Carried.the-variants.{Like, Unlike, Unknown}
 use Rattle.table_check.proofs.FaultLaws.{other-fault, record-inside, name-readable, call-fault}
 use borrow.Author.Needs.{needs}
 use Rattle.table_check.proofs.asked.record_fault.Statement.{statement}
 use Rattle.table_check.proofs.asked.record_fault.Tie as tie
-use Rattle.table_check.proofs.asked.record_fault.Reads as reads
-use Rattle.table_check.proofs.asked.record_fault.Lts as lts
-use Rattle.functions.proofs.carried.compare_signature.Reads as compare-signature-reads
-use Rattle.page.proofs.stored_text.Reads as stored-text-reads
 
 shared-slice-read-if1 : tie.Need-shared-slice-read-if1
-shared-slice-read-if1 c = record-inside (now (c .before .before .before .before .args .page)) (c .before .before .before .before .args .at) (c .before .before .before .shared-slice-known .given) (c .before .before .before .before .pre .0)
+shared-slice-read-if1 c =
+    let at-shared-slice-known = c .before .before .before in
+    let at-start = at-shared-slice-known .before in
+    record-inside (now (at-start .args .page)) (at-start .args .at)
+    (at-shared-slice-known .shared-slice-known .given) (at-start .pre .0)
 
 returns : tie.Need-returns
-returns c = λ table formed item rest e. other-fault (now (c .before .before .before .before .before .args .page)) (c .before .before .before .before .before .args .at) (c .before .before .before .before .shared-slice-known .given) table item rest (c .if1 .taken) e
+returns c =
+    let at-shared-slice-known = c .before .before .before .before in
+    let at-start = at-shared-slice-known .before in
+    λ table formed item rest e. other-fault (now (at-start .args .page)) (at-start .args .at)
+    (at-shared-slice-known .shared-slice-known .given) table item rest (c .if1 .taken) e
 
 add-stored-text : tie.Need-add-stored-text
-add-stored-text c = let inside = record-inside (now (c .before .before .before .before .before .args .page)) (c .before .before .before .before .before .args .at) (c .before .before .before .before .shared-slice-known .given) (c .before .before .before .before .before .pre .0) in search needs
+add-stored-text c =
+    let at-shared-slice-known = c .before .before .before .before in
+    let at-start = at-shared-slice-known .before in
+    let inside = record-inside (now (at-start .args .page)) (at-start .args .at)
+    (at-shared-slice-known .shared-slice-known .given) (at-start .pre .0) in
+    search needs
 
 stored-text-requires : tie.Need-stored-text-requires
-stored-text-requires c κs = name-readable (now (c .before .before .before .before .before .args .page)) (c .before .before .before .before .before .args .at) (c .before .before .before .before .shared-slice-known .given) (c .before .before .before .before .before .pre .0) (c .if1 .left)
+stored-text-requires c κs =
+    let at-shared-slice-known = c .before .before .before .before in
+    let at-start = at-shared-slice-known .before in
+    name-readable (now (at-start .args .page)) (at-start .args .at)
+    (at-shared-slice-known .shared-slice-known .given) (at-start .pre .0) (c .if1 .left)
 
 compare-signature-requires : tie.Need-compare-signature-requires
 compare-signature-requires c κs = search needs
@@ -36,15 +50,36 @@ enum-told-3 : tie.Need-enum-told-3
 enum-told-3 c = search needs
 
 returns-2 : tie.Need-returns-2
-returns-2 c = call-fault (now (c .before .before .before .before .before .before .before .before .before .args .page)) (c .before .before .before .before .before .before .before .before .before .args .at) (c .before .before .before .before .before .before .before .before .shared-slice-known .given) (c .before .before .before .before .before .before .before .before .before .pre .0) (c .before .before .before .before .if1 .left) (c .before .before .before .stored-text .result) (c .before .before .before .stored-text .ensures .0) _ _ Like
+returns-2 c =
+    let at-stored-text = c .before .before .before in
+    let at-if = at-stored-text .before in
+    let at-shared-slice-known = at-if .before .before .before .before in
+    let at-start = at-shared-slice-known .before in
+    call-fault (now (at-start .args .page)) (at-start .args .at) (at-shared-slice-known .shared-slice-known .given)
+    (at-start .pre .0) (at-if .if1 .left) (at-stored-text .stored-text .result)
+    (at-stored-text .stored-text .ensures .0) _ _ Like
     (rw (c .enum-told .given .1) at (c .before .before .compare-signature .ensures))
 
 returns-3 : tie.Need-returns-3
-returns-3 c = call-fault (now (c .before .before .before .before .before .before .before .before .before .args .page)) (c .before .before .before .before .before .before .before .before .before .args .at) (c .before .before .before .before .before .before .before .before .shared-slice-known .given) (c .before .before .before .before .before .before .before .before .before .pre .0) (c .before .before .before .before .if1 .left) (c .before .before .before .stored-text .result) (c .before .before .before .stored-text .ensures .0) _ _ Unlike
+returns-3 c =
+    let at-stored-text = c .before .before .before in
+    let at-if = at-stored-text .before in
+    let at-shared-slice-known = at-if .before .before .before .before in
+    let at-start = at-shared-slice-known .before in
+    call-fault (now (at-start .args .page)) (at-start .args .at) (at-shared-slice-known .shared-slice-known .given)
+    (at-start .pre .0) (at-if .if1 .left) (at-stored-text .stored-text .result)
+    (at-stored-text .stored-text .ensures .0) _ _ Unlike
     (rw (c .enum-told2 .given .1) at (c .before .before .compare-signature .ensures))
 
 returns-4 : tie.Need-returns-4
-returns-4 c = call-fault (now (c .before .before .before .before .before .before .before .before .before .args .page)) (c .before .before .before .before .before .before .before .before .before .args .at) (c .before .before .before .before .before .before .before .before .shared-slice-known .given) (c .before .before .before .before .before .before .before .before .before .pre .0) (c .before .before .before .before .if1 .left) (c .before .before .before .stored-text .result) (c .before .before .before .stored-text .ensures .0) _ _ Unknown
+returns-4 c =
+    let at-stored-text = c .before .before .before in
+    let at-if = at-stored-text .before in
+    let at-shared-slice-known = at-if .before .before .before .before in
+    let at-start = at-shared-slice-known .before in
+    call-fault (now (at-start .args .page)) (at-start .args .at) (at-shared-slice-known .shared-slice-known .given)
+    (at-start .pre .0) (at-if .if1 .left) (at-stored-text .stored-text .result)
+    (at-stored-text .stored-text .ensures .0) _ _ Unknown
     (rw (c .enum-told3 .given .1) at (c .before .before .compare-signature .ensures))
 
 pub record-fault-spec : {M : Type 1} → statement M

@@ -1,20 +1,15 @@
-use Rattle.reader.specs.Answers.{recordOn}
-use Rattle.page.specs.Answers.{faultOf}
-use lib.ListN.{length}
-use native.Mathlib.Omega.{arith}
+-- `table_check::reached::next_start` meets its contract: the next record stands where the last one ends, and the last
+-- one can be read, since the table has it. The laws stand in `StandingLaws`. Assumes nothing.
 use denote.Ref.{now}
 use Rattle.table_check.proofs.StandingLaws.{next-first, next-behind, last-reads}
 use borrow.Author.Needs.{needs}
 use Rattle.table_check.proofs.reached.next_start.Statement.{statement}
 use Rattle.table_check.proofs.reached.next_start.Tie as tie
-use Rattle.table_check.proofs.reached.next_start.Reads as reads
-use Rattle.table_check.proofs.reached.next_start.Lts as lts
-use Rattle.page.proofs.within.Reads as within-reads
-use Rattle.reader.proofs.read_record.Reads as read-record-reads
-use Rattle.table_check.proofs.reached.wide.Reads as wide-reads
 
 returns : tie.Need-returns
-returns c = rw (c .if1 .taken) (next-first (now (c .before .before .before .args .page)) (c .before .before .before .pre .0))
+returns c =
+    let at-start = c .before .before .before in
+    rw (c .if1 .taken) (next-first (now (at-start .args .page)) (at-start .pre .0))
 
 sub-wide : tie.Need-sub-wide
 sub-wide c = search needs
@@ -41,12 +36,22 @@ enum-told : tie.Need-enum-told
 enum-told c = search needs
 
 returns-2 : tie.Need-returns-2
-returns-2 c = next-behind (now (c .before .before .before .before .before .before .before .before .before .before .args .page)) (c .before .before .before .before .before .before .before .before .before .before .pre .1) (c .before .before .before .before .before .before .before .if1 .left)
-    (rw (c .before .before .next .given .1, c .before .before .before .before .before .wide .ensures) at (c .before .before .before .before .read-record .ensures .0)) (c .within .ensures)
+returns-2 c =
+    let at-read-record = c .before .before .before .before in
+    let at-wide = at-read-record .before in
+    let at-if = at-wide .before .before in
+    let at-start = at-if .before .before .before in
+    next-behind (now (at-start .args .page)) (at-start .pre .1) (at-if .if1 .left)
+    (rw (c .before .before .next .given .1, at-wide .wide .ensures) at (at-read-record .read-record .ensures .0))
+    (c .within .ensures)
 
 returns-3 : tie.Need-returns-3
-returns-3 c = last-reads (now (c .before .before .before .before .before .before .before .before .args .page)) (c .before .before .before .before .before .before .before .before .pre .1) (c .before .before .before .before .before .if1 .left)
-    (rw (c .enum-told .given .1, c .before .before .before .wide .ensures) at (c .before .before .read-record .ensures .0))
+returns-3 c =
+    let at-wide = c .before .before .before in
+    let at-if = at-wide .before .before in
+    let at-start = at-if .before .before .before in
+    last-reads (now (at-start .args .page)) (at-start .pre .1) (at-if .if1 .left)
+    (rw (c .enum-told .given .1, at-wide .wide .ensures) at (c .before .before .read-record .ensures .0))
 
 pub next-start-spec : {M : Type 1} → statement M
 next-start-spec =

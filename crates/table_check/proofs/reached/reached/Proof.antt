@@ -1,20 +1,23 @@
+-- `table_check::reached::reached` meets its contract, by what the walk met: a page or a count above its limit, bytes
+-- that are no record, or a record that can be read. The laws stand in `StandingLaws`. Assumes nothing.
 use denote.Ref.{now}
 use native.Mathlib.Omega.{arith}
-use lib.ListN.{length}
 use Rattle.table_check.proofs.StandingLaws.{reached-long, reached-limit, reached-bad, reached-one}
 use borrow.Author.Needs.{needs}
 use Rattle.table_check.proofs.reached.reached.Statement.{statement}
 use Rattle.table_check.proofs.reached.reached.Tie as tie
-use Rattle.table_check.proofs.reached.reached.Reads as reads
-use Rattle.table_check.proofs.reached.reached.Lts as lts
-use Rattle.reader.proofs.read_record.Reads as read-record-reads
-use Rattle.table_check.proofs.reached.next_start.Reads as next-start-reads
 
 returns : tie.Need-returns
-returns c = reached-long (now (c .before .before .before .args .page)) (c .before .before .before .pre .0 .0) (c .before .before .before .pre .0 .1) (c .before .before .before .pre .1) (c .if1 .taken)
+returns c =
+    let at-start = c .before .before .before in
+    reached-long (now (at-start .args .page)) (at-start .pre .0 .0) (at-start .pre .0 .1) (at-start .pre .1)
+    (c .if1 .taken)
 
 returns-2 : tie.Need-returns-2
-returns-2 c = reached-limit (now (c .before .before .before .before .args .page)) (c .before .before .before .before .pre .0 .0) (c .before .before .before .before .pre .0 .1) (c .before .before .before .before .pre .1) (c .if2 .taken)
+returns-2 c =
+    let at-start = c .before .before .before .before in
+    reached-limit (now (at-start .args .page)) (at-start .pre .0 .0) (at-start .pre .0 .1) (at-start .pre .1)
+    (c .if2 .taken)
 
 next-start-requires : tie.Need-next-start-requires
 next-start-requires c κs = search needs
@@ -26,7 +29,10 @@ enum-told : tie.Need-enum-told
 enum-told c = search needs
 
 cast-starts : tie.Need-cast-starts
-cast-starts c = omega (arith, c .before .before .before .next-start .ensures .inside, c .before .before .before .before .before .before .if1 .left)
+cast-starts c =
+    let at-next-start = c .before .before .before in
+    let at-first-if = at-next-start .before .before .before in
+    omega (arith, at-next-start .next-start .ensures .inside, at-first-if .if1 .left)
 
 mul-starts : tie.Need-mul-starts
 mul-starts c = search needs
@@ -44,14 +50,23 @@ same-length : tie.Need-same-length
 same-length c = search needs
 
 returns-3 : tie.Need-returns-3
-returns-3 c = reached-one (now (c .before .before .before .before .before .before .before .before .before .args .page)) (c .before .before .before .before .before .before .before .before .before .pre .0 .0) (c .before .before .before .before .before .before .before .before .before .pre .0 .1) (c .before .before .before .before .before .before .before .before .before .pre .1) (c .before .before .before .next-start .ensures) (c .before .before .before .before .before .if2 .left)
+returns-3 c =
+    let at-next-start = c .before .before .before in
+    let at-second-if = at-next-start .before .before in
+    let at-start = at-second-if .before .before .before .before in
+    reached-one (now (at-start .args .page)) (at-start .pre .0 .0) (at-start .pre .0 .1) (at-start .pre .1)
+    (at-next-start .next-start .ensures) (at-second-if .if2 .left)
     (rw (c .enum-told .given .1) at (c .before .before .read-record .ensures .0))
 
 same-length-2 : tie.Need-same-length-2
 same-length-2 c = search needs
 
 returns-4 : tie.Need-returns-4
-returns-4 c = reached-bad (now (c .before .before .before .before .before .before .before .before .before .args .page)) (c .before .before .before .before .before .before .before .before .before .pre .0 .0) (c .before .before .before .before .before .before .before .before .before .pre .0 .1) (c .before .before .before .before .before .before .before .before .before .pre .1) (c .before .before .before .next-start .ensures)
+returns-4 c =
+    let at-next-start = c .before .before .before in
+    let at-start = at-next-start .before .before .before .before .before .before in
+    reached-bad (now (at-start .args .page)) (at-start .pre .0 .0) (at-start .pre .0 .1) (at-start .pre .1)
+    (at-next-start .next-start .ensures)
     (rw (c .enum-told2 .given .1) at (c .before .before .read-record .ensures .0))
 
 pub reached-spec : {M : Type 1} → statement M
