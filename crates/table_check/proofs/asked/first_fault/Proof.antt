@@ -30,15 +30,10 @@ wide-requires c κs = search needs
 
 record-fault-requires : tie.Need-record-fault-requires Inv-loop μ-loop
 record-fault-requires c κs =
-    let at-loop-test = c .before .before in
-    let at-loop = at-loop-test .before in
-    let at-start = at-loop .before .before .before .before .before in (
-      rw (c .wide .ensures)
-          (record {
-            value = at-start .pre .0 .entry (at-loop .loop .i) (at-loop-test .loop-test .taken) .item;
-            rest = at-start .pre .0 .entry (at-loop .loop .i) (at-loop-test .loop-test .taken) .rest;
-            reads = at-start .pre .0 .entry (at-loop .loop .i) (at-loop-test .loop-test .taken) .reads;
-          }),
+    let at-loop = c .before .before .before in
+    let at-start = at-loop .before .before .before .before .before in
+    let stands = at-start .pre .0 .entry (at-loop .loop .i) (c .before .before .loop-test .taken) in (
+      rw (c .wide .ensures) (record { value = stands .item; rest = stands .rest; reads = stands .reads }),
       at-start .pre .1,
     )
 
