@@ -10,11 +10,10 @@ pub each-all : {A : Type 0} (P : A → Type 0) (xs : List A) → ((x : A) → P 
 each-all P [] h = tt
 each-all P (x ∷ xs) h = (h x, each-all P xs h)
 
-pub each-take : {A : Type 0} (P : A → Type 0) (xs : List A) (k : ℕ) → Each P xs → Each P (take k xs)
-each-take P [] zero h = tt
-each-take P [] (suc k) h = tt
-each-take P (x ∷ xs) zero h = tt
-each-take P (x ∷ xs) (suc k) h = (h .0, each-take P xs k (h .1))
+pub each-take : {A : Type 0} (P : A → Type 0) (k : ℕ) (xs : List A) → Each P xs → Each P (take k xs)
+each-take P zero xs h = tt
+each-take P (suc k) [] h = tt
+each-take P (suc k) (x ∷ xs) h = (h .0, each-take P k xs (h .1))
 
 -- one element more
 pub each-one : {A : Type 0} (P : A → Type 0) (xs : List A) (k : ℕ) {x : A} {later : List A} → drop k xs ≡ x ∷ later → Each P (take k xs) → P x

@@ -139,9 +139,9 @@ module _ (rules : Rules) where
         ap (finished (readPage page .ending) (length (readPage page .records))) (walk-refines rules (readPage page .records) 0 [] s is) ∙ e in
         record {
           cause = document own
-              (each-take (λ r. rules .before r ≡ none) (readPage page .records) (suc i)
+              (each-take (λ r. rules .before r ≡ none) (suc i) (readPage page .records)
               (walk-unasked rules (readPage page .records) 0 [] s is));
-          passed = each-take (λ r. rules .before r ≡ none) (readPage page .records) i (walk-unasked rules (readPage page .records) 0 [] s is);
+          passed = each-take (λ r. rules .before r ≡ none) i (readPage page .records) (walk-unasked rules (readPage page .records) 0 [] s is);
           first = λ m j q. let at : i ≡ j = cc in omega arith;
         }
 

@@ -22,7 +22,6 @@ use Rattle.records.specs.Record.{Leaf, number, string, selector, Wrapper, range
 use Rattle.records.specs.Record.{Record, leaf, wrapper, binary, aggregate, call, operands}
 use Rattle.ast.specs.Refusal.{Row, firstFault, Result, refused, ok, unless, andThen}
 use Rattle.ast.specs.Expr.{binaryKind}
-use Rattle.ast.specs.Rules.{Rules, ruled}
 use Rattle.ast.specs.CheckAst.{binaryRows, aggregateRows, arityRows, argsRows, unaryRows, subqueryRows, selectorRows}
 use Rattle.ast.specs.Operand.{Operand, numberOperand, fractionOperand, stringOperand, selectorOperand, rangeOperand}
 use Rattle.ast.specs.Operand.{subqueryOperand, otherOperand, operandKind, literalOperand}
@@ -161,7 +160,3 @@ judgement (call f n) stack = pick (leb n (length stack)) (judgeCall f (operandsO
 -- the stack after a record
 abbrev pub judged : Record → List Operand → Result (List Operand)
 judged r stack = andThen (judgement r stack) (λ x. ok (x ∷ drop (operands r) stack))
-
--- under rules, which ask kinds alone
-abbrev pub judgementBy : Rules → Record → List Operand → Result Operand
-judgementBy rules r stack = ruled rules r (map operandKind stack) (judgement r stack)

@@ -28,6 +28,7 @@ use Rattle.ast.specs.CheckAst.{checkAst, checkedModifier}
 use Rattle.ast.specs.CheckPage.{leafExpr, wrap, apply}
 use Rattle.ast.specs.Walk.{Walked, stack, stopped, walk}
 use Rattle.ast.specs.Tables.{entries, newest, stackAt, treeAt}
+use Rattle.ast.proofs.EachLaws.{each-take}
 use Rattle.ast.proofs.WalkLaws.{walk-first}
 use Rattle.text.specs.Chain.{withAt, withOffset, settled}
 use Rattle.text.proofs.TreeLaws.{checkedExpr, PushedNode, leaf-ok, wrapper-ok, binary-ok, aggregate-ok, call-ok}
@@ -59,11 +60,6 @@ pub record Kept (P : Expr → Type 0) : Type 0 where
 -- a record that finds too few operands is refused
 pub refused-never : {B : Type 0} {after : List Expr} → refused 2 ≡ ok after → B
 refused-never e = absurd (let z : _≡_ {A = ℕ} 0 1 = cc in omega arith)
-
-pub each-take : {A : Type 0} (P : A → Type 0) (k : ℕ) (xs : List A) → Each P xs → Each P (take k xs)
-each-take P zero xs h = tt
-each-take P (suc k) [] h = tt
-each-take P (suc k) (x ∷ xs) h = (h .0, each-take P k xs (h .1))
 
 module _ (P : Expr → Type 0) (kept : Kept P) where
   -- ## Records on one operand

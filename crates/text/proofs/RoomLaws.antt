@@ -25,7 +25,8 @@ use Rattle.ast.specs.Tables.{entries, newest, stackAt, treeAt}
 use Rattle.ast.proofs.WalkLaws.{walk-first}
 use Rattle.text.specs.Display.{display}
 use Rattle.text.proofs.TreeLaws.{checkedExpr, PushedNode, leaf-ok, wrapper-ok, binary-ok, aggregate-ok, call-ok}
-use Rattle.text.proofs.KeptLaws.{refused-never, each-take}
+use Rattle.ast.proofs.EachLaws.{each-take}
+use Rattle.text.proofs.KeptLaws.{refused-never}
 use Rattle.text.proofs.ShortLaws.{displayAggregator-short}
 use Rattle.text.proofs.GrowthLaws.{total, total-operands, wrap-short, leaf-short, binary-short, aggregate-short, call-short, aggregate-written}
 
