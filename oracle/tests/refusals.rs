@@ -7,6 +7,7 @@ use oracle::{chosen, hex};
 
 const DOCUMENT: &str = include_str!("../../docs/REFUSALS.md");
 const DEFINITIONS: &str = include_str!("../../crates/ast/specs/RefusalTable.antt");
+const OF_TABLE_DEFINED: &str = include_str!("../../crates/functions/specs/TablePages.antt");
 
 /// The numbers that document 01's calls do not give: they are of the check with the function table.
 const OF_TABLE: [u8; 2] = [UNKNOWN_FUNCTION, UNLIKE_SIGNATURE];
@@ -42,10 +43,19 @@ fn told() -> Vec<Row> {
     DOCUMENT.lines().filter_map(row).collect()
 }
 
-/// The rows of the definitions' table: `row 6 1 (text ++ hex "07")`.
+/// The rows of the definitions' tables: `row 6 1 (text ++ hex "07")`, and `isRefused 37 1 (hex "..")` of the check with
+/// the function table.
 fn defined() -> Vec<Row> {
+    let document_01 = rows_of(DEFINITIONS, "∷ ", "row ");
+    let mut rows = [document_01, rows_of(OF_TABLE_DEFINED, "&& ", "isRefused ")].concat();
+    rows.sort_by_key(|row| row.number);
+    rows
+}
+
+/// The lines of a table that begin with a word, behind what joins them.
+fn rows_of(definitions: &str, join: &str, word: &str) -> Vec<Row> {
     let row = |line: &str| {
-        let words = line.trim().trim_start_matches("∷ ").strip_prefix("row ")?;
+        let words = line.trim().trim_start_matches(join).strip_prefix(word)?;
         let (number, rest) = words.split_once(' ')?;
         let (record, page) = rest.split_once(' ')?;
         Some(Row {
@@ -54,7 +64,7 @@ fn defined() -> Vec<Row> {
             record: record.parse().ok()?,
         })
     };
-    DEFINITIONS.lines().filter_map(row).collect()
+    definitions.lines().filter_map(row).collect()
 }
 
 /// A list of bytes as the definitions have it: bytes in hexadecimal, names of lists and a repeated byte, joined.
@@ -91,8 +101,7 @@ fn named(name: &str) -> Vec<u8> {
 fn the_document_has_the_definitions_examples() {
     let told = told();
     assert!(told.iter().map(|row| row.number).eq(refusal::numbers()));
-    let is_defined = |row: &Row| row.number != 5 && !OF_TABLE.contains(&row.number);
-    let without_5: Vec<_> = told.into_iter().filter(is_defined).collect();
+    let without_5: Vec<_> = told.into_iter().filter(|row| row.number != 5).collect();
     assert_eq!(without_5, defined());
 }
 
