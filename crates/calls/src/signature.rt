@@ -9,7 +9,6 @@ use page::put_bytes;
 use records::Kind;
 use rules::Refusal;
 use walk::Outcome;
-ghost use mathlib.Core.Path.{_≡_};
 ghost use Prim.Native.Nat.{_<_};
 ghost use lib.Dec.{T};
 ghost use lib.ListN.{length};

@@ -93,9 +93,11 @@ refusalNumber refusal.SubqueryKind = 32
 refusalNumber refusal.NameTwice = 33
 -- no name, and no matcher or only ones that accept empty text
 refusalNumber refusal.EmptySelector = 34
--- the flag of a covered pattern is wrong (document 02, No. 7)
+-- a function that the table does not have (document 02, No. 2)
 refusalNumber refusal.UnknownFunction = 37
+-- a signature unlike the table's (the same)
 refusalNumber refusal.UnlikeSignature = 38
+-- the flag of a covered pattern is wrong (document 02, No. 7)
 refusalNumber refusal.WrongFlag = 41
 
 abbrev pub verdictMeant : Verdict → ast.Result spec.Operand

@@ -1,10 +1,10 @@
 // What a table of functions says of the records of a page, each found where the walk's table says that it starts.
+use crate::wide;
 use functions::carried::Carried;
 use functions::carried::compare_signature;
 use judge::call::Finding;
 use page::stored_text;
 use rules::Refusal;
-ghost use mathlib.Core.Path.{_≡_};
 ghost use lib.Dec.{T};
 ghost use lib.ListN.{drop};
 ghost use Rattle.page.specs.Listed.{Readable};
@@ -21,12 +21,6 @@ pub enum FirstFault {
 
 // The first byte of a call.
 const CALL: u8 = 11;
-
-fn wide(start: u16) -> usize
-    ensures { λ r. ⌜ r ≡ start ⌝ }
-{
-    start as usize
-}
 
 // Of the record at a position: 37 for a call whose name the table does not have, 38 for one whose signature is unlike
 // the table's. The record can be read, so no byte of it is tested again.

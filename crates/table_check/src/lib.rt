@@ -12,15 +12,20 @@ use reached::reached;
 use walk::Outcome;
 use walk::Walked;
 use walk::walk;
-ghost use Prim.Native.Nat.{_≤_};
 ghost use mathlib.Core.Path.{_≡_};
 ghost use lib.Dec.{T};
-ghost use lib.ListN.{length};
 ghost use Rattle.functions.specs.Table.{isTable};
 ghost use Rattle.functions.specs.TableContract.{TableContract};
 ghost use Rattle.walk.specs.Answers.{outcomeMeant};
 ghost use Rattle.table_check.specs.Standing.{Standing};
 ghost use Rattle.table_check.specs.Answers.{ChecksWith, FaultFirst};
+
+// A start of the walk's table, as a position.
+fn wide(start: u16) -> usize
+    ensures { λ r. ⌜ r ≡ start ⌝ }
+{
+    start as usize
+}
 
 // The first fault among so many records, or the outcome of document 01's check.
 fn outcome_with(

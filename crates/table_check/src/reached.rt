@@ -1,5 +1,6 @@
 // The records that the walk came to on a page that it refuses: those that it accepted, and the one that it refused, if
 // that could be read.
+use crate::wide;
 use reader::RecordField;
 use reader::read_record;
 ghost use Prim.Native.Nat.{_≤_};
@@ -7,12 +8,6 @@ ghost use mathlib.Core.Path.{_≡_};
 ghost use lib.ListN.{length};
 ghost use Rattle.ast.specs.Table.{recordCount};
 ghost use Rattle.table_check.specs.Standing.{Standing, NextStands, Reaches};
-
-fn wide(start: u16) -> usize
-    ensures { λ r. ⌜ r ≡ start ⌝ }
-{
-    start as usize
-}
 
 // Where the record after the first `count` ones stands, or would stand.
 fn next_start(page: &[u8], starts: &[u16], count: usize) -> usize
