@@ -1,5 +1,6 @@
 pub mod CallsLaws
 pub mod CopyAgainLaws
 pub mod OneCopyLaws
+pub mod OrderLaws
 pub mod SignatureLaws
 pub mod WellFormedLaws
