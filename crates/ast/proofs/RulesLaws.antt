@@ -18,7 +18,8 @@ use Rattle.ast.specs.Walk.{Walked, stack, stopped, proceed, Checked, acc
 use Rattle.ast.specs.Walk.{stackAfter}
 use Rattle.ast.specs.CheckPage.{apply, checkPage}
 use Rattle.ast.specs.Table.{recordCount}
-use Rattle.ast.specs.Rules.{Rules, plain, guarded, ruled, applyBy, checkPageBy, reachedCount, FirstAsked}
+use Rattle.ast.specs.Rules.{Rules, plain, guarded, ruled, applyBy, checkPageBy}
+use Rattle.ast.specs.Reached.{reachedCount, FirstAsked}
 use Rattle.ast.proofs.WalkLaws.{walk-first, walk-then, walk-reached, walk-early, walk-refused, walk-within}
 use Rattle.ast.proofs.CheckLaws.{CheckedIn, checkPage-in}
 use Rattle.ast.proofs.EachLaws.{each-all}

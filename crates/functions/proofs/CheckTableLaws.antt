@@ -76,7 +76,7 @@ module _ (table : List Function) (page : List ℕ) where
         signed = signed-records table (readPage page .records) passed;
       }
 
-  -- and only such a page
+  -- and every such page passes: one without fault is judged as by document 01's check
   pub table-accepts : Faultless table (readPage page .records) → checkBy (withTable table) page ≡ check page
   table-accepts h = ap outcomeOf (checkPageBy-unasked (withTable table) (λ r ks. refl) page h)
 

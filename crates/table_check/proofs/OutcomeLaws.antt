@@ -16,7 +16,8 @@ use Rattle.ast.specs.Expr.{Expr}
 use Rattle.ast.specs.Walk.{Checked, refusedAt}
 use Rattle.ast.specs.CheckPage.{checkPage, outcomeOf, check}
 use Rattle.ast.specs.Table.{recordCount}
-use Rattle.ast.specs.Rules.{reachedCount, FirstAsked, checkBy}
+use Rattle.ast.specs.Rules.{checkBy}
+use Rattle.ast.specs.Reached.{reachedCount, FirstAsked}
 use Rattle.ast.proofs.CheckLaws.{CheckedIn, checkPage-in}
 use Rattle.ast.proofs.RulesLaws.{checkPageBy-none, checkPageBy-first}
 use Rattle.functions.specs.Lookup.{signatureFault, withTable}

@@ -9,7 +9,8 @@ use Rattle.page.specs.Read.{got}
 use Rattle.records.specs.Record.{Record, readRecord, readPage}
 use Rattle.records.specs.Signature.{Function}
 use Rattle.records.specs.Outcome.{Outcome, refusal}
-use Rattle.ast.specs.Rules.{FirstAsked, checkBy}
+use Rattle.ast.specs.Rules.{checkBy}
+use Rattle.ast.specs.Reached.{FirstAsked}
 use Rattle.functions.specs.Table.{Formed}
 use Rattle.functions.specs.Lookup.{signatureFault, withTable}
 use Rattle.rules.specs.Answers.{refusalNumber}
