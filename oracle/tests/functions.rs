@@ -1,7 +1,7 @@
 //! The function table (document 02, No. 2): it is the compiled one, and whole; what is generated has the outcome that
 //! it was made for, and the sentences of the request are true of the oracle's answers.
 
-use oracle::answer::{self, Answer, Outcome};
+use oracle::answer::{self, Answer, Outcome, Worked};
 use oracle::functions::near::{self, Unlike};
 use oracle::functions::spelling::{near_unknown, strangers};
 use oracle::functions::{self, names, signatures};
@@ -81,8 +81,19 @@ fn generated_pages_have_their_outcome() {
     (0..20_000).for_each(|_| assert_made(random(random_pages)));
 }
 
-/// The first 37 or 38 up to the record that document 01 refuses, otherwise document 01's outcome: this is the walk that
-/// asks the table between a call's fields and its operands. 29 is never said.
+/// The first call that the table refuses, among the records up to and including the one that document 01 refuses;
+/// otherwise document 01's outcome.
+fn by_records(worked: &Worked) -> Outcome {
+    let mut numbered = worked.records.iter().enumerate();
+    let refused = numbered.find_map(|(record, read)| {
+        let number = functions::fault(read)?;
+        Some(Outcome::Refused { number, record })
+    });
+    refused.unwrap_or(worked.outcome)
+}
+
+/// The walk that asks the table between a call's fields and its operands gives what the records tell afterwards. 29 is
+/// never said.
 #[test]
 fn both_ways_to_ask_the_table_agree() {
     let random = &mut Random::new(21);
@@ -94,14 +105,13 @@ fn both_ways_to_ask_the_table_agree() {
     let mut refused = [0; 2];
     for sample in &pages {
         let page = &sample.page;
-        let walked = answer::walk_with_table(page).expect("the Rust is foreseen");
-        let answer = answer(page);
-        assert_eq!(answer.table, walked, "{}", hex::text(page));
-        match walked {
+        let worked = answer::work(page).expect("the Rust is foreseen");
+        assert_eq!(worked.table, by_records(&worked), "{}", hex::text(page));
+        match worked.table {
             Outcome::Refused { number: 37, .. } => refused[0] += 1,
             Outcome::Refused { number: 38, .. } => refused[1] += 1,
             Outcome::Refused { number: 29, .. } => panic!("29: {}", hex::text(page)),
-            outcome => assert_eq!(outcome, answer.outcome, "{}", hex::text(page)),
+            outcome => assert_eq!(outcome, worked.outcome, "{}", hex::text(page)),
         }
     }
     assert!(refused.iter().all(|count| *count > 1000), "{refused:?}");

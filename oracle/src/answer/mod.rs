@@ -104,18 +104,29 @@ impl Answer {
 #[derive(Debug, Clone, PartialEq)]
 pub struct Failure(pub String);
 
-pub fn work(page: &[u8]) -> Result<Worked<'_>, Failure> {
-    let mut walk = Walk::default();
-    let stopped = walk.run(page, |_| None);
-    let (outcome, message) = match stopped {
-        Ok(outcome) => (outcome, None),
+/// A whole walk: its outcome, and the Rust's own words where it refused.
+fn walked<'a>(
+    walk: &mut Walk<'a>,
+    page: &'a [u8],
+    before: impl Fn(&Record) -> Option<u8>,
+) -> Result<(Outcome, Option<String>), Failure> {
+    match walk.run(page, before) {
+        Ok(outcome) => Ok((outcome, None)),
         Err(Stop::Refused { number, message }) => {
             let record = walk.accepted;
             let message = (!message.is_empty()).then_some(message);
-            (Outcome::Refused { number, record }, message)
+            Ok((Outcome::Refused { number, record }, message))
         }
-        Err(Stop::Unforeseen(words)) => return Err(Failure(words)),
-    };
+        Err(Stop::Unforeseen(words)) => Err(Failure(words)),
+    }
+}
+
+/// Document 01's check, and by a walk of its own the check with the function table (document 02, No. 2), which asks the
+/// table once a call's fields are read and before its operands are counted.
+pub fn work(page: &[u8]) -> Result<Worked<'_>, Failure> {
+    let mut walk = Walk::default();
+    let (outcome, message) = walked(&mut walk, page, |_| None)?;
+    let (table, _) = walked(&mut Walk::default(), page, functions::fault)?;
     let label = match outcome {
         Outcome::Refused { number: 19, .. } => {
             let judged = walk.records.last();
@@ -134,7 +145,7 @@ pub fn work(page: &[u8]) -> Result<Worked<'_>, Failure> {
     Ok(Worked {
         page,
         outcome,
-        table: with_table(&walk.records, outcome),
+        table,
         label,
         domain: domain(&walk.records),
         message,
@@ -143,31 +154,6 @@ pub fn work(page: &[u8]) -> Result<Worked<'_>, Failure> {
         literal: walk.literal,
         checked,
     })
-}
-
-/// The first call that the table refuses, among the records up to and including the one that document 01 refuses;
-/// otherwise document 01's outcome. `walk_with_table` goes the longer way, and tests hold the two to each other.
-fn with_table(records: &[Record], outcome: Outcome) -> Outcome {
-    let mut numbered = records.iter().enumerate();
-    let refused = numbered.find_map(|(record, read)| {
-        let number = functions::fault(read)?;
-        Some(Outcome::Refused { number, record })
-    });
-    refused.unwrap_or(outcome)
-}
-
-/// The check with the function table record by record, as document 02, No. 2, has it: the table is asked once the
-/// call's fields are read, and before its operands are counted.
-pub fn walk_with_table(page: &[u8]) -> Result<Outcome, Failure> {
-    let mut walk = Walk::default();
-    match walk.run(page, functions::fault) {
-        Ok(outcome) => Ok(outcome),
-        Err(Stop::Refused { number, .. }) => Ok(Outcome::Refused {
-            number,
-            record: walk.accepted,
-        }),
-        Err(Stop::Unforeseen(words)) => Err(Failure(words)),
-    }
 }
 
 fn domain(records: &[Record]) -> Domain {
