@@ -2,15 +2,15 @@
 -- (`checkPageBy-faultless`). Where nothing is asked before the operands, a page without fault is judged as by document
 -- 01 (`checkPageBy-unfaulted`), and the first record with a fault is refused for it (`checkPageBy-faulted`). By the
 -- walk over the first so many records. Assumes nothing.
-use Prim.Native.Nat.{ℕ, zero, suc, _≤_, _<_}
-use mathlib.Core.Path.{_≡_, refl, sym, ap, ap₂, subst, _∙_}
+use Prim.Native.Nat.{ℕ, zero, suc, _<_}
+use mathlib.Core.Path.{_≡_, refl, ap, ap₂, subst, _∙_}
 use mathlib.Core.List.{List, [], _∷_, map}
 use mathlib.Core.Option.{Option, none, some}
 use native.Mathlib.Omega.{arith}
-use lib.ListN.{length, take, drop}
+use lib.ListN.{take, drop}
 use lib.Seq.{take-all}
 use Rattle.records.specs.Record.{Record, readPage}
-use Rattle.ast.specs.Refusal.{Result, refused, ok, unless, andThen}
+use Rattle.ast.specs.Refusal.{Result, refused, ok}
 use Rattle.ast.specs.Expr.{Expr, valueType}
 use Rattle.ast.specs.Walk.{Walked, stack, proceed, accepted, refusedAt, finished, walk}
 use Rattle.ast.specs.CheckPage.{apply, checkPage}
