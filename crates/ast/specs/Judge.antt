@@ -162,6 +162,10 @@ judgement (call f n) stack = pick (leb n (length stack)) (judgeCall f (operandsO
 abbrev pub judged : Record → List Operand → Result (List Operand)
 judged r stack = andThen (judgement r stack) (λ x. ok (x ∷ drop (operands r) stack))
 
--- the same under rules
+-- ## A record under rules
+
 abbrev pub judgementBy : Rules → Record → List Operand → Result Operand
 judgementBy rules r stack = ruled rules r (map operandKind stack) (judgement r stack)
+
+abbrev pub judgedBy : Rules → Record → List Operand → Result (List Operand)
+judgedBy rules r stack = andThen (judgementBy rules r stack) (λ x. ok (x ∷ drop (operands r) stack))
