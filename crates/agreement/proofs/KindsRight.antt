@@ -71,12 +71,15 @@ module _ {aside : Record → List Kind → List (Option Literal) → Bool} {forK
         suc (f k .0),
         f k .1 ∙ add-suc (f k .0) i ∙ sym (suc-add (f k .0) i),
         λ g.
-            let rest : MeetsFirst (f k .0) (w .steps) = f k .2 (right-of (not isAside) (nothingSetAside (take (f k .0) (w .steps))) g) in
-            (both asked (allAsAsked (take (f k .0) (w .steps))) (h (left-of (not isAside) (nothingSetAside (take (f k .0) (w .steps))) g)) (rest .0), rest .1),
+            let rest : MeetsFirst (f k .0) (w .steps) = f k .2 (right-of (not isAside) (nothingSetAside (take (f k .0) (w .steps))) g) in (
+              both asked (allAsAsked (take (f k .0) (w .steps))) (h (left-of (not isAside) (nothingSetAside (take (f k .0) (w .steps))) g)) (rest .0),
+              rest .1,
+            ),
       )
 
   -- an accepted record out of place is set aside
-  never : (i : ℕ) (isAside asked : Bool) (w : WorkedOut C) (c : Checked Expr) → (T (not isAside) → ⊥) → Claim (suc i) w c → Claim i (stepOf false isAside asked w) c
+  never : (i : ℕ) (isAside asked : Bool) (w : WorkedOut C) (c : Checked Expr) → (T (not isAside) → ⊥)
+      → Claim (suc i) w c → Claim i (stepOf false isAside asked w) c
   never i isAside asked w (accepted e n) h f = λ g. absurd (h (left-of (not isAside) true g))
   never i isAside asked w (refusedAt n j) h f =
       λ k. (
@@ -176,12 +179,14 @@ module _ {aside : Record → List Kind → List (Option Literal) → Bool} {forK
       seen enough =
           subst (λ k. Sees k (operandsOf (operands r) bare)) (sym ks)
           (subst (λ b. Sees (map valueType (operandsOf (operands r) stack)) b) (sym bs)
-          (agreeing .claims r (operandsOf (operands r) stack) (operands-length (operands r) stack enough) (all-operandsOf isFormed (operands r) stack h)))
+          (agreeing .claims r (operandsOf (operands r) stack) (operands-length (operands r) stack enough)
+          (all-operandsOf isFormed (operands r) stack h)))
 
   -- ## The page
 
   -- the outcome, from the claim at record 0
-  fromClaim : (page : Records) (c : Checked Expr) → Claim 0 (workPage aside contents page) c → Says forKinds (workPage aside contents page) (outcomeOf c)
+  fromClaim : (page : Records) (c : Checked Expr) → Claim 0 (workPage aside contents page) c
+      → Says forKinds (workPage aside contents page) (outcomeOf c)
   fromClaim page (accepted e n) f = f
   fromClaim page (refusedAt n j) f =
       λ k g. subst (λ (d : ℕ). MeetsFirst d steps) (same k) (f k .2 (subst (λ (d : ℕ). T (nothingSetAside (take d steps))) (sym (same k)) g))
@@ -197,20 +202,24 @@ module _ {aside : Record → List Kind → List (Option Literal) → Bool} {forK
 
 -- ## Document 01's check
 
--- what is said for the longer list is said for the shorter one
-for-fewer : (o p a : Bool) (k : Kind) (l : Option Literal) (x : Result Expr) → ClaimFor documentedRefusals o p a k l x → ClaimFor kindRefusals o p a k l x
-for-fewer o p a k l (refused n) h = λ kind. h (either-right (eqb n 42) (any (eqb n) kindRefusals) kind)
+-- its kind refusals are among the added check's
+among-documented : (n : ℕ) → T (any (eqb n) kindRefusals) → T (any (eqb n) documentedRefusals)
+among-documented n = either-right (eqb n 42) (any (eqb n) kindRefusals)
+
+for-fewer : (o p a : Bool) (k : Kind) (l : Option Literal) (x : Result Expr) → ClaimFor documentedRefusals o p a k l x
+    → ClaimFor kindRefusals o p a k l x
+for-fewer o p a k l (refused n) h = λ kind. h (among-documented n kind)
 for-fewer o p a k l (ok e) h = h
 
-unread-kinds : (f : FieldFault) → T (any (eqb (faultNumber f)) kindRefusals) → ⊥
-unread-kinds badField k = k
-unread-kinds pastLimit k = k
-unread-kinds badText k = k
+pub unread-documented : (f : FieldFault) → T (any (eqb (faultNumber f)) documentedRefusals) → ⊥
+unread-documented badField k = k
+unread-documented pastLimit k = k
+unread-documented badText k = k
 
 check-agrees : Agreeing isSetAside kindRefusals apply
 check-agrees =
     record {
-      unread = unread-kinds;
+      unread = λ f k. unread-documented f (among-documented (faultNumber f) k);
       short = λ k. k;
       tree = treeOf;
       takes = apply-operands;

@@ -95,7 +95,8 @@ ClaimFor forKinds ordinary inPlace allowed k l (refused x) = T (any (eqb x) forK
 ClaimFor forKinds ordinary inPlace allowed k l (ok e) = (T ordinary → T inPlace × T allowed) × (k ≡ valueType e) × (l ≡ scalarValue e) × T (isFormed e)
 
 -- of a record and its operands: what is set aside, the kind refusals and the tree are parameters
-abbrev pub RecordClaimFor : (Record → List Kind → List (Option Literal) → Bool) → List ℕ → (Record → List Expr → Result Expr) → Record → List Expr → Type 0
+abbrev pub RecordClaimFor : (Record → List Kind → List (Option Literal) → Bool) → List ℕ → (Record → List Expr → Result Expr)
+    → Record → List Expr → Type 0
 RecordClaimFor aside forKinds tree r es =
     ClaimFor forKinds (not (aside r (map valueType es) (map scalarValue es))) (isInPlace r) (areAsAsked r (map valueType es))
     (kindGiven r (map valueType es)) (bareNumber r (map scalarValue es)) (tree r es)

@@ -66,10 +66,12 @@ aggregateTree c m =
     (λ es k. absurd k) (λ es k. absurd k)
     (λ e none-asked.
     fromFault _ _ _ _ (Aggregate c m e)
-    (widen (without-last (aggregateRows c none (valueType e)) (isLimit c && not (isScalar (valueType e))) 42 (aggregateClaim c none-asked (valueType e)))) tt)
+    (widen (without-last (aggregateRows c none (valueType e)) (isLimit c && not (isScalar (valueType e))) 42
+    (aggregateClaim c none-asked (valueType e)))) tt)
     (λ p e.
     fromFault _ _ _ _ (AggregateParam c m p e)
-    (widen (without-last (aggregateRows c (some (valueType p)) (valueType e)) (isLimit c && not (isScalar (valueType p))) 42 (aggregateParamClaim c (valueType p) (valueType e)))) tt)
+    (widen (without-last (aggregateRows c (some (valueType p)) (valueType e)) (isLimit c && not (isScalar (valueType p))) 42
+    (aggregateParamClaim c (valueType p) (valueType e)))) tt)
 
 kinds-args : (es : List Expr) → kindsOf (argsOf es) ≡ map valueType es
 kinds-args [] = refl

@@ -66,7 +66,7 @@ module _ {C : Type 0} (aside : Record → List Kind → List (Option Literal) �
 abbrev pub Demand3 : List ℕ → Outcome → Type 0
 Demand3 page outcome = (contents : ℕ → List ℕ) → KindsRightWith isSetAside kindRefusals contents page outcome
 
--- document 02, No. 8: "For the added check demand 3 no longer needs the limitk condition, for accepted and refused pages
--- alike"
+-- document 02, No. 8: "For the added check demand 3 no longer needs the limitk condition, for accepted and refused
+-- pages alike"
 abbrev pub DocumentedDemand3 : List ℕ → Outcome → Type 0
 DocumentedDemand3 page outcome = (contents : ℕ → List ℕ) → KindsRightWith isSetAsideLiteral documentedRefusals contents page outcome
