@@ -5,6 +5,7 @@ pub mod answer;
 
 pub use answer::Outcome;
 pub use answer::check;
+pub use answer::check_operators;
 use answer::field_refusal;
 use judge::record::judge_record;
 use page::RECORD_LIMIT;
