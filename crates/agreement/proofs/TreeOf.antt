@@ -89,12 +89,13 @@ isFormed (Call f es) = true
 
 -- ## What a tree says
 
--- of a record that is ordinary, in place and allowed, and gives this kind and this bare number, for these kind refusals
+-- what the result of a record says for these kind refusals, where the record is ordinary, in place and allowed, and
+-- gives this kind and this bare number
 abbrev pub ClaimFor : List ℕ → Bool → Bool → Bool → Kind → Option Literal → Result Expr → Type 0
 ClaimFor forKinds ordinary inPlace allowed k l (refused x) = T (any (eqb x) forKinds) → T inPlace × T (not allowed)
 ClaimFor forKinds ordinary inPlace allowed k l (ok e) = (T ordinary → T inPlace × T allowed) × (k ≡ valueType e) × (l ≡ scalarValue e) × T (isFormed e)
 
--- of a record and its operands: what is set aside, the kind refusals and the tree are parameters
+-- the same of a record and its operands: what is set aside, the kind refusals and the tree are parameters
 abbrev pub RecordClaimFor : (Record → List Kind → List (Option Literal) → Bool) → List ℕ → (Record → List Expr → Result Expr)
     → Record → List Expr → Type 0
 RecordClaimFor aside forKinds tree r es =
