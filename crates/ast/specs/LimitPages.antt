@@ -91,8 +91,8 @@ pages : T (all (holds checkOperators) parameters && all (holds checkOperators) o
 unfolding readRecord readPage checkAst apply checkPage checkPageBy
 pages = tt
 
--- `limitk("a", up)` with `up` in so many brackets: of 253 its record is the 256th, the last that is read; of 254 it is the
--- 257th, and both checks refuse it with 3
+-- `limitk("a", up)` with `up` in so many brackets: of 253 its record is the 256th, the last that is read; of 254 it is
+-- the 257th, and both checks refuse it with 3
 abbrev bracketed : ℕ → List ℕ
 bracketed n = hex "010161 0202757000" ++ replicate n 0x08 ++ hex "0a1d0002"
 
