@@ -1,7 +1,7 @@
--- The check that follows the operators document, in the words of the request: which pages it accepts (`limit-accepts`,
--- `limit-accepted`), what it refuses (`limit-refused`, `limit-fault`), and with which numbers (`limit-in`). A record that
--- document 01 lets by has the fault 42 if it is a limitk or limit_ratio whose parameter is no scalar, and only then; the
--- rest is read off the laws of a check by rules. Assumes nothing.
+-- The check that follows the operators document, in the words of the request: which pages it accepts
+-- (`limit-accepts`, `limit-accepted`), what it refuses (`limit-refused`, `limit-fault`), and with which numbers
+-- (`limit-in`). A record that document 01 lets by has the fault 42 if it is a limitk or limit_ratio whose parameter is
+-- no scalar, and only then; the rest is read off the laws of a check by rules. Assumes nothing.
 use Prim.Native.Nat.{ℕ, _≤_, _<_}
 use mathlib.Core.Path.{_≡_, refl, sym, ap, ap₂, subst, _∙_}
 use mathlib.Core.Bool.{Bool, true, false, _||_}
@@ -174,8 +174,8 @@ module _ (page : List ℕ) where
   pub limit-accepts : ScalarParameters (recordCount page) → checkOperators page ≡ check page
   limit-accepts h = ap outcomeOf (checkPageBy-unfaulted withLimits (λ r. refl) page (scalar-passed (recordCount page) h))
 
-  -- what refuses a page: a limitk or limit_ratio that document 01's check lets by, with a parameter that is no scalar; or
-  -- that check
+  -- what refuses a page: a limitk or limit_ratio that document 01's check lets by, with a parameter that is no
+  -- scalar; or that check
   pub data Refuser (n i : ℕ) : Type 0 where
     limit-refuses : n ≡ 42 → (r : Record) (s t : List Expr) → LetByAt page i r s t → (x : LimitOn r s) → hasScalar x ≡ false → Refuser n i
     own-refusal : check page ≡ refusal n i → Refuser n i

@@ -1,4 +1,5 @@
--- A check beside document 01's (document 02: "Keep that check, and add one beside it"): pages with the outcomes of both.
+-- A check beside document 01's (document 02, No. 8: "Keep that check, and add one beside it"): pages with the outcomes
+-- of both.
 use Prim.Native.Nat.{ℕ}
 use Prim.Native.String.{String}
 use mathlib.Core.Bool.{Bool, false, _&&_, not}

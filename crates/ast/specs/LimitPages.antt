@@ -64,6 +64,10 @@ order =
     -- `topk("a", up)`, `count_values(1, up)`: document 01's own
     ∷ row "010161 0202757000 0a1c0002" (refusal 25 2) (refusal 25 2)
     ∷ row "000001 0202757000 0a140002" (refusal 25 2) (refusal 25 2)
+    -- `count_values("a", up)`, `topk(1, up)`, `sum(up)`: other operators are not asked
+    ∷ row "010161 0202757000 0a140002" (answer vector 0) (answer vector 0)
+    ∷ row "000001 0202757000 0a1c0002" (answer vector 0) (answer vector 0)
+    ∷ row "0202757000 0a1b0001" (answer vector 0) (answer vector 0)
     -- `limitk(1, limitk("a", up))`
     ∷ row "000001 010161 0202757000 0a1d0002 0a1d0002" (answer vector 0) (refusal 42 3)
     -- `limitk("a", limitk("b", up))`: the inner record is first
@@ -87,8 +91,8 @@ pages : T (all (holds checkOperators) parameters && all (holds checkOperators) o
 unfolding readRecord readPage checkAst apply checkPage checkPageBy
 pages = tt
 
--- `limitk("a", up)` with `up` in so many brackets: of 253 its record is the 256th, the last that is read; of 254 it is the
--- 257th, and both checks refuse it with 3
+-- `limitk("a", up)` with `up` in so many brackets: of 253 its record is the 256th, the last that is read; of 254 it is
+-- the 257th, and both checks refuse it with 3
 abbrev bracketed : ℕ → List ℕ
 bracketed n = hex "010161 0202757000" ++ replicate n 0x08 ++ hex "0a1d0002"
 
