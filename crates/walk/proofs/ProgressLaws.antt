@@ -16,13 +16,13 @@ use Rattle.ast.specs.Refusal.{refused, ok}
 use Rattle.ast.specs.Expr.{Expr, valueType}
 use Rattle.ast.specs.Walk.{Walked, refusedAt, proceed, atEnd, finished, walk, stackAfter}
 use Rattle.ast.specs.Walk as ast
-use Rattle.ast.specs.CheckPage.{apply}
-use Rattle.ast.specs.Rules.{Rules, applyBy, checkPageBy}
+use Rattle.ast.specs.CheckPage.{apply, checkPage}
+use Rattle.ast.specs.Rules.{Rules, plain, applyBy, checkPageBy}
 use Rattle.ast.specs.Part.{fromRecord}
 use Rattle.ast.specs.Tables.{entries, stackAt}
 use Rattle.records.specs.Allowed.{IsAllowed}
 use Rattle.records.proofs.AllowedLaws.{readRecord-gives}
-use Rattle.ast.proofs.RulesLaws.{ruled-passes}
+use Rattle.ast.proofs.RulesLaws.{ruled-passes, checkPageBy-plain}
 use Rattle.ast.proofs.SoundLaws.{AllSound, SoundStack, apply-sound}
 use Rattle.ast.proofs.TablesLaws.{stands-next}
 use Rattle.ast.proofs.WalkLaws.{onward, walk-append}
@@ -44,9 +44,12 @@ unfolding readPage
 read-short page h = rw (le-leb (length page) pageLimit h)
 
 -- a page too long
-pub too-long : (rules : Rules) (page : List ℕ) → 8192 < length page → checkPageBy rules page ≡ refusedAt 3 0
+pub too-long-by : (rules : Rules) (page : List ℕ) → 8192 < length page → checkPageBy rules page ≡ refusedAt 3 0
 unfolding checkPageBy readPage
-too-long rules page h = rw (lt-leb (length page) pageLimit h)
+too-long-by rules page h = rw (lt-leb (length page) pageLimit h)
+
+pub too-long : (page : List ℕ) → 8192 < length page → checkPage page ≡ refusedAt 3 0
+too-long page h = sym (checkPageBy-plain page) ∙ too-long-by plain page h
 
 from-start : (rules : Rules) (p : Records)
     → finished (p .ending) (length (p .records)) (walk (applyBy rules) 0 [] (p .records))

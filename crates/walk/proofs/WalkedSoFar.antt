@@ -30,7 +30,7 @@ use Rattle.walk.specs.Answers.{Accepts, Refuses}
 use Rattle.walk.specs.Walk.{firstOf}
 use Rattle.walk.proofs.ApplyLaws.{Pushed, apply-pushes, operands-there, Applied, applied, unapplied}
 use Rattle.walk.proofs.BasesLaws.{first-right}
-use Rattle.walk.proofs.ProgressLaws.{Progress, too-long, progress-start, at-stack, progress-end, progress-over}
+use Rattle.walk.proofs.ProgressLaws.{Progress, too-long-by, progress-start, at-stack, progress-end, progress-over}
 use Rattle.walk.proofs.ProgressLaws.{progress-bad, progress-refused, progress-next}
 use Rattle.walk.proofs.TableLaws.{tables-start, tables-next, entry-of}
 use Rattle.walk.proofs.ArraysLaws.{Arrays, stack-length, arrays-next}
@@ -71,7 +71,7 @@ walked-start limits {page} {starts} {firsts} {tags} {values} {bases} short sized
 
 -- a page too long: no record was read
 pub too-long-refused : (limits : Bool) {page starts firsts : List ℕ} → 8192 < length page → length starts ≡ 256 → length firsts ≡ 256 → Refuses (checkPageBy (limitRules limits) page) page starts firsts 3 0
-too-long-refused limits {page} {starts} {firsts} h s f = record { tables = tables-start page starts firsts s f; refuses = too-long (limitRules limits) page h }
+too-long-refused limits {page} {starts} {firsts} h s f = record { tables = tables-start page starts firsts s f; refuses = too-long-by (limitRules limits) page h }
 
 -- after a record that takes n operands and puts the operand x
 pub record NextTurn (limits : Bool) (page starts₀ firsts₀ starts firsts tags : List ℕ) (values : List Float) (bases : List ℕ)
