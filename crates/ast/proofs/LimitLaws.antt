@@ -1,7 +1,7 @@
--- The check that follows the operators document, in the words of the request: which pages it accepts
--- (`limit-accepts`, `limit-accepted`), what it refuses (`limit-refused`, `limit-fault`), and with which numbers
--- (`limit-in`). A record that document 01 lets by has the fault 42 if it is a limitk or limit_ratio whose parameter is
--- no scalar, and only then; the rest is read off the laws of a check by rules. Assumes nothing.
+-- The check that follows the operators document, in the words of the request: which pages it accepts (`limit-accepts`,
+-- `limit-accepted`), what it refuses (`limit-refused`, `limit-fault`), with which numbers and at which records
+-- (`limit-in`, `limit-record`). A record that document 01 lets by has the fault 42 if it is a limitk or limit_ratio
+-- whose parameter is no scalar, and only then; the rest is read off the laws of a check by rules. Assumes nothing.
 use Prim.Native.Nat.{ℕ, _≤_, _<_}
 use mathlib.Core.Path.{_≡_, refl, sym, ap, ap₂, subst, _∙_}
 use mathlib.Core.Bool.{Bool, true, false, _||_}
@@ -13,6 +13,7 @@ use lib.ListN.{length, take, drop, length-reverse}
 use lib.Seq.{length-take-le}
 use lib.Dec.{T, leb, eqb}
 use Rattle.page.specs.Bytes.{pick}
+use Rattle.page.specs.Limits.{recordLimit}
 use Rattle.records.specs.Kind.{Kind, isScalar}
 use Rattle.records.specs.Code.{isCountValues, rustAsksScalar, isLimit, hasParameter}
 use Rattle.records.specs.Stack.{operandsOf}
@@ -27,6 +28,7 @@ use Rattle.ast.specs.Table.{isOfCheck, recordCount, InTable}
 use Rattle.ast.specs.Rules.{checkPageBy}
 use Rattle.ast.specs.Limits.{parameterFault, limitFault, withLimits, checkOperators, isOfOperators}
 use Rattle.ast.proofs.CheckLaws.{answered, refusedWith, index-below, check-in}
+use Rattle.ast.proofs.WalkLaws.{page-limit}
 use Rattle.ast.proofs.RulesLaws.{checkPageBy-accepts}
 use Rattle.ast.proofs.AfterLaws.{LetByAt, Unfaulted, checkPageBy-faultless, checkPageBy-unfaulted, checkPageBy-faulted}
 use Rattle.ast.proofs.RefusedLaws.{Cause, before, document, after, checkPageBy-refuses}
@@ -229,3 +231,9 @@ module _ (page : List ℕ) where
       by : (o : Outcome) → checkOperators page ≡ o → InTable isOfOperators page o
       by (answer k n) e = tt
       by (refusal n i) e = by-refuser n i (limit-refused n i e .refuser)
+
+  pub limit-record : (n i : ℕ) → checkOperators page ≡ refusal n i → i ≤ 256
+  limit-record n i e = within (subst (InTable isOfOperators page) e limit-in .1) (page-limit page)
+    where
+      within : i ≤ recordCount page → recordCount page ≤ recordLimit → i ≤ 256
+      within g l = omega arith

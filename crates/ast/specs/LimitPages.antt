@@ -1,11 +1,11 @@
 -- Pages with limitk and limit_ratio, computed together: what document 01's check says, and what the check that follows
 -- the operators document says (document 02, No. 8); then wrong answers, none of which holds.
 use Prim.Native.Nat.{ℕ}
-use mathlib.Core.Bool.{Bool, _&&_}
+use mathlib.Core.Bool.{Bool, _&&_, not}
 use mathlib.Core.List.{List, [], _∷_, _++_}
 use lib.Dec.{T}
 use lib.ListN.{replicate}
-use Rattle.page.specs.Bytes.{hex, all}
+use Rattle.page.specs.Bytes.{hex, all, any}
 use Rattle.records.specs.Kind.{vector}
 use Rattle.records.specs.Record.{readRecord, readPage}
 use Rattle.records.specs.Outcome.{answer, refusal}
@@ -13,7 +13,7 @@ use Rattle.ast.specs.CheckAst.{checkAst}
 use Rattle.ast.specs.CheckPage.{apply, checkPage, check}
 use Rattle.ast.specs.Rules.{checkPageBy}
 use Rattle.ast.specs.Beside.{isSame, Example, row, holds, isAdded, isOther}
-use Rattle.ast.specs.Limits.{checkOperators}
+use Rattle.ast.specs.Limits.{checkOperators, isOfOperators}
 
 abbrev parameters : List Example
 parameters =
@@ -116,6 +116,15 @@ everyAdded : T (
     )
 unfolding readRecord readPage checkAst apply checkPage checkPageBy
 everyAdded = tt
+
+-- which numbers it can give: 1 to 4, 6 to 34, 41 and 42
+numbers : T (
+    all isOfOperators (
+    1 ∷ 2 ∷ 3 ∷ 4 ∷ 6 ∷ 7 ∷ 8 ∷ 9 ∷ 10 ∷ 11 ∷ 12 ∷ 13 ∷ 14 ∷ 15 ∷ 16 ∷ 17 ∷ 18 ∷ 19
+    ∷ 20 ∷ 21 ∷ 22 ∷ 23 ∷ 24 ∷ 25 ∷ 26 ∷ 27 ∷ 28 ∷ 29 ∷ 30 ∷ 31 ∷ 32 ∷ 33 ∷ 34 ∷ 41 ∷ 42 ∷ [])
+    && not (any isOfOperators (0 ∷ 5 ∷ 35 ∷ 36 ∷ 37 ∷ 38 ∷ 39 ∷ 40 ∷ 43 ∷ []))
+    )
+numbers = tt
 
 -- wrong answers
 wrong : T (
