@@ -17,6 +17,7 @@ use rules::wrapper::judge_range;
 use rules::wrapper::judge_subquery;
 use rules::wrapper::judge_unary;
 ghost use mathlib.Core.Path.{_≡_};
+ghost use lib.Dec.{eqb};
 ghost use lib.ListN.{drop};
 ghost use Rattle.reader.specs.Answers.{recordOn};
 ghost use Rattle.records.specs.Float.{IsExact};
@@ -44,18 +45,19 @@ fn literal_operand(literal: Literal) -> Operand
     }
 }
 
-// The operands are there: they lie from `top` on, the last one first. `limits` says whether 42 is asked for.
+// The operands are there: they lie from `top` on, the last one first. The rule is what is asked
+// beside document 01.
 pub fn judge_record(
     page: &[u8],
     item: Record,
     tags: &[u8],
     values: &[f64],
     top: usize,
-    limits: bool,
+    rule: u64,
 ) -> Verdict
     requires sized { ⌜ Sized (now tags) (now values) ⌝ }
     requires ready { ⌜ Judgeable (now page) item top ⌝ }
-    ensures { λ r. ⌜ verdictMeant r ≡ judgementBy (limitRules limits) (recordOn (now (page .entry)) item) (drop top (heldOperands (now (tags .entry)) (now (values .entry)))) ⌝ }
+    ensures { λ r. ⌜ verdictMeant r ≡ judgementBy (limitRules (eqb rule 42)) (recordOn (now (page .entry)) item) (drop top (heldOperands (now (tags .entry)) (now (values .entry)))) ⌝ }
 {
     match item {
         Record::Number(literal) => Verdict::Put(literal_operand(literal)),
@@ -73,7 +75,7 @@ pub fn judge_record(
             judge_binary(page, code, modifier, left, right)
         }
         Record::Aggregate { code, count, .. } => {
-            judge_aggregate(code, tags, values, top, count, limits)
+            judge_aggregate(code, tags, values, top, count, rule)
         }
         Record::Call { function, count } => judge_call(page, function, tags, values, top, count),
     }

@@ -17,6 +17,7 @@ use records::Kind;
 ghost use Prim.Native.Nat.{_+_, _≤_};
 ghost use mathlib.Core.List.{_++_, map};
 ghost use mathlib.Core.Path.{_≡_};
+ghost use lib.Dec.{eqb};
 ghost use lib.ListN.{drop};
 ghost use Rattle.records.specs.Field.{has};
 ghost use Rattle.records.specs.Kind.{isScalar, isString, vector};
@@ -28,6 +29,11 @@ ghost use Rattle.ast.specs.Judge.{put};
 ghost use Rattle.rules.specs.Answers.{verdictMeant, parameterMeant};
 ghost use Rattle.rules.specs.Limit.{limitRows, judgeAggregateBy};
 ghost use Rattle.rules.specs.Stack.{heldOperands, Sized};
+
+// What is asked beside document 01: nothing, or 42. It goes to the judge as a number, which costs the least.
+pub const NO_RULE: u64 = 0;
+
+pub const LIMIT_RULE: u64 = 42;
 
 // The kind of an aggregate's parameter, if there is one.
 pub enum Parameter {
@@ -53,10 +59,10 @@ fn parameter_is_string(parameter: Parameter) -> bool
     }
 }
 
-// 24 where the code is an operator, 25 where the operand or the parameter has another kind than asked; then, if asked
-// for, 42 where limitk or limit_ratio has a parameter that is no scalar.
-fn judge_operand(code: u64, parameter: Parameter, operand: Kind, limits: bool) -> Verdict
-    ensures { λ r. ⌜ verdictMeant r ≡ put (aggregateRows code (parameterMeant parameter) (kindOf operand) ++ limitRows limits code (parameterMeant parameter)) (otherOperand vector) ⌝ }
+// 24 where the code is an operator, 25 where the operand or the parameter has another kind than asked; then, by its rule,
+// 42 where limitk or limit_ratio has a parameter that is no scalar.
+fn judge_operand(code: u64, parameter: Parameter, operand: Kind, rule: u64) -> Verdict
+    ensures { λ r. ⌜ verdictMeant r ≡ put (aggregateRows code (parameterMeant parameter) (kindOf operand) ++ limitRows (eqb rule 42) code (parameterMeant parameter)) (otherOperand vector) ⌝ }
 {
     if !is_aggregator(code) {
         return Verdict::Refused(Refusal::OperatorAsAggregator);
@@ -71,7 +77,7 @@ fn judge_operand(code: u64, parameter: Parameter, operand: Kind, limits: bool) -
     if is_count_values(code) & !parameter_is_string(parameter) {
         return Verdict::Refused(Refusal::AggregateKind);
     }
-    if limits & is_limit(code) & !scalar {
+    if (rule == LIMIT_RULE) & is_limit(code) & !scalar {
         return Verdict::Refused(Refusal::LimitParameter);
     }
     Verdict::Put(Operand::Other(Kind::Vector))
@@ -84,11 +90,11 @@ pub fn judge_aggregate(
     values: &[f64],
     top: usize,
     count: usize,
-    limits: bool,
+    rule: u64,
 ) -> Verdict
     requires sized { ⌜ Sized (now tags) (now values) ⌝ }
     requires inside { ⌜ top + count ≤ 256 ⌝ }
-    ensures { λ r. ⌜ verdictMeant r ≡ judgeAggregateBy limits code (map operandKind (operandsOf count (drop top (heldOperands (now (tags .entry)) (now (values .entry)))))) ⌝ }
+    ensures { λ r. ⌜ verdictMeant r ≡ judgeAggregateBy (eqb rule 42) code (map operandKind (operandsOf count (drop top (heldOperands (now (tags .entry)) (now (values .entry)))))) ⌝ }
 {
     if count == 0 {
         return Verdict::Refused(Refusal::AggregateOfNothing);
@@ -99,11 +105,11 @@ pub fn judge_aggregate(
         }
         let parameter = kind_of(operand_at(tags, values, top + 1));
         let operand = kind_of(operand_at(tags, values, top));
-        return judge_operand(code, Parameter::Some(parameter), operand, limits);
+        return judge_operand(code, Parameter::Some(parameter), operand, rule);
     }
     if count != 1 {
         return Verdict::Refused(Refusal::ArgumentCount);
     }
     let operand = kind_of(operand_at(tags, values, top));
-    judge_operand(code, Parameter::None, operand, limits)
+    judge_operand(code, Parameter::None, operand, rule)
 }

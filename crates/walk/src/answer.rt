@@ -4,7 +4,10 @@ use crate::walk_by;
 use page::Fault;
 use records::Kind;
 use rules::Refusal;
+use rules::aggregate::LIMIT_RULE;
+use rules::aggregate::NO_RULE;
 ghost use mathlib.Core.Path.{_≡_};
+ghost use lib.Dec.{eqb};
 ghost use Rattle.page.specs.Read.{faultNumber};
 ghost use Rattle.page.specs.Answers.{faultOf};
 ghost use Rattle.rules.specs.Answers.{refusalNumber};
@@ -31,13 +34,13 @@ pub fn field_refusal(fault: Fault) -> Refusal
     }
 }
 
-// The outcome of the walk, and, if asked for, with the rule of limitk and limit_ratio.
-fn outcome_by(page: &[u8], limits: bool) -> Outcome
-    ensures { λ r. ⌜ outcomeMeant r ≡ checkBy (limitRules limits) (now (page .entry)) ⌝ }
+// The outcome of the walk by document 01, and by a rule beside it.
+fn outcome_by(page: &[u8], rule: u64) -> Outcome
+    ensures { λ r. ⌜ outcomeMeant r ≡ checkBy (limitRules (eqb rule 42)) (now (page .entry)) ⌝ }
 {
     let mut starts = [0u16; page::RECORD_LIMIT];
     let mut firsts = [0u8; page::RECORD_LIMIT];
-    match walk_by(page, &mut starts, &mut firsts, limits) {
+    match walk_by(page, &mut starts, &mut firsts, rule) {
         Walked::Accepted { kind, .. } => Outcome::Accepted { kind, written: 0 },
         Walked::Refused(refusal, index) => Outcome::Refused(refusal, index),
     }
@@ -48,7 +51,7 @@ fn outcome_by(page: &[u8], limits: bool) -> Outcome
 pub fn check(page: &[u8]) -> Outcome
     ensures { λ r. ⌜ CheckContract (now (page .entry)) (outcomeMeant r) ⌝ }
 {
-    outcome_by(page, false)
+    outcome_by(page, NO_RULE)
 }
 
 // The check that follows the operators document (document 02, No. 8): as check, and 42 where limitk or limit_ratio has
@@ -56,5 +59,5 @@ pub fn check(page: &[u8]) -> Outcome
 pub fn check_operators(page: &[u8]) -> Outcome
     ensures { λ r. ⌜ LimitContract (now (page .entry)) (outcomeMeant r) ⌝ }
 {
-    outcome_by(page, true)
+    outcome_by(page, LIMIT_RULE)
 }

