@@ -54,6 +54,7 @@ fn show(page: &[u8]) -> Result<(), String> {
     let answer = answer::of_worked(&worked);
     println!("{:?} ({:?})", answer.outcome, answer.domain);
     println!("with the function table: {:?}", answer.table);
+    println!("as the operators document asks: {:?}", answer.operators);
     if let Some(message) = worked.message {
         println!("the Rust: {message}");
     }
