@@ -13,9 +13,14 @@ fn the_list_is_the_oracles() {
     let kept = std::fs::read(kept::PATH).expect("the list is there");
     let made = kept::entries().expect("the Rust is foreseen");
     assert!(kept == kept::list(&made), "write it again: oracle keep");
-    let table = std::fs::read(kept::TABLE_PATH).expect("the words are there");
-    assert!(table == kept::table(&made), "write it again: oracle keep");
-    assert_eq!(table.len(), 8 * made.len());
+    for (path, words) in [
+        (kept::TABLE_PATH, kept::table(&made)),
+        (kept::OPERATORS_PATH, kept::operators(&made)),
+    ] {
+        let kept = std::fs::read(path).expect("the words are there");
+        assert!(kept == words, "write it again: oracle keep");
+        assert_eq!(kept.len(), 8 * made.len());
+    }
 }
 
 #[test]
@@ -90,4 +95,13 @@ fn the_list_has_the_functions() {
     let is_short = |page: &Vec<u8>| page.len() < 1000;
     let chosen = chosen::of_functions().iter().map(|row| row.bytes());
     assert_pages_kept(chosen.filter(is_short), 30);
+}
+
+/// limitk and limit_ratio with parameters and operands of every kind, and beside other faults.
+#[test]
+fn the_list_has_the_limits() {
+    let pages = generate::operators::fixed().map(|made| made.page);
+    assert_pages_kept(pages, 500);
+    let chosen = chosen::of_operators().iter().map(|row| row.bytes());
+    assert_pages_kept(chosen, 30);
 }
