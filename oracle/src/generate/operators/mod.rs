@@ -22,7 +22,9 @@ const GROUPINGS: [&str; 5] = ["00", "01010178", "0100", "02010178", "0200"];
 
 /// Pages made for outcomes of the check that follows the operators document.
 pub fn fixed() -> impl Iterator<Item = Made> {
-    parameters().chain(operands()).chain(order::fixed())
+    let nested = Made::new(nested_limits(), Outcome::Accepted(Kind::Vector));
+    let single = parameters().chain(operands());
+    single.chain(order::fixed()).chain([nested])
 }
 
 /// A page of any of these sorts.

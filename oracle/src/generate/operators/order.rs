@@ -49,6 +49,14 @@ const AT_LIMIT: &[(&str, u8, usize)] = &[
     ("010161 0202757000 0a1d0002 07*254;", LIMIT_PARAMETER, 2),
 ];
 
+/// As many limits as a page holds: the innermost parameter is no scalar, the outermost, the one in between.
+#[rustfmt::skip]
+const MOST: &[(&str, u8, usize)] = &[
+    ("(000001)*126; 010161 0202757000 (0a1d0002)*127;", LIMIT_PARAMETER, 128),
+    ("010161 (000001)*126; 0202757000 (0a1d0002)*127;", LIMIT_PARAMETER, 254),
+    ("(000001)*63; 010161 (000001)*63; 0202757000 (0a1e0002)*127;", LIMIT_PARAMETER, 191),
+];
+
 /// Behind a parameter that is no scalar and `up`: fields that cannot be read, and counts other than two.
 #[rustfmt::skip]
 const FIELDS: &[(&str, u8)] = &[
@@ -113,9 +121,8 @@ pub(super) fn fixed() -> impl Iterator<Item = Made> {
             .iter()
             .map(move |around| surrounded(*around, (faulty, LIMIT_PARAMETER)))
     });
-    let at_limit = AT_LIMIT
-        .iter()
-        .map(|(page, number, record)| refused(page, *number, *record));
+    let at_limit = AT_LIMIT.iter().chain(MOST);
+    let at_limit = at_limit.map(|(page, number, record)| refused(page, *number, *record));
     around
         .chain(at_limit)
         .chain(CODES.into_iter().flat_map(of_code))
