@@ -1,4 +1,5 @@
 -- The faults of the check (`CheckAst`) against what the documents ask (`WorkingOut`), tree by tree, in terms of kinds.
+-- Aggregates with the added check's row 42 behind check's rows; what check's rows say follows (`without-last`).
 use Prim.Native.Nat.{ℕ, suc, _+_, _-_, min}
 use mathlib.Core.Path.{_≡_, refl, sym, ap, ap₂, _∙_, subst}
 use mathlib.Core.Bool.{Bool, true, false, _&&_, _||_, not}
@@ -21,13 +22,14 @@ use Rattle.ast.specs.CheckAst.{returnsBool, isJoint, isGrouped, hasMatchingLabe
 use Rattle.ast.specs.CheckAst.{arityRows, argsMatch, argsRows, callRows}
 use Rattle.records.specs.LiteralException.{isExempt}
 use Rattle.working_out.specs.Asked.{Group, groupOf, isOperatorGroup, isAggregatorGroup, sidesAllowed, hasBool, argumentsAllowed, declaredKind, areDeclared}
-use Rattle.working_out.specs.Demand3.{kindRefusals}
+use Rattle.working_out.specs.Demand3.{documentedRefusals}
 use Rattle.agreement.proofs.Bools.{both, not-not, neither-left, neither-right, either-right, fails-left, fails-right}
 use Rattle.agreement.proofs.Codes.{OperatorCase, isArithmetic, isComparing, isSet, operatorCase, AggregatorCase}
 use Rattle.agreement.proofs.Codes.{isPlain, isCounting, isScaled, isLimiting, aggregatorCase}
 
+-- for kinds, in check or in the added check
 abbrev pub isKindRefusal : ℕ → Bool
-isKindRefusal n = any (eqb n) kindRefusals
+isKindRefusal n = any (eqb n) documentedRefusals
 
 -- no fault: a record not set aside is in place and its operands are as asked. A kind refusal: it is in place, and they
 -- are not
@@ -49,6 +51,14 @@ module _ {o p a : Bool} where
   -- past the last row
   pub fine : (T o → T p × T a) → FaultClaim o p a none
   fine h = record { claim = h }
+
+-- without its last row a table says the same of what that row does not refuse
+pub without-last : {p a : Bool} (rows : List Row) (b : Bool) (n : ℕ) → FaultClaim true p a (firstFault (rows ++ when b n ∷ []))
+    → FaultClaim (not b) p a (firstFault rows)
+without-last [] true n h = fine (λ o. absurd o)
+without-last [] false n h = h
+without-last (when true m ∷ rows) b n h = record { claim = h .claim }
+without-last (when false m ∷ rows) b n h = without-last rows b n h
 
 -- ## Binary expressions
 
@@ -138,12 +148,17 @@ binaryClaim c m l r =
 
 -- ## Aggregates
 
+-- the added check's row, of the first argument
+abbrev pub limitRow : ℕ → Kind → Row
+limitRow c k = when (isLimit c && not (isScalar k)) 42
+
 abbrev One : Group → Bool → Bool → Bool → Kind → Type 0
 One g counts scaled limits e =
     FaultClaim true (isAggregatorGroup g) (isVector e) (firstFault (
     when (not (isVector e)) 25
     ∷ when (scaled && not (has isScalar none)) 25
     ∷ when (counts && not (has isString none)) 25
+    ∷ when (limits && not (isScalar e)) 42
     ∷ []))
 
 one : (g : Group) (counts scaled limits : Bool) → AggregatorCase g counts scaled limits
@@ -155,17 +170,18 @@ one g counts scaled limits isLimiting n e = absurd n
 
 -- an aggregate of one argument
 pub aggregateClaim : (c : ℕ) → T (not (hasParameter c)) → (e : Kind)
-    → FaultClaim true (isAggregatorGroup (groupOf c)) (isVector e) (firstFault (aggregateRows c none e))
+    → FaultClaim true (isAggregatorGroup (groupOf c)) (isVector e) (firstFault (aggregateRows c none e ++ limitRow c e ∷ []))
 aggregateClaim c n e =
     row (not (isAggregator c)) 24 _ (λ h k. absurd k) λ h.
     one (groupOf c) (isCountValues c) (rustAsksScalar c) (isLimit c) (aggregatorCase c (not-not (isAggregator c) h)) n e
 
 abbrev Two : Group → Bool → Bool → Bool → Kind → Kind → Type 0
 Two g counts scaled limits p e =
-    FaultClaim (not (limits && not (isScalar p))) (isAggregatorGroup g) (argumentsAllowed g (p ∷ e ∷ [])) (firstFault (
+    FaultClaim true (isAggregatorGroup g) (argumentsAllowed g (p ∷ e ∷ [])) (firstFault (
     when (not (isVector e)) 25
     ∷ when (scaled && not (has isScalar (some p))) 25
     ∷ when (counts && not (has isString (some p))) 25
+    ∷ when (limits && not (isScalar p)) 42
     ∷ []))
 
 two : (g : Group) (counts scaled limits : Bool) → AggregatorCase g counts scaled limits → (p e : Kind) → Two g counts scaled limits p e
@@ -180,13 +196,14 @@ two g counts scaled limits isScaled p e =
     row (not (isScalar p)) 25 none (λ h′ k. (tt, fails-right (isVector e) (isScalar p) h′)) λ h′.
     fine (λ o. (tt, both (isVector e) (isScalar p) (not-not (isVector e) h) (not-not (isScalar p) h′)))
 two g counts scaled limits isLimiting p e =
-    row (not (isVector e)) 25 none (λ h k. (tt, fails-left (isVector e) _ h)) λ h.
-    fine (λ o. (tt, both (isVector e) (isScalar p) (not-not (isVector e) h) (not-not (isScalar p) o)))
+    row (not (isVector e)) 25 _ (λ h k. (tt, fails-left (isVector e) _ h)) λ h.
+    row (not (isScalar p)) 42 none (λ h′ k. (tt, fails-right (isVector e) (isScalar p) h′)) λ h′.
+    fine (λ o. (tt, both (isVector e) (isScalar p) (not-not (isVector e) h) (not-not (isScalar p) h′)))
 
 -- an aggregate of a parameter and an argument
 pub aggregateParamClaim : (c : ℕ) (p e : Kind)
-    → FaultClaim (not (isLimit c && not (isScalar p))) (isAggregatorGroup (groupOf c))
-    (argumentsAllowed (groupOf c) (p ∷ e ∷ [])) (firstFault (aggregateRows c (some p) e))
+    → FaultClaim true (isAggregatorGroup (groupOf c)) (argumentsAllowed (groupOf c) (p ∷ e ∷ []))
+    (firstFault (aggregateRows c (some p) e ++ limitRow c p ∷ []))
 aggregateParamClaim c p e =
     row (not (isAggregator c)) 24 _ (λ h k. absurd k) λ h.
     two (groupOf c) (isCountValues c) (rustAsksScalar c) (isLimit c) (aggregatorCase c (not-not (isAggregator c) h)) p e

@@ -1,16 +1,16 @@
 -- The tree of a record (constructor and `checkAst`) as a function of its operands, and what a tree says of the
 -- working-out: where the record is not set aside it is in place and as asked, a refusal for kinds is in place and not
--- as asked (`TreeClaim`).
+-- as asked (`ClaimFor`, `RecordClaimFor`).
 use Prim.Native.Nat.{ℕ, suc}
 use mathlib.Core.Path.{_≡_, refl, sym, ap}
 use mathlib.Core.Bool.{Bool, true, not}
-use mathlib.Core.List.{List, [], _∷_}
+use mathlib.Core.List.{List, [], _∷_, map}
 use mathlib.Core.Option.{Option, none, some}
 use native.Mathlib.Omega.{arith}
 use borrow.Author.Tests.{le-leb}
 use lib.ListN.{length, drop}
-use lib.Dec.{T, leb}
-use Rattle.page.specs.Bytes.{pick}
+use lib.Dec.{T, leb, eqb}
+use Rattle.page.specs.Bytes.{pick, any}
 use Rattle.records.specs.Kind.{Kind, isVector}
 use Rattle.records.specs.Literal.{Literal}
 use Rattle.ast.specs.Refusal.{Result, refused, ok, unless, andThen}
@@ -21,7 +21,10 @@ use Rattle.ast.specs.Expr.{StringLiteral, VectorSelector, MatrixSelector, Call,
 use Rattle.ast.specs.Construct.{newAggregate}
 use Rattle.ast.specs.CheckAst.{checkAst}
 use Rattle.ast.specs.CheckPage.{leafExpr, wrap, apply}
-use Rattle.agreement.proofs.Faults.{isKindRefusal, FaultClaim}
+use Rattle.working_out.specs.Asked.{areAsAsked, kindGiven, isInPlace}
+use Rattle.working_out.specs.WorkingOut.{bareNumber}
+use Rattle.working_out.specs.Demand3.{documentedRefusals}
+use Rattle.agreement.proofs.Faults.{FaultClaim}
 
 -- ## The tree of a record
 
@@ -47,14 +50,19 @@ construct (call f n) es = ok (Call f (argsOf es))
 abbrev pub treeOf : Record → List Expr → Result Expr
 treeOf r es = andThen (construct r es) checkAst
 
+-- the tree in the place of its operands, if the stack has so many
+abbrev pub pushed : List Expr → Result Expr → Result (List Expr)
+pushed below made = andThen made (λ e. ok (e ∷ below))
+
+abbrev pub onOperands : (Record → List Expr → Result Expr) → Record → List Expr → Result (List Expr)
+onOperands tree r stack =
+    pick (leb (operands r) (length stack)) (pushed (drop (operands r) stack) (tree r (operandsOf (operands r) stack))) (refused 2)
+
 -- every record takes its operands alike
 enough : {A : Type 0} (b : Bool) (x y : A) → b ≡ true → x ≡ pick b x y
 enough b x y e = ap (λ (c : Bool). pick c x y) (sym e)
 
-pub apply-operands : (r : Record) (stack : List Expr)
-    → apply r stack
-    ≡ pick (leb (operands r) (length stack))
-    (andThen (treeOf r (operandsOf (operands r) stack)) (λ e. ok (e ∷ drop (operands r) stack))) (refused 2)
+pub apply-operands : (r : Record) (stack : List Expr) → apply r stack ≡ onOperands treeOf r stack
 unfolding apply
 apply-operands (leaf l) stack = enough (leb 0 (length stack)) _ _ (le-leb 0 (length stack) (omega arith))
 apply-operands (wrapper w) [] = refl
@@ -79,11 +87,24 @@ isFormed (VectorSelector s t) = true
 isFormed (MatrixSelector s t r) = true
 isFormed (Call f es) = true
 
--- what the result of a record says, where it is ordinary, in place and allowed, and gives this kind and this bare
--- number
+-- ## What a tree says
+
+-- what the result of a record says for these kind refusals, where the record is ordinary, in place and allowed, and
+-- gives this kind and this bare number
+abbrev pub ClaimFor : List ℕ → Bool → Bool → Bool → Kind → Option Literal → Result Expr → Type 0
+ClaimFor forKinds ordinary inPlace allowed k l (refused x) = T (any (eqb x) forKinds) → T inPlace × T (not allowed)
+ClaimFor forKinds ordinary inPlace allowed k l (ok e) = (T ordinary → T inPlace × T allowed) × (k ≡ valueType e) × (l ≡ scalarValue e) × T (isFormed e)
+
+-- the same of a record and its operands: what is set aside, the kind refusals and the tree are parameters
+abbrev pub RecordClaimFor : (Record → List Kind → List (Option Literal) → Bool) → List ℕ → (Record → List Expr → Result Expr)
+    → Record → List Expr → Type 0
+RecordClaimFor aside forKinds tree r es =
+    ClaimFor forKinds (not (aside r (map valueType es) (map scalarValue es))) (isInPlace r) (areAsAsked r (map valueType es))
+    (kindGiven r (map valueType es)) (bareNumber r (map scalarValue es)) (tree r es)
+
+-- for the kind refusals of check and of the added check
 abbrev pub TreeClaim : Bool → Bool → Bool → Kind → Option Literal → Result Expr → Type 0
-TreeClaim ordinary inPlace allowed k l (refused x) = T (isKindRefusal x) → T inPlace × T (not allowed)
-TreeClaim ordinary inPlace allowed k l (ok e) = (T ordinary → T inPlace × T allowed) × (k ≡ valueType e) × (l ≡ scalarValue e) × T (isFormed e)
+TreeClaim = ClaimFor documentedRefusals
 
 pub fromFault : (f : Option ℕ) (o p a : Bool) (e : Expr) → FaultClaim o p a f → T (isFormed e) → TreeClaim o p a (valueType e) (scalarValue e) (unless f e)
 fromFault none o p a e h g = (h .claim, refl, refl, g)

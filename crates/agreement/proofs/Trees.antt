@@ -9,58 +9,69 @@ use lib.ListN.{length, getD, length-map}
 use lib.Dec.{T, eqb}
 use Rattle.page.specs.Bytes.{all, isEmpty}
 use Rattle.page.proofs.NumberLaws.{left-of}
-use Rattle.records.specs.Kind.{Kind, vector, isVector}
-use Rattle.records.specs.Code.{hasParameter}
+use Rattle.records.specs.Kind.{Kind, isVector, isScalar}
+use Rattle.records.specs.Code.{isLimit, hasParameter}
 use Rattle.records.specs.Literal.{Literal}
 use Rattle.records.specs.Modifier.{LabelModifier, BinModifier}
 use Rattle.records.specs.Signature.{Function}
-use Rattle.ast.specs.Refusal.{firstFault, andThen}
+use Rattle.ast.specs.Refusal.{firstFault, Result, refused, ok, andThen}
 use Rattle.records.specs.Record.{Leaf, number, string as stringLeaf, selector, Wrapper, range, subquery, at, offset}
 use Rattle.records.specs.Record.{unary, paren, Record, leaf, wrapper, binary, aggregate, call, operands}
 use Rattle.ast.specs.Expr.{Expr, Aggregate, AggregateParam, Binary, Subquery, Call, valueType, scalarValue, argsOf}
-use Rattle.ast.specs.Construct.{newAggregateOf, noTimes}
-use Rattle.ast.specs.CheckAst.{checkAst, checkedModifier, kindsOf, firstLiteral, callRows}
+use Rattle.ast.specs.Construct.{newAggregateOf, newAggregate, noTimes}
+use Rattle.ast.specs.CheckAst.{checkAst, checkedModifier, kindsOf, firstLiteral, aggregateRows, callRows}
 use Rattle.records.specs.LiteralException.{isExempt}
-use Rattle.working_out.specs.Asked.{areAsAsked, areDeclared, kindGiven, isInPlace}
-use Rattle.working_out.specs.WorkingOut.{bareNumber, isSetAside}
-use Rattle.agreement.proofs.Faults.{FaultClaim, fine, binaryClaim, aggregateClaim, aggregateParamClaim, callClaim}
-use Rattle.agreement.proofs.TreeOf.{treeOf, isFormed, TreeClaim, fromFault}
+use Rattle.working_out.specs.Asked.{areDeclared}
+use Rattle.working_out.specs.WorkingOut.{isSetAside}
+use Rattle.working_out.specs.Demand3.{documentedRefusals}
+use Rattle.agreement.proofs.Faults.{FaultClaim, without-last, binaryClaim, aggregateClaim, aggregateParamClaim, callClaim}
+use Rattle.agreement.proofs.TreeOf.{treeOf, isFormed, RecordClaimFor, fromFault}
 use Rattle.agreement.proofs.WrapperTrees.{selectorTree, rangeOne, subqueryTree, atOne, offsetOne, unaryOne}
 
 -- ## Binary expressions, aggregates, calls
 
 abbrev pub RecordClaim : Record → List Expr → Type 0
-RecordClaim r es =
-    TreeClaim (not (isSetAside r (map valueType es) (map scalarValue es))) (isInPlace r) (areAsAsked r (map valueType es))
-    (kindGiven r (map valueType es)) (bareNumber r (map scalarValue es)) (treeOf r es)
+RecordClaim = RecordClaimFor isSetAside documentedRefusals treeOf
 
 binaryTree : (c : ℕ) (m : Option BinModifier) (l r : Expr) → RecordClaim (binary c m) (l ∷ r ∷ [])
 unfolding checkAst
 binaryTree c m l r = fromFault _ _ _ _ (Binary c (checkedModifier c m) l r) (binaryClaim c m (valueType l) (valueType r)) tt
 
 -- an aggregate of at least one argument is in place by its code
-widen : {o p a : Bool} {f : Option ℕ} → FaultClaim o p a f → FaultClaim o (p && true) a f
+pub widen : {o p a : Bool} {f : Option ℕ} → FaultClaim o p a f → FaultClaim o (p && true) a f
 widen {o} {p = true} {a} {f} h = h
 widen {o} {p = false} {a} {f = none} h = record { claim = h .claim }
 widen {o} {p = false} {a} {f = some x} h = record { claim = h .claim }
 
--- of one argument nothing is set aside
-ordinary : (o : Bool) {p a : Bool} {f : Option ℕ} → FaultClaim true p a f → FaultClaim o p a f
-ordinary o {p} {a} {f = none} h = fine (λ g. h .claim tt)
-ordinary o {p} {a} {f = some x} h = record { claim = h .claim }
+-- by the count of arguments: refused, of one argument, or of a parameter and an argument
+pub newAggregate-by : (P : List Expr → Result Expr → Type 0) (c : ℕ) (m : Option LabelModifier)
+    → ((es : List Expr) → P es (refused 14)) → ((es : List Expr) → P es (refused 15))
+    → ((e : Expr) → T (not (hasParameter c)) → P (e ∷ []) (ok (Aggregate c m e)))
+    → ((p e : Expr) → P (p ∷ e ∷ []) (ok (AggregateParam c m p e)))
+    → (es : List Expr) → P es (newAggregate c m es)
+newAggregate-by P c m no-arguments other-count alone behind es = by (hasParameter c) refl es
+  where
+    by : (has : Bool) → hasParameter c ≡ has → (es : List Expr) → P es (newAggregateOf has c m es)
+    by has q [] = no-arguments []
+    by true q (p ∷ []) = other-count (p ∷ [])
+    by true q (p ∷ e ∷ []) = behind p e
+    by true q (p ∷ e ∷ x ∷ es) = other-count (p ∷ e ∷ x ∷ es)
+    by false q (e ∷ []) = alone e (subst (λ (b : Bool). T (not b)) (sym q) tt)
+    by false q (e ∷ x ∷ es) = other-count (e ∷ x ∷ es)
 
-aggregateTree : (has : Bool) (c : ℕ) → hasParameter c ≡ has → (m : Option LabelModifier) (es : List Expr)
-    → TreeClaim (not (isSetAside (aggregate c m (length es)) (map valueType es) (map scalarValue es))) (isInPlace (aggregate c m (length es)))
-    (areAsAsked (aggregate c m (length es)) (map valueType es)) vector none (andThen (newAggregateOf has c m es) checkAst)
+aggregateTree : (c : ℕ) (m : Option LabelModifier) (es : List Expr) → RecordClaim (aggregate c m (length es)) es
 unfolding checkAst
-aggregateTree has c q m [] = λ k. absurd k
-aggregateTree true c q m (p ∷ []) = λ k. absurd k
-aggregateTree true c q m (p ∷ e ∷ []) =
-    fromFault _ _ _ _ (AggregateParam c m p e) (widen (aggregateParamClaim c (valueType p) (valueType e))) tt
-aggregateTree true c q m (p ∷ e ∷ x ∷ es) = λ k. absurd k
-aggregateTree false c q m (e ∷ []) =
-    fromFault _ _ _ _ (Aggregate c m e) (ordinary _ (widen (aggregateClaim c (subst (λ (b : Bool). T (not b)) (sym q) tt) (valueType e)))) tt
-aggregateTree false c q m (e ∷ x ∷ es) = λ k. absurd k
+aggregateTree c m =
+    newAggregate-by (λ es made. RecordClaimFor isSetAside documentedRefusals (λ r es. andThen made checkAst) (aggregate c m (length es)) es) c m
+    (λ es k. absurd k) (λ es k. absurd k)
+    (λ e none-asked.
+    fromFault _ _ _ _ (Aggregate c m e)
+    (widen (without-last (aggregateRows c none (valueType e)) (isLimit c && not (isScalar (valueType e))) 42
+    (aggregateClaim c none-asked (valueType e)))) tt)
+    (λ p e.
+    fromFault _ _ _ _ (AggregateParam c m p e)
+    (widen (without-last (aggregateRows c (some (valueType p)) (valueType e)) (isLimit c && not (isScalar (valueType p))) 42
+    (aggregateParamClaim c (valueType p) (valueType e)))) tt)
 
 kinds-args : (es : List Expr) → kindsOf (argsOf es) ≡ map valueType es
 kinds-args [] = refl
@@ -125,5 +136,5 @@ record-claim (binary c m) [] n h = λ k. absurd k
 record-claim (binary c m) (l ∷ []) n h = λ k. absurd k
 record-claim (binary c m) (l ∷ r ∷ []) n h = binaryTree c m l r
 record-claim (binary c m) (l ∷ r ∷ x ∷ es) n h = λ k. absurd k
-record-claim (aggregate c m i) es n h = subst (λ (j : ℕ). RecordClaim (aggregate c m j) es) n (aggregateTree (hasParameter c) c refl m es)
+record-claim (aggregate c m i) es n h = subst (λ (j : ℕ). RecordClaim (aggregate c m j) es) n (aggregateTree c m es)
 record-claim (call f i) es n h = subst (λ (j : ℕ). RecordClaim (call f j) es) n (callTree f es)

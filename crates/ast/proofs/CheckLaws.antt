@@ -1,14 +1,15 @@
 -- The record that the check refuses: a refusal above 4 is that of the record named, on a stack of checked trees
 -- (`check-refuses`), and every refusal is one of the table (`check-in`). Assumes nothing.
 use Prim.Native.Nat.{ℕ, _≤_, _<_}
-use mathlib.Core.Path.{_≡_, refl, ap, subst}
+use mathlib.Core.Path.{_≡_, refl, ap, ap₂, subst}
 use mathlib.Core.List.{List, [], _∷_}
 use native.Mathlib.Omega.{arith}
 use lib.ListN.{length, drop, length-drop}
 use lib.Dec.{T}
 use Rattle.page.specs.Read.{badField, pastLimit, badText}
 use Rattle.records.specs.Allowed.{IsAllowed}
-use Rattle.records.specs.Outcome.{refusal}
+use Rattle.records.specs.Kind.{Kind}
+use Rattle.records.specs.Outcome.{answer, refusal}
 use Rattle.records.proofs.PageLaws.{readPage-allowed}
 use Rattle.records.specs.Record.{Record, Ending, end, unreadable, readPage}
 use Rattle.ast.specs.Refusal.{Result, ok}
@@ -19,6 +20,22 @@ use Rattle.ast.specs.Table.{isOfCheck, recordCount, InTable}
 use Rattle.ast.proofs.SoundLaws.{AllSound, SoundStack, apply-sound}
 use Rattle.ast.proofs.RefusalLaws.{RefusedIn, isOfRecord, apply-refuses, isOfRecord-check}
 use Rattle.ast.proofs.WalkLaws.{Refuses, StoppedAt, walk-stops}
+
+-- ## What an outcome says
+
+pub answered : (c : Checked Expr) (kind : Kind) (written : ℕ) → outcomeOf c ≡ answer kind written
+    → (t : Expr) × (n : ℕ) × (c ≡ accepted t n)
+answered (accepted t n) kind written e = (t, n, refl)
+answered (refusedAt n i) kind written e = absurd (let z : _≡_ {A = ℕ} 0 1 = cc in omega arith)
+
+pub refusedWith : (c : Checked Expr) (n i : ℕ) → outcomeOf c ≡ refusal n i → c ≡ refusedAt n i
+refusedWith (accepted t m) n i e = absurd (let z : _≡_ {A = ℕ} 0 1 = cc in omega arith)
+refusedWith (refusedAt m j) n i e =
+    let number : m ≡ n = cc in
+    let index : j ≡ i = cc in
+    ap₂ {C = Checked Expr} refusedAt number index
+
+-- ## The refused record
 
 -- the record that the check refuses, on a stack of checked trees
 abbrev pub RefusesRecord : List ℕ → ℕ → ℕ → Type 0
@@ -38,7 +55,7 @@ refuses-number page k n x =
     subst (λ (y : Result (List Expr)). RefusedIn (isOfRecord (x .refusedRecord)) y) (x .isRefusal)
     (apply-refuses (x .refusedRecord) (x .stackBefore) (x .holds))
 
--- ## A refusal above 4 is that of a record
+-- ### A refusal above 4 is that of a record
 
 -- 1 to 4 stand after the last record
 end-number : (e : Ending) (n i k : ℕ) (s : List Expr) → outcomeOf (atEnd e k s) ≡ refusal n i → n ≤ 4
@@ -81,7 +98,7 @@ module _ {A : Type 0} where
   end-in end n (a ∷ b ∷ s) = (tt, omega arith)
 
 -- an index with a record is below their number
-index-below : (k : ℕ) (rs : List Record) {r : Record} {later : List Record} → drop k rs ≡ r ∷ later → k ≤ length rs
+pub index-below : (k : ℕ) (rs : List Record) {r : Record} {later : List Record} → drop k rs ≡ r ∷ later → k ≤ length rs
 index-below k rs e = let sizes = ap length e in omega (arith, sizes, length-drop k rs)
 
 pub checkPage-in : (page : List ℕ) → CheckedIn (recordCount page) (checkPage page)

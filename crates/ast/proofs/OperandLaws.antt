@@ -7,6 +7,7 @@ use mathlib.Core.Path.{_≡_, refl, sym, ap, ap₂, _∙_}
 use mathlib.Core.Bool.{Bool, true, false}
 use mathlib.Core.List.{List, [], _∷_, map}
 use mathlib.Core.Option.{Option, none, some}
+use native.Mathlib.Omega.{arith}
 use lib.ListN.{length, drop, length-map}
 use lib.Dec.{leb}
 use Rattle.page.specs.Bytes.{pick}
@@ -20,7 +21,7 @@ use Rattle.records.specs.Time.{Times, AtModifier, Offset}
 use Rattle.records.specs.Signature.{Function}
 use Rattle.records.specs.Stack.{operandsOf}
 use Rattle.records.specs.Record.{Leaf, number, string, selector, Wrapper, range, subquery, at, offset, unary, paren}
-use Rattle.records.specs.Record.{Record, leaf, wrapper, binary, aggregate, call}
+use Rattle.records.specs.Record.{Record, leaf, wrapper, binary, aggregate, call, operands}
 use Rattle.ast.specs.Refusal.{firstFault, Result, refused, ok, unless, andThen}
 use Rattle.ast.specs.Expr.{Expr, Aggregate, AggregateParam, Unary, Binary, Paren, Subquery, NumberLiteral}
 use Rattle.ast.specs.Expr.{StringLiteral, VectorSelector, MatrixSelector, Call, argsOf, valueType, scalarValue}
@@ -32,7 +33,8 @@ use Rattle.ast.specs.CheckPage.{leafExpr, wrap, push, apply}
 use Rattle.ast.specs.Operand.{Operand, selectorOperand, rangeOperand, subqueryOperand, otherOperand, operandKind, isSet, operandOf}
 use Rattle.ast.specs.Judge.{put, judgeUnary, rangeAfterMarks, judgeRange, setMark, judgeAt, judgeOffset}
 use Rattle.ast.specs.Judge.{judgeWrapper, judgeBinary, judgeArguments, judgeAggregate}
-use Rattle.ast.specs.Judge.{isExemptOperand, isExemptCall, judgeCall, judgeLeaf, judgement, judged}
+use Rattle.ast.specs.Judge.{isExemptOperand, isExemptCall, judgeCall, judgeLeaf, judgement, judged, judgedBy}
+use Rattle.ast.specs.Rules.{Rules, guarded, applyBy}
 use Rattle.ast.proofs.LiteralLaws.{by-literal, literal-negated, literal-exempt}
 use Rattle.ast.proofs.StackLaws.{map-drop, map-operandsOf}
 use Rattle.ast.proofs.SoundLaws.{Sound, AllSound, sound-operandsOf}
@@ -261,3 +263,24 @@ judged-operand (call f n) stack h =
     rw (length-map stack operandOf, ← map-operandsOf operandOf n stack)
     (on-arguments (leb n (length stack)) (judgeCall f (map operandOf (operandsOf n stack))) (ok (Call f (argsOf (operandsOf n stack)))) n stack
     (judgeCall-operand f (operandsOf n stack) (sound-operandsOf n stack h)))
+
+-- ## Under rules
+
+-- what operands and trees come to stays alike under the same faults
+under-faults : (before after : Option ℕ) (below : List Operand) (verdict : Result Operand) (trees : Result (List Expr))
+    → andThen verdict (λ x. ok (x ∷ below)) ≡ mapResult (map operandOf) trees
+    → andThen (guarded before (andThen verdict (λ x. unless after x))) (λ x. ok (x ∷ below))
+    ≡ mapResult (map operandOf) (guarded before (andThen trees (λ s. unless after s)))
+under-faults (some n) after below verdict trees e = refl
+under-faults none after below (refused m) (refused n) e = e
+under-faults none after below (refused m) (ok s) e = absurd (let z : _≡_ {A = ℕ} 0 1 = cc in omega arith)
+under-faults none after below (ok x) (refused n) e = absurd (let z : _≡_ {A = ℕ} 0 1 = cc in omega arith)
+under-faults none none below (ok x) (ok s) e = e
+under-faults none (some n) below (ok x) (ok s) e = refl
+
+pub judgedBy-operand : (rules : Rules) (r : Record) (stack : List Expr) → AllSound stack
+    → judgedBy rules r (map operandOf stack) ≡ mapResult (map operandOf) (applyBy rules r stack)
+judgedBy-operand rules r stack h =
+    rw (kinds-operands stack)
+    (under-faults (rules .before r) (rules .after r (map valueType stack)) (drop (operands r) (map operandOf stack))
+    (judgement r (map operandOf stack)) (apply r stack) (judged-operand r stack h))

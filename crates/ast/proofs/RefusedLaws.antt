@@ -1,13 +1,13 @@
 -- What refuses a page under rules (`checkPageBy-refuses`): a rule that is asked of the record named, or document 01's
 -- own check; and neither refuses a record before it. By where the walk stopped. Assumes nothing.
 use Prim.Native.Nat.{ℕ, suc, _+_, _≤_}
-use mathlib.Core.Path.{_≡_, refl, sym, ap, ap₂, subst, _∙_}
+use mathlib.Core.Path.{_≡_, refl, sym, ap, ap₂, _∙_}
 use mathlib.Core.List.{List, [], _∷_, map}
 use mathlib.Core.Option.{Option, none, some}
 use native.Mathlib.Nat.{add-zero}
 use native.Mathlib.Omega.{arith}
 use lib.ListN.{length, take, drop, length-drop}
-use lib.Seq.{length-take-le}
+use lib.Seq.{length-take-le, take-all}
 use Rattle.records.specs.Kind.{Kind}
 use Rattle.records.specs.Record.{Record, Records, readPage}
 use Rattle.ast.specs.Refusal.{Result, refused, ok, unless, andThen}
@@ -18,21 +18,21 @@ use Rattle.ast.specs.CheckPage.{apply, checkPage}
 use Rattle.ast.specs.Rules.{Rules, guarded, ruled, applyBy, checkPageBy}
 use Rattle.ast.proofs.WalkLaws.{walk-then, walk-reached, walk-refused, walk-within}
 use Rattle.ast.proofs.EachLaws.{each-take, each-one}
-use Rattle.ast.proofs.RulesLaws.{ruled-passes, walk-refines, end-index, Unasked, walk-unasked}
+use Rattle.ast.proofs.RulesLaws.{walk-refines, end-index, Unasked, walk-unasked}
+use Rattle.ast.proofs.AfterLaws.{LetByAt, Unfaulted, walk-unfaulted}
 
 -- ## A page that is refused under rules
 
 module _ (rules : Rules) where
-  -- where a walk under rules stopped: the records before it pass, and document 01 comes so far
+  -- where a walk under rules stopped: the records before it pass
   pub record StoppedBy (rs : List Record) (i : ℕ) (s : List Expr) (n j : ℕ) : Type 0 where
     pub place : ℕ
     pub index : j ≡ i + place
     pub item : Record
     pub later : List Record
     pub stands : drop place rs ≡ item ∷ later
-    pub passed : Unasked rules (take place rs)
     pub stackBefore : List Expr
-    pub reached : walk apply i s (take place rs) ≡ stack stackBefore
+    pub reached : walk (applyBy rules) i s (take place rs) ≡ stack stackBefore
     pub refuses : applyBy rules item stackBefore ≡ refused n
 
   walk-stopped : (rs : List Record) (i : ℕ) (s : List Expr) (n j : ℕ) → walk (applyBy rules) i s rs ≡ stopped n j → StoppedBy rs i s n j
@@ -43,19 +43,16 @@ module _ (rules : Rules) where
       index k e = omega arith
 
       behind : (t : List Expr) → applyBy rules r s ≡ ok t → StoppedBy rs (suc i) t n j → StoppedBy (r ∷ rs) i s n j
-      behind t e x =
-          let passes = ruled-passes rules r (map valueType s) (apply r s) t e in
-          record {
-            place = suc (x .place);
-            index = index (x .place) (x .index);
-            item = x .item;
-            later = x .later;
-            stands = x .stands;
-            passed = (passes .before, x .passed);
-            stackBefore = x .stackBefore;
-            reached = walk-then apply r (take (x .place) rs) i s (x .stackBefore) t (passes .passes) (x .reached);
-            refuses = x .refuses;
-          }
+      behind t e x = record {
+        place = suc (x .place);
+        index = index (x .place) (x .index);
+        item = x .item;
+        later = x .later;
+        stands = x .stands;
+        stackBefore = x .stackBefore;
+        reached = walk-then (applyBy rules) r (take (x .place) rs) i s (x .stackBefore) t e (x .reached);
+        refuses = x .refuses;
+      }
 
       by : ((t : List Expr) → walk (applyBy rules) (suc i) t rs ≡ stopped n j → StoppedBy rs (suc i) t n j)
           → (x : Result (List Expr)) → applyBy rules r s ≡ x
@@ -69,7 +66,6 @@ module _ (rules : Rules) where
             item = r;
             later = rs;
             stands = refl;
-            passed = tt;
             stackBefore = s;
             reached = refl;
             refuses = is ∙ ap {B = Result (List Expr)} refused number;
@@ -85,14 +81,13 @@ module _ (rules : Rules) where
     -- document 01's check, where no rule refuses that record before its operands
     document : checkPage page ≡ refusedAt n i → Unasked rules (take (suc i) (readPage page .records)) → Cause page n i
     -- a rule, asked of the record that document 01 accepts
-    after : (r : Record) (later : List Record) (s t : List Expr) → drop i (readPage page .records) ≡ r ∷ later
-        → stackAfter apply i (readPage page) ≡ stack s → apply r s ≡ ok t → rules .after r (map valueType s) ≡ some n
-        → Cause page n i
+    after : (r : Record) (s t : List Expr) → LetByAt page i r s t → rules .after r (map valueType s) ≡ some n → Cause page n i
 
   pub record RefusedUnder (page : List ℕ) (n i : ℕ) : Type 0 where
     pub cause : Cause page n i
-    -- no rule refuses a record before it
+    -- no rule refuses a record before it, neither before its operands nor after
     pub passed : Unasked rules (take i (readPage page .records))
+    pub unfaulted : Unfaulted rules i 0 [] (readPage page .records)
     -- and neither does document 01
     pub first : (m j : ℕ) → checkPage page ≡ refusedAt m j → i ≤ j
 
@@ -135,6 +130,8 @@ module _ (rules : Rules) where
         → atEnd (readPage page .ending) (length (readPage page .records)) s ≡ refusedAt n i → RefusedUnder rules page n i
     unfolding checkPage
     end-refuses s is e =
+        let last = end-index (readPage page .ending) (length (readPage page .records)) s n i e in
+        let whole = take-all i (readPage page .records) (omega (arith, last)) in
         let own : checkPage page ≡ refusedAt n i =
         ap (finished (readPage page .ending) (length (readPage page .records))) (walk-refines rules (readPage page .records) 0 [] s is) ∙ e in
         record {
@@ -142,6 +139,7 @@ module _ (rules : Rules) where
               (each-take (λ r. rules .before r ≡ none) (suc i) (readPage page .records)
               (walk-unasked rules (readPage page .records) 0 [] s is));
           passed = each-take (λ r. rules .before r ≡ none) i (readPage page .records) (walk-unasked rules (readPage page .records) 0 [] s is);
+          unfaulted = walk-unfaulted rules (readPage page .records) i 0 [] s (ap (walk (applyBy rules) 0 []) whole ∙ is);
           first = λ m j q. let at : i ≡ j = cc in omega arith;
         }
 
@@ -155,8 +153,11 @@ module _ (rules : Rules) where
       stands-at : drop i records ≡ x .item ∷ x .later
       stands-at = ap (λ (k : ℕ). drop k records) (sym at-place) ∙ x .stands
 
+      walked-at : walk (applyBy rules) 0 [] (take i records) ≡ stack (x .stackBefore)
+      walked-at = ap (λ (k : ℕ). walk (applyBy rules) 0 [] (take k records)) (sym at-place) ∙ x .reached
+
       reached-at : stackAfter apply i (readPage page) ≡ stack (x .stackBefore)
-      reached-at = ap (λ (k : ℕ). walk apply 0 [] (take k records)) (sym at-place) ∙ x .reached
+      reached-at = walk-refines rules (take i records) 0 [] (x .stackBefore) walked-at
 
       inside : i ≤ length records
       inside = let sizes = ap length stands-at in omega (arith, sizes, length-drop i records)
@@ -168,10 +169,13 @@ module _ (rules : Rules) where
           ap (finished (readPage page .ending) (length records)) (walk-refused apply records i (x .stackBefore) n stands-at reached-at e)
 
       passed-at : Unasked rules (take i records)
-      passed-at = subst (λ (k : ℕ). Unasked rules (take k records)) at-place (x .passed)
+      passed-at = walk-unasked rules (take i records) 0 [] (x .stackBefore) walked-at
 
       passed-on : rules .before (x .item) ≡ none → Unasked rules (take (suc i) records)
       passed-on p = each-one (λ r. rules .before r ≡ none) records i stands-at passed-at p
+
+      let-by : (t : List Expr) → apply (x .item) (x .stackBefore) ≡ ok t → LetByAt page i (x .item) (x .stackBefore) t
+      let-by t e = record { later = x .later; stands = stands-at; reached = reached-at; passes = e }
 
       record-refuses : RefusedUnder rules page n i
       unfolding checkPage
@@ -179,8 +183,9 @@ module _ (rules : Rules) where
         cause = refused-by rules (x .item) (map valueType (x .stackBefore)) n (apply (x .item) (x .stackBefore)) (Cause rules page n i) (x .refuses)
             (λ e. before (x .item) (x .later) stands-at e)
             (λ p e. document (own e) (passed-on p))
-            (λ t e f. after (x .item) (x .later) (x .stackBefore) t stands-at reached-at e f);
+            (λ t e f. after (x .item) (x .stackBefore) t (let-by t e) f);
         passed = passed-at;
+        unfaulted = walk-unfaulted rules records i 0 [] (x .stackBefore) walked-at;
         first = λ m j q. reached-first (readPage page) i (x .stackBefore) m j inside reached-at q;
       }
 

@@ -31,6 +31,11 @@ module _ {A : Type 0} where
   ruled-plain r ks (refused n) = refl
   ruled-plain r ks (ok a) = refl
 
+  -- no rule refuses it
+  pub ruled-unasked : (rules : Rules) (r : Record) (ks : List Kind) (x : Result A) → rules .before r ≡ none → rules .after r ks ≡ none
+      → ruled rules r ks x ≡ x
+  ruled-unasked rules r ks x e f = rw (e, f) (ruled-plain r ks x)
+
   -- no rule refuses it, and document 01 does not
   pub record Passes (rules : Rules) (r : Record) (ks : List Kind) (x : Result A) (a : A) : Type 0 where
     pub before : rules .before r ≡ none
@@ -62,7 +67,7 @@ module _ (rules : Rules) where
       walk-then apply r rs i s t (first .0) (passed .passes) (walk-refines rs (suc i) (first .0) t (first .2))
 
 -- an accepted page was walked to the end, and one tree was left
-finished-accepts : (e : Ending) (i n : ℕ) (w : Walked Expr) (t : Expr) → finished e i w ≡ accepted t n → w ≡ stack (t ∷ [])
+pub finished-accepts : (e : Ending) (i n : ℕ) (w : Walked Expr) (t : Expr) → finished e i w ≡ accepted t n → w ≡ stack (t ∷ [])
 finished-accepts e i n (stopped m j) t q = absurd (let z : _≡_ {A = ℕ} 0 1 = cc in omega arith)
 finished-accepts (unreadable f) i n (stack s) t q = absurd (let z : _≡_ {A = ℕ} 0 1 = cc in omega arith)
 finished-accepts end i n (stack []) t q = absurd (let z : _≡_ {A = ℕ} 0 1 = cc in omega arith)
@@ -106,13 +111,11 @@ checkPageBy-passes rules page t n e =
 -- ## Rules that ask nothing after the operands
 
 module _ (rules : Rules) (none-after : (r : Record) (ks : List Kind) → rules .after r ks ≡ none) where
-  ruled-unasked : {A : Type 0} (r : Record) (ks : List Kind) (x : Result A) → rules .before r ≡ none → ruled rules r ks x ≡ x
-  ruled-unasked r ks x e = rw (e, none-after r ks) (ruled-plain r ks x)
-
   walk-as-document : (rs : List Record) (i : ℕ) (s : List Expr) → Unasked rules rs → walk (applyBy rules) i s rs ≡ walk apply i s rs
   walk-as-document [] i s h = refl
   walk-as-document (r ∷ rs) i s h =
-      ap (λ (x : Result (List Expr)). proceed i x (λ t. walk (applyBy rules) (suc i) t rs)) (ruled-unasked r (map valueType s) (apply r s) (h .0))
+      ap (λ (x : Result (List Expr)). proceed i x (λ t. walk (applyBy rules) (suc i) t rs))
+      (ruled-unasked rules r (map valueType s) (apply r s) (h .0) (none-after r (map valueType s)))
       ∙ by (λ t. walk-as-document rs (suc i) t (h .1)) (apply r s)
     where
       by : ((t : List Expr) → walk (applyBy rules) (suc i) t rs ≡ walk apply (suc i) t rs) → (x : Result (List Expr))

@@ -25,6 +25,7 @@ use Rattle.ast.specs.Expr.{binaryKind}
 use Rattle.ast.specs.CheckAst.{binaryRows, aggregateRows, arityRows, argsRows, unaryRows, subqueryRows, selectorRows}
 use Rattle.ast.specs.Operand.{Operand, numberOperand, fractionOperand, stringOperand, selectorOperand, rangeOperand}
 use Rattle.ast.specs.Operand.{subqueryOperand, otherOperand, operandKind, literalOperand}
+use Rattle.ast.specs.Rules.{Rules, ruled}
 
 -- the operand, unless a row applies
 abbrev pub put : List Row → Operand → Result Operand
@@ -160,3 +161,11 @@ judgement (call f n) stack = pick (leb n (length stack)) (judgeCall f (operandsO
 -- the stack after a record
 abbrev pub judged : Record → List Operand → Result (List Operand)
 judged r stack = andThen (judgement r stack) (λ x. ok (x ∷ drop (operands r) stack))
+
+-- ## A record under rules
+
+abbrev pub judgementBy : Rules → Record → List Operand → Result Operand
+judgementBy rules r stack = ruled rules r (map operandKind stack) (judgement r stack)
+
+abbrev pub judgedBy : Rules → Record → List Operand → Result (List Operand)
+judgedBy rules r stack = andThen (judgementBy rules r stack) (λ x. ok (x ∷ drop (operands r) stack))

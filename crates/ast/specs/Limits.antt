@@ -33,6 +33,10 @@ limitFault (call f n) ks = none
 abbrev pub withLimits : Rules
 withLimits = record { before = λ r. none; after = limitFault }
 
+-- those rules where they are asked for, and else document 01 alone
+abbrev pub limitRules : Bool → Rules
+limitRules asks = record { before = λ r. none; after = λ r ks. pick asks (limitFault r ks) none }
+
 -- the added check
 abbrev pub checkOperators : List ℕ → Outcome
 checkOperators = checkBy withLimits

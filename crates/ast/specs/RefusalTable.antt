@@ -2,7 +2,7 @@
 -- definition of the row stands. The check gives each example that number at that record, by one computed test. (5 needs
 -- a buffer: outcomes/specs/Examples.)
 use Prim.Native.Nat.{ℕ}
-use mathlib.Core.Bool.{Bool, false, _&&_, _||_}
+use mathlib.Core.Bool.{Bool, _&&_, _||_}
 use mathlib.Core.List.{List, [], _∷_, _++_}
 use lib.ListN.{replicate}
 use lib.Dec.{T, eqb}
@@ -10,10 +10,11 @@ use Rattle.page.specs.Bytes.{hex, all, any}
 use Rattle.patterns.specs.Pattern.{isSingle}
 use Rattle.patterns.specs.Search.{readChoice, matchesEmptyText}
 use Rattle.records.specs.Record.{readRecord, readPage}
-use Rattle.records.specs.Outcome.{Outcome, answer, refusal}
+use Rattle.records.specs.Outcome.{refusal}
 use Rattle.ast.specs.CheckAst.{checkAst}
 use Rattle.ast.specs.CheckPage.{apply, checkPage, check}
 use Rattle.ast.specs.Table.{tableNumbers}
+use Rattle.ast.specs.Beside.{isSame}
 
 record Example : Type 0 where
   number : ℕ
@@ -110,25 +111,21 @@ refusalTable =
     ∷ row 41 0 (hex "0202757001020161017801")
     ∷ []
 
-abbrev isRefusal : ℕ → ℕ → Outcome → Bool
-isRefusal n i (answer k m) = false
-isRefusal n i (refusal m j) = eqb n m && eqb i j
-
 -- a number of the table has its row; 5 needs a buffer
 abbrev hasRow : ℕ → Bool
 hasRow n = eqb n 5 || any (λ e. eqb n (e .number)) refusalTable
 
 -- every row of the table is here, and each example is refused so
-everyRow : T (all hasRow tableNumbers && all (λ e. isRefusal (e .number) (e .index) (check (e .page))) refusalTable)
+everyRow : T (all hasRow tableNumbers && all (λ e. isSame (refusal (e .number) (e .index)) (check (e .page))) refusalTable)
 unfolding readRecord readPage matchesEmptyText readChoice isSingle checkAst apply checkPage
 everyRow = tt
 
 -- document 02, No. 7: "after 4 and before 33". A wrong flag, with a byte 255 in the next matcher; after a `__name__`
 -- matcher of a selector with a name; without a name, where by that flag all matchers accept empty text
 flagInOrder : T (
-    isRefusal 4 0 (check (hex "02027570020201610178010001ff00"))
-    && isRefusal 41 0 (check (hex "020275700200085f5f6e616d655f5f0161020162017801"))
-    && isRefusal 41 0 (check (hex "020001020161017801"))
+    isSame (refusal 4 0) (check (hex "02027570020201610178010001ff00"))
+    && isSame (refusal 41 0) (check (hex "020275700200085f5f6e616d655f5f0161020162017801"))
+    && isSame (refusal 41 0) (check (hex "020001020161017801"))
     )
 unfolding readRecord readPage matchesEmptyText readChoice isSingle checkAst apply checkPage
 flagInOrder = tt

@@ -51,7 +51,7 @@ accepted-some : (page : List ℕ) {e : Expr} {n : ℕ} → checkPage page ≡ ac
 unfolding checkPage
 accepted-some page h = by-records (readPage page .ending) (readPage page .records) h
 
-module _ {page starts firsts : List ℕ} {kind : Kind} {n : ℕ} (walked : Accepts page starts firsts kind n) where
+module _ {page starts firsts : List ℕ} {kind : Kind} {n : ℕ} (walked : Accepts (checkPage page) page starts firsts kind n) where
   pub accepts-some : 0 < n
   accepts-some = accepted-some page (walked .tree)
 

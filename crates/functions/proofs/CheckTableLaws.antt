@@ -9,7 +9,7 @@ use mathlib.Core.List.{List, [], _∷_, map}
 use mathlib.Core.Option.{Option, none, some}
 use native.Mathlib.Omega.{arith}
 use borrow.Author.Tests.{eqb-true}
-use lib.ListN.{length, take, drop, length-drop}
+use lib.ListN.{take, drop}
 use lib.Dec.{T, eqb}
 use Rattle.page.specs.Allowed.{Each}
 use Rattle.page.specs.Bytes.{all, pick}
@@ -18,12 +18,12 @@ use Rattle.records.specs.Signature.{Function}
 use Rattle.records.specs.Record.{Record, leaf, wrapper, binary, aggregate, call, Records, readPage}
 use Rattle.records.specs.Outcome.{Outcome, answer, refusal}
 use Rattle.ast.specs.Expr.{Expr}
-use Rattle.ast.specs.Walk.{Checked, accepted, refusedAt, stack, stackAfter}
+use Rattle.ast.specs.Walk.{stack, stackAfter}
 use Rattle.ast.specs.CheckPage.{apply, checkPage, outcomeOf, check}
 use Rattle.ast.specs.Table.{isOfCheck, recordCount, InTable}
 use Rattle.ast.specs.Rules.{checkPageBy, checkBy}
 use Rattle.ast.proofs.BareLaws.{isBare, check-bare}
-use Rattle.ast.proofs.CheckLaws.{check-in}
+use Rattle.ast.proofs.CheckLaws.{answered, refusedWith, index-below, check-in}
 use Rattle.ast.proofs.EachLaws.{each-last}
 use Rattle.ast.proofs.RulesLaws.{checkPageBy-accepts, checkPageBy-passes, checkPageBy-unasked, checkPageBy-asked}
 use Rattle.ast.proofs.RefusedLaws.{Cause, before, document, after, checkPageBy-refuses}
@@ -40,18 +40,6 @@ use Rattle.functions.proofs.SignedLaws.{signed-record, like-passes}
 -- these records have no fault beside the table
 abbrev pub Faultless : List Function → List Record → Type 0
 Faultless table = Each (λ r. signatureFault table r ≡ none)
-
-answered : (c : Checked Expr) (kind : Kind) (written : ℕ) → outcomeOf c ≡ answer kind written
-    → (t : Expr) × (n : ℕ) × (c ≡ accepted t n)
-answered (accepted t n) kind written e = (t, n, refl)
-answered (refusedAt n i) kind written e = absurd (let z : _≡_ {A = ℕ} 0 1 = cc in omega arith)
-
-refusedWith : (c : Checked Expr) (n i : ℕ) → outcomeOf c ≡ refusal n i → c ≡ refusedAt n i
-refusedWith (accepted t m) n i e = absurd (let z : _≡_ {A = ℕ} 0 1 = cc in omega arith)
-refusedWith (refusedAt m j) n i e =
-    let number : m ≡ n = cc in
-    let index : j ≡ i = cc in
-    ap₂ {C = Checked Expr} refusedAt number index
 
 signed-records : (table : List Function) (rs : List Record) → Faultless table rs → map (signedBy table) rs ≡ rs
 signed-records table [] h = refl
@@ -112,7 +100,7 @@ module _ (table : List Function) (page : List ℕ) where
       by : Cause (withTable table) page n i → Refuser n i
       by (before r later s q) = record-refused n i r later s q
       by (document q passed) = own-refusal (ap outcomeOf q) passed
-      by (after r later s t stands reached q never) = absurd (let z : _≡_ {A = ℕ} 0 1 = cc in omega arith)
+      by (after r s t passed never) = absurd (let z : _≡_ {A = ℕ} 0 1 = cc in omega arith)
 
   -- the first record with a fault is refused for it, where document 01's check comes so far
   pub table-fault : (i n : ℕ) (r : Record) (later : List Record) (s : List Expr) → drop i (readPage page .records) ≡ r ∷ later
@@ -168,14 +156,11 @@ module _ (page : List ℕ) where
   pub table-in : InTable isOfTable page (checkTable page)
   table-in = by (checkTable page) refl
     where
-      there : (i : ℕ) {r : Record} {later : List Record} → drop i (readPage page .records) ≡ r ∷ later → i ≤ recordCount page
-      there i e = let sizes = ap length e in omega (arith, sizes, length-drop i (readPage page .records))
-
       added : (n : ℕ) → T (eqb n 37 || eqb n 38) → T (isOfTable n)
       added n h = or-right (isOfCheck n && not (eqb n 29)) (eqb n 37) (eqb n 38) h
 
       by-refuser : (n i : ℕ) → checkTable page ≡ refusal n i → Refuser functions page n i → T (isOfTable n) × (i ≤ recordCount page)
-      by-refuser n i e (call-refused f count later s q) = (added n (unlike-number f (lookup functions (f .name)) n q), there i s)
+      by-refuser n i e (call-refused f count later s q) = (added n (unlike-number f (lookup functions (f .name)) n q), index-below i (readPage page .records) s)
       by-refuser n i e (own-refusal q passed) =
           let own = subst (InTable isOfCheck page) q (check-in page) in
           (own-number n (own .0) (λ same. table-no-29 i (e ∙ ap (λ (m : ℕ). refusal m i) same)), own .1)

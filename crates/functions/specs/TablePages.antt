@@ -1,29 +1,20 @@
 -- Pages with calls, computed together: what document 01's check says, and what the check with the function table says
 -- (document 02, No. 2); then wrong answers, none of which holds.
 use Prim.Native.Nat.{ℕ}
-use Prim.Native.String.{String}
-use mathlib.Core.Bool.{Bool, false, _&&_, not}
+use mathlib.Core.Bool.{Bool, _&&_}
 use mathlib.Core.List.{List, [], _∷_, _++_}
-use lib.Dec.{T, eqb}
+use lib.Dec.{T}
 use lib.ListN.{replicate}
 use Rattle.page.specs.Bytes.{hex, all}
-use Rattle.records.specs.Kind.{vector, scalar, equalKind}
+use Rattle.records.specs.Kind.{vector, scalar}
 use Rattle.records.specs.Record.{readRecord, readPage}
-use Rattle.records.specs.Outcome.{Outcome, answer, refusal}
+use Rattle.records.specs.Outcome.{answer, refusal}
 use Rattle.ast.specs.CheckAst.{checkAst}
-use Rattle.ast.specs.CheckPage.{apply, checkPage, check}
+use Rattle.ast.specs.CheckPage.{apply, checkPage}
 use Rattle.ast.specs.Rules.{checkPageBy}
+use Rattle.ast.specs.Beside.{isSame, Example, row, holds, isAdded, isOther}
 use Rattle.functions.specs.Functions.{functions}
 use Rattle.functions.specs.Lookup.{lookup, checkTable}
-
-record Example : Type 0 where
-  page : List ℕ
-  own : Outcome
-  tabled : Outcome
-
--- a page, the outcome of document 01's check, that of the check with the table
-abbrev row : String → Outcome → Outcome → Example
-row p a b = record { page = hex p; own = a; tabled = b }
 
 abbrev examples : List Example
 examples =
@@ -84,16 +75,7 @@ examples =
     ∷ row "02027570000b0361627a01000000010a1b0001010161090100" (refusal 22 4) (refusal 37 1)
     ∷ []
 
-abbrev isSame : Outcome → Outcome → Bool
-isSame (answer j m) (answer k n) = equalKind j k && eqb m n
-isSame (answer j m) (refusal n i) = false
-isSame (refusal m j) (answer k n) = false
-isSame (refusal m j) (refusal n i) = eqb m n && eqb j i
-
-abbrev holds : Example → Bool
-holds e = isSame (e .own) (check (e .page)) && isSame (e .tabled) (checkTable (e .page))
-
-pages : T (all holds examples)
+pages : T (all (holds checkTable) examples)
 unfolding readRecord readPage checkAst apply checkPage checkPageBy functions lookup
 pages = tt
 
@@ -105,7 +87,7 @@ unread = tt
 -- a refusal's number, the record of its example, the example. Those of document 01's check have theirs in
 -- ast/specs/RefusalTable; these two are refused by the check with the table alone
 abbrev isRefused : ℕ → ℕ → List ℕ → Bool
-isRefused n i page = isSame (refusal n i) (checkTable page) && isSame (answer vector 0) (check page)
+isRefused = isAdded checkTable
 
 everyAdded : T (
     -- 37: a name that the table does not have: `Abs(up)` (`unlike`)
@@ -120,13 +102,13 @@ everyAdded = tt
 -- the table asked of the last call alone; 29 for an unlimited call without kinds; a call accepted by a beginning of its
 -- name
 wrong : T (
-    not (isSame (refusal 2 0) (checkTable (hex "0b0361627a0100000001")))
-    && not (isSame (refusal 37 0) (checkTable (hex "02027570000b034162730100000001")))
-    && not (isSame (refusal 38 1) (checkTable (hex "02027570000b034162730100000001")))
-    && not (isSame (refusal 37 1) (checkTable (hex "02027570000b036162730100010001")))
-    && not (isSame (answer vector 0) (checkTable (hex "02027570000b034162730100000001 0b036162730100000001")))
-    && not (isSame (refusal 29 1) (checkTable (hex "02027570000b016600010001")))
-    && not (isSame (answer vector 0) (checkTable (hex "02027570000b056162736573010000 0001")))
+    isOther checkTable (refusal 2 0) "0b0361627a0100000001"
+    && isOther checkTable (refusal 37 0) "02027570000b034162730100000001"
+    && isOther checkTable (refusal 38 1) "02027570000b034162730100000001"
+    && isOther checkTable (refusal 37 1) "02027570000b036162730100010001"
+    && isOther checkTable (answer vector 0) "02027570000b034162730100000001 0b036162730100000001"
+    && isOther checkTable (refusal 29 1) "02027570000b016600010001"
+    && isOther checkTable (answer vector 0) "02027570000b056162736573010000 0001"
     )
 unfolding readRecord readPage checkAst apply checkPage checkPageBy functions lookup
 wrong = tt

@@ -22,7 +22,8 @@ ghost use Rattle.reader.specs.Answers.{recordOn};
 ghost use Rattle.records.specs.Float.{IsExact};
 ghost use Rattle.records.specs.Answers.{literalOf};
 ghost use Rattle.ast.specs.Operand.{literalOperand};
-ghost use Rattle.ast.specs.Judge.{judgement};
+ghost use Rattle.ast.specs.Judge.{judgementBy};
+ghost use Rattle.ast.specs.Limits.{limitRules};
 ghost use Rattle.rules.specs.Answers.{operandMeant, verdictMeant};
 ghost use Rattle.rules.specs.Stack.{heldOperands, Sized};
 ghost use Rattle.judge.specs.Judgeable.{Judgeable};
@@ -43,11 +44,18 @@ fn literal_operand(literal: Literal) -> Operand
     }
 }
 
-// The operands are there: they lie from `top` on, the last one first.
-pub fn judge_record(page: &[u8], item: Record, tags: &[u8], values: &[f64], top: usize) -> Verdict
+// The operands are there: they lie from `top` on, the last one first. `limits` says whether 42 is asked for.
+pub fn judge_record(
+    page: &[u8],
+    item: Record,
+    tags: &[u8],
+    values: &[f64],
+    top: usize,
+    limits: bool,
+) -> Verdict
     requires sized { ⌜ Sized (now tags) (now values) ⌝ }
     requires ready { ⌜ Judgeable (now page) item top ⌝ }
-    ensures { λ r. ⌜ verdictMeant r ≡ judgement (recordOn (now (page .entry)) item) (drop top (heldOperands (now (tags .entry)) (now (values .entry)))) ⌝ }
+    ensures { λ r. ⌜ verdictMeant r ≡ judgementBy (limitRules limits) (recordOn (now (page .entry)) item) (drop top (heldOperands (now (tags .entry)) (now (values .entry)))) ⌝ }
 {
     match item {
         Record::Number(literal) => Verdict::Put(literal_operand(literal)),
@@ -64,7 +72,9 @@ pub fn judge_record(page: &[u8], item: Record, tags: &[u8], values: &[f64], top:
             let left = kind_of(operand_at(tags, values, top + 1));
             judge_binary(page, code, modifier, left, right)
         }
-        Record::Aggregate { code, count, .. } => judge_aggregate(code, tags, values, top, count),
+        Record::Aggregate { code, count, .. } => {
+            judge_aggregate(code, tags, values, top, count, limits)
+        }
         Record::Call { function, count } => judge_call(page, function, tags, values, top, count),
     }
 }

@@ -99,6 +99,8 @@ refusalNumber refusal.UnknownFunction = 37
 refusalNumber refusal.UnlikeSignature = 38
 -- the flag of a covered pattern is wrong (document 02, No. 7)
 refusalNumber refusal.WrongFlag = 41
+-- the parameter of limitk or limit_ratio is no scalar (document 02, No. 8)
+refusalNumber refusal.LimitParameter = 42
 
 abbrev pub verdictMeant : Verdict → ast.Result spec.Operand
 verdictMeant (Put x) = ast.ok (operandMeant x)

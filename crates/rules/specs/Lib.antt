@@ -1,3 +1,4 @@
 pub mod Answers
 pub mod Stack
 pub mod ModifierFacts
+pub mod Limit

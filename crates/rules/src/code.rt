@@ -42,7 +42,7 @@ pub fn asks_scalar(code: u64) -> bool
 }
 
 // `limitk`, `limit_ratio`
-fn is_limit(code: u64) -> bool
+pub fn is_limit(code: u64) -> bool
     ensures { λ r. ⌜ r ≡ isLimit code ⌝ }
 {
     (code == 29) | (code == 30)

@@ -41,6 +41,7 @@ pub enum Refusal {
     UnknownFunction,
     UnlikeSignature,
     WrongFlag,
+    LimitParameter,
 }
 
 pub fn refusal_number(refusal: Refusal) -> u64
@@ -84,6 +85,7 @@ pub fn refusal_number(refusal: Refusal) -> u64
         Refusal::UnknownFunction => 37,
         Refusal::UnlikeSignature => 38,
         Refusal::WrongFlag => 41,
+        Refusal::LimitParameter => 42,
     }
 }
 

@@ -1,7 +1,6 @@
 -- The words of outcomes fit 64 bits. Assumes nothing.
 use Prim.Native.Nat.{ℕ, _≤_}
 use native.Mathlib.Omega.{arith}
-use mathlib.Core.Path.{_≡_}
 use mathlib.Core.Bool.{Bool, true, false, _&&_, _||_, not}
 use mathlib.Core.List.{List}
 use lib.Dec.{T, eqb, eqb→eq}
@@ -12,7 +11,9 @@ use Rattle.records.specs.Kind.{Kind, vector, scalar, matrix, string, kindNumber
 use Rattle.records.specs.Outcome.{Outcome, answer, refusal}
 use Rattle.ast.specs.CheckPage.{check}
 use Rattle.ast.specs.Table.{isInTable, isOfCheck, InTable}
+use Rattle.ast.specs.Limits.{checkOperators, isOfOperators}
 use Rattle.ast.proofs.CheckLaws.{check-in}
+use Rattle.ast.proofs.LimitLaws.{limit-in}
 use Rattle.functions.specs.Functions.{functions}
 use Rattle.functions.specs.Lookup.{checkTable, isOfTable}
 use Rattle.functions.proofs.CheckTableLaws.{table-in}
@@ -29,47 +30,44 @@ kindNumber-small scalar = omega arith
 kindNumber-small matrix = omega arith
 kindNumber-small string = omega arith
 
--- a refusal in the table fits its word
-inTable-fits : (page : List ℕ) (o : Outcome) → InTable isInTable page o → FitsWord o
-inTable-fits page (answer k n) h = tt
-inTable-fits page (refusal n i) h = (isInTable-small n (h .0), within (inTable-record isInTable page n i h))
+-- a refusal fits its word, where its number passes a test that only bytes pass
+fits : (test : ℕ → Bool) → ((n : ℕ) → T (test n) → n ≤ 255) → (page : List ℕ) (o : Outcome) → InTable test page o → FitsWord o
+fits test small page (answer k n) h = tt
+fits test small page (refusal n i) h = (small n (h .0), within (inTable-record test page n i h))
   where
     within : i ≤ recordLimit → i ≤ 65535
     within l = omega arith
 
 -- so does what a call that writes answers
 pub demand1-fits : (page : List ℕ) (call : List ℕ → List ℕ → Called) → Demand1 page call → (buffer : List ℕ) → FitsWord (call page buffer .outcome)
-demand1-fits page call d buffer = inTable-fits page (call page buffer .outcome) (d .inTable buffer)
+demand1-fits page call d buffer = fits isInTable isInTable-small page (call page buffer .outcome) (d .inTable buffer)
 
 -- and what the check answers
+ofCheck-small : (n : ℕ) → T (isOfCheck n) → n ≤ 255
+ofCheck-small n h = isInTable-small n (left-of (isInTable n) (not (eqb n 5)) h)
+
 pub check-fits : (page : List ℕ) → FitsWord (check page)
-check-fits page = inTable-fits page (check page) (all-but-five (check page) (check-in page))
-  where
-    all-but-five : (o : Outcome) → InTable isOfCheck page o → InTable isInTable page o
-    all-but-five (answer k n) h = tt
-    all-but-five (refusal n i) h = (left-of (isInTable n) (not (eqb n 5)) (h .0), h .1)
+check-fits page = fits isOfCheck ofCheck-small page (check page) (check-in page)
+
+-- one number more
+or-small : (n m : ℕ) (test : Bool) → (T test → n ≤ 255) → m ≤ 255 → T (test || eqb n m) → n ≤ 255
+or-small n m true small h t = small tt
+or-small n m false small h t = omega (arith, eqb→eq n m t)
 
 -- and what the check with the function table answers
 pub checkTable-fits : (page : List ℕ) → FitsWord (checkTable page)
-checkTable-fits page = by (checkTable page) (table-in page)
+checkTable-fits page = fits isOfTable small page (checkTable page) (table-in page)
   where
-    within : (i : ℕ) → i ≤ recordLimit → i ≤ 65535
-    within i l = omega arith
+    small : (n : ℕ) → T (isOfTable n) → n ≤ 255
+    small n =
+        or-small n 38 ((isOfCheck n && not (eqb n 29)) || eqb n 37)
+        (or-small n 37 (isOfCheck n && not (eqb n 29)) (λ t. ofCheck-small n (left-of (isOfCheck n) (not (eqb n 29)) t)) (omega arith))
+        (omega arith)
 
-    number : (n : ℕ) (a b c : Bool) → (T a → T (isInTable n)) → (T b → n ≡ 37) → (T c → n ≡ 38) → T (a || b || c) → n ≤ 255
-    number n true b c own e q h = isInTable-small n (own tt)
-    number n false true c own e q h = omega (arith, e tt)
-    number n false false true own e q h = omega (arith, q tt)
-    number n false false false own e q h = absurd h
-
-    by : (o : Outcome) → InTable isOfTable page o → FitsWord o
-    by (answer k n) h = tt
-    by (refusal n i) h = (
-      number n (isOfCheck n && not (eqb n 29)) (eqb n 37) (eqb n 38)
-          (λ t. left-of (isInTable n) (not (eqb n 5)) (left-of (isOfCheck n) (not (eqb n 29)) t))
-          (eqb→eq n 37) (eqb→eq n 38) (h .0),
-      within i (inTable-record isOfTable page n i h),
-    )
+-- and what the check that follows the operators document answers
+pub checkOperators-fits : (page : List ℕ) → FitsWord (checkOperators page)
+checkOperators-fits page =
+    fits isOfOperators (λ n. or-small n 42 (isOfCheck n) (ofCheck-small n) (omega arith)) page (checkOperators page) (limit-in page)
 
 -- and what the call that writes a signature answers
 pub signature-fits : (name : Text) (buffer : List ℕ) → FitsWord (signature name buffer .outcome)

@@ -11,8 +11,10 @@ use names::refusal::refusal_name;
 use patterns::matches_empty_text;
 use table_check::check_table;
 use walk::check;
+use walk::check_operators;
 ghost use mathlib.Core.Path.{_≡_};
 ghost use Rattle.ast.specs.CheckPage.{check};
+ghost use Rattle.ast.specs.Limits.{checkOperators};
 ghost use Rattle.ast.specs.Part.{labelPart};
 ghost use Rattle.functions.specs.Lookup.{checkTable};
 ghost use Rattle.names.specs.Names.{kindName, refusalName};
@@ -24,7 +26,7 @@ ghost use Rattle.sandzguli.specs.Words.{outcomeWord, labelWord, patternW
 
 const MAJOR: u64 = 0;
 
-const MINOR: u64 = 4;
+const MINOR: u64 = 5;
 
 const PATCH: u64 = 0;
 
@@ -77,6 +79,14 @@ pub extern "C" fn sandzguli_check_table(page: &[u8]) -> u64
     ensures { λ r. ⌜ r ≡ outcomeWord (checkTable (now (page .entry))) ⌝ }
 {
     outcome_word(check_table(page))
+}
+
+// The check that follows the operators document too.
+#[no_mangle]
+pub extern "C" fn sandzguli_check_operators(page: &[u8]) -> u64
+    ensures { λ r. ⌜ r ≡ outcomeWord (checkOperators (now (page .entry))) ⌝ }
+{
+    outcome_word(check_operators(page))
 }
 
 // The signature of a function as it stands in a call behind the name.

@@ -37,13 +37,13 @@ no-records : (page starts : List ℕ) → Standing page starts 0
 no-records page starts = record { sized = omega arith; entry = λ i below. absurd (omega arith) }
 
 module _ {page starts firsts : List ℕ} where
-  pub accepts-standing : {k : Kind} {n : ℕ} → Accepts page starts firsts k n → Standing page starts n
+  pub accepts-standing : {k : Kind} {n : ℕ} → Accepts (checkPage page) page starts firsts k n → Standing page starts n
   accepts-standing says =
       by-lt 8192 (length page)
       (λ long. absurd (let never = too-long page long in let own = says .tree in let z : _≡_ {A = ℕ} 0 1 = cc in omega arith))
       (λ short. tables-standing page short (says .tables))
 
-  pub refuses-standing : {n i : ℕ} → Refuses page starts firsts n i → Standing page starts i
+  pub refuses-standing : {n i : ℕ} → Refuses (checkPage page) page starts firsts n i → Standing page starts i
   refuses-standing {n} {i} says =
       by-lt 8192 (length page)
       (λ long. subst (Standing page starts) (index (sym (too-long page long) ∙ says .refuses)) (no-records page starts))
@@ -52,7 +52,7 @@ module _ {page starts firsts : List ℕ} where
       index : _≡_ {A = Checked Expr} (refusedAt 3 0) (refusedAt n i) → 0 ≡ i
       index e = cc
 
-  pub refuses-inside : {n i : ℕ} → Refuses page starts firsts n i → i ≤ recordCount page
+  pub refuses-inside : {n i : ℕ} → Refuses (checkPage page) page starts firsts n i → i ≤ recordCount page
   refuses-inside says = subst (CheckedIn (recordCount page)) (says .refuses) (checkPage-in page) .1
 
 -- ## The outcome
@@ -71,13 +71,13 @@ module _ {page letters names : List ℕ} {count : ℕ} {own outcome : Outcome} (
   checks-with table formed = faults .is ∙ by-fault table (faults .found) (faults .finds table formed)
 
 module _ {page starts firsts letters names : List ℕ} {outcome : Outcome} where
-  pub accepted-with : {k : Kind} {n : ℕ} → Accepts page starts firsts k n → FaultFirst page n letters names (answer k 0) outcome
+  pub accepted-with : {k : Kind} {n : ℕ} → Accepts (checkPage page) page starts firsts k n → FaultFirst page n letters names (answer k 0) outcome
       → ChecksWith page letters names outcome
   accepted-with says faults =
       checks-with faults (sym (ap (reachedCount page) (says .tree)))
       (ap {B = Outcome} (λ k. answer k 0) (sym (says .kind)) ∙ sym (ap outcomeOf (says .tree)))
 
-  pub refused-with : {m i count : ℕ} {table : List ℕ} → Refuses page starts firsts m i → Reaches page i table count
+  pub refused-with : {m i count : ℕ} {table : List ℕ} → Refuses (checkPage page) page starts firsts m i → Reaches page i table count
       → FaultFirst page count letters names (refusal m i) outcome → ChecksWith page letters names outcome
   refused-with says reaches faults =
       checks-with faults (reaches .isCount ∙ sym (ap (reachedCount page) (says .refuses))) (sym (ap outcomeOf (says .refuses)))

@@ -16,9 +16,11 @@ use Rattle.ast.specs.Construct.{newAggregate}
 use Rattle.ast.specs.CheckAst.{checkAst}
 use Rattle.ast.specs.CheckPage.{leafExpr, wrap, push, apply}
 use Rattle.ast.specs.Operand.{Operand, operandOf}
-use Rattle.ast.specs.Judge.{judgement}
+use Rattle.ast.specs.Judge.{judgementBy}
+use Rattle.ast.specs.Limits.{limitRules}
+use Rattle.ast.specs.Rules.{Rules, applyBy}
 use Rattle.ast.proofs.SoundLaws.{AllSound}
-use Rattle.ast.proofs.OperandLaws.{mapResult, judged-operand}
+use Rattle.ast.proofs.OperandLaws.{mapResult, judgedBy-operand}
 use Rattle.judge.proofs.RecordLaws.{judgement-short}
 
 -- ## A record takes its operands off the stack, and puts one tree there
@@ -51,31 +53,33 @@ apply-pushes (call f n) stack e = on-arguments (leb n (length stack)) (ok (Call 
 -- ## From the verdict on operands
 
 -- a record that puts an operand has its operands
-pub operands-there : (r : Record) (stack : List Operand) (x : Operand) → ok x ≡ judgement r stack → operands r ≤ length stack
-operands-there r stack x e =
-    by-lt (length stack) (operands r) (λ h. absurd (let short = judgement-short r stack h in let z : _≡_ {A = ℕ} 0 1 = cc in omega arith)) (λ h. h)
+pub operands-there : (limits : Bool) (r : Record) (stack : List Operand) (x : Operand) → ok x ≡ judgementBy (limitRules limits) r stack
+    → operands r ≤ length stack
+operands-there limits r stack x e =
+    by-lt (length stack) (operands r)
+    (λ h. absurd (let short = judgement-short limits r stack h in let z : _≡_ {A = ℕ} 0 1 = cc in omega arith)) (λ h. h)
 
 -- the trees after a record that puts an operand
-pub record Applied (r : Record) (stack : List Expr) (x : Operand) : Type 0 where
+pub record Applied (rules : Rules) (r : Record) (stack : List Expr) (x : Operand) : Type 0 where
   pub after : List Expr
-  pub applies : apply r stack ≡ ok after
+  pub applies : applyBy rules r stack ≡ ok after
   pub heldOperands : map operandOf after ≡ x ∷ drop (operands r) (map operandOf stack)
 
-module _ (r : Record) (stack : List Expr) (sound : AllSound stack) where
-  pub applied : {x : Operand} → ok x ≡ judgement r (map operandOf stack) → Applied r stack x
-  applied {x} e = go (apply r stack) refl
+module _ (rules : Rules) (r : Record) (stack : List Expr) (sound : AllSound stack) where
+  pub applied : {x : Operand} → ok x ≡ judgementBy rules r (map operandOf stack) → Applied rules r stack x
+  applied {x} e = go (applyBy rules r stack) refl
       (ap {B = Result (List Operand)} (λ m. andThen m (λ y. ok (y ∷ drop (operands r) (map operandOf stack)))) e
-      ∙ judged-operand r stack sound)
+      ∙ judgedBy-operand rules r stack sound)
     where
-      go : (m : Result (List Expr)) → apply r stack ≡ m → ok (x ∷ drop (operands r) (map operandOf stack)) ≡ mapResult (map operandOf) m → Applied r stack x
+      go : (m : Result (List Expr)) → applyBy rules r stack ≡ m → ok (x ∷ drop (operands r) (map operandOf stack)) ≡ mapResult (map operandOf) m → Applied rules r stack x
       go (refused n) is f = absurd (let z : _≡_ {A = ℕ} 0 1 = cc in omega arith)
       go (ok after) is f = record { after = after; applies = is; heldOperands = cc }
 
-  pub unapplied : {n : ℕ} → refused n ≡ judgement r (map operandOf stack) → apply r stack ≡ refused n
-  unapplied {n} e = go (apply r stack) refl
+  pub unapplied : {n : ℕ} → refused n ≡ judgementBy rules r (map operandOf stack) → applyBy rules r stack ≡ refused n
+  unapplied {n} e = go (applyBy rules r stack) refl
       (ap {B = Result (List Operand)} (λ m. andThen m (λ y. ok (y ∷ drop (operands r) (map operandOf stack)))) e
-      ∙ judged-operand r stack sound)
+      ∙ judgedBy-operand rules r stack sound)
     where
-      go : (m : Result (List Expr)) → apply r stack ≡ m → refused n ≡ mapResult (map operandOf) m → apply r stack ≡ refused n
+      go : (m : Result (List Expr)) → applyBy rules r stack ≡ m → refused n ≡ mapResult (map operandOf) m → applyBy rules r stack ≡ refused n
       go (refused k) is f = let same : k ≡ n = cc in is ∙ ap {B = Result (List Expr)} refused same
       go (ok after) is f = absurd (let z : _≡_ {A = ℕ} 0 1 = cc in omega arith)

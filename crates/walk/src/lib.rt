@@ -5,6 +5,7 @@ pub mod answer;
 
 pub use answer::Outcome;
 pub use answer::check;
+pub use answer::check_operators;
 use answer::field_refusal;
 use judge::record::judge_record;
 use page::RECORD_LIMIT;
@@ -23,7 +24,10 @@ ghost use Prim.Native.Nat.{_+_, _≤_, _<_};
 ghost use mathlib.Core.Path.{_≡_};
 ghost use lib.ListN.{length, drop};
 ghost use Rattle.reader.specs.Answers.{recordOn};
-ghost use Rattle.ast.specs.Judge.{judgement};
+ghost use Rattle.ast.specs.CheckPage.{checkPage};
+ghost use Rattle.ast.specs.Judge.{judgementBy};
+ghost use Rattle.ast.specs.Limits.{limitRules};
+ghost use Rattle.ast.specs.Rules.{checkPageBy};
 ghost use Rattle.rules.specs.Answers.{verdictMeant};
 ghost use Rattle.rules.specs.Stack.{heldOperands, Sized};
 ghost use Rattle.walk.specs.Answers.{Walks};
@@ -38,7 +42,7 @@ pub enum Walked {
     Refused(Refusal, usize),
 }
 
-// The verdict on a record that takes so many operands: 2 where they are missing.
+// The verdict on a record that takes so many operands: 2 where they are missing, 42 where it is asked for.
 fn judge_next(
     page: &[u8],
     item: Record,
@@ -46,16 +50,17 @@ fn judge_next(
     tags: &[u8],
     values: &[f64],
     top: usize,
+    limits: bool,
 ) -> Verdict
     requires sized { ⌜ Sized (now tags) (now values) ⌝ }
     requires item { ⌜ RecordRead (now page) item needed ⌝ }
     requires inside { ⌜ top ≤ 256 ⌝ }
-    ensures { λ r. ⌜ verdictMeant r ≡ judgement (recordOn (now (page .entry)) item) (drop top (heldOperands (now (tags .entry)) (now (values .entry)))) ⌝ }
+    ensures { λ r. ⌜ verdictMeant r ≡ judgementBy (limitRules limits) (recordOn (now (page .entry)) item) (drop top (heldOperands (now (tags .entry)) (now (values .entry)))) ⌝ }
 {
     if RECORD_LIMIT - top < needed {
         return Verdict::Refused(Refusal::OperandsMissing);
     }
-    judge_record(page, item, tags, values, top)
+    judge_record(page, item, tags, values, top, limits)
 }
 
 // The first record of the expression that record `count` ends: that of its deepest operand, or itself.
@@ -70,9 +75,10 @@ fn first_record(bases: &[u8], top: usize, needed: usize, count: usize) -> u8
     bases[top + (needed - 1)]
 }
 
-pub fn walk(page: &[u8], starts: &mut [u16], firsts: &mut [u8]) -> Walked
+// The walk by document 01's rules, and, if asked for, that of limitk and limit_ratio (document 02, No. 8).
+fn walk_by(page: &[u8], starts: &mut [u16], firsts: &mut [u8], limits: bool) -> Walked
     requires { ⌜ (length (now starts) ≡ 256) × (length (now firsts) ≡ 256) ⌝ }
-    ensures { λ r. ⌜ Walks (now (page .entry)) (now (starts .entry)) (now (firsts .entry)) (now (starts .exit)) (now (firsts .exit)) r ⌝ }
+    ensures { λ r. ⌜ Walks (checkPageBy (limitRules limits) (now (page .entry))) (now (page .entry)) (now (starts .entry)) (now (firsts .entry)) (now (starts .exit)) (now (firsts .exit)) r ⌝ }
 {
     if page::PAGE_LIMIT < page.len() {
         return Walked::Refused(Refusal::PastLimit, 0);
@@ -91,7 +97,7 @@ pub fn walk(page: &[u8], starts: &mut [u16], firsts: &mut [u8]) -> Walked
             RecordField::Bad(fault) => return Walked::Refused(field_refusal(fault), count),
             RecordField::Got { item, next } => {
                 let needed = operand_count(item);
-                match judge_next(page, item, needed, &tags, &values, top) {
+                match judge_next(page, item, needed, &tags, &values, top, limits) {
                     Verdict::Refused(refusal) => return Walked::Refused(refusal, count),
                     Verdict::Put(operand) => {
                         let first = first_record(&bases, top, needed, count);
@@ -115,4 +121,12 @@ pub fn walk(page: &[u8], starts: &mut [u16], firsts: &mut [u8]) -> Walked
         kind: kind_of(operand_at(&tags, &values, LAST)),
         count,
     }
+}
+
+// Document 01's walk.
+pub fn walk(page: &[u8], starts: &mut [u16], firsts: &mut [u8]) -> Walked
+    requires { ⌜ (length (now starts) ≡ 256) × (length (now firsts) ≡ 256) ⌝ }
+    ensures { λ r. ⌜ Walks (checkPage (now (page .entry))) (now (page .entry)) (now (starts .entry)) (now (firsts .entry)) (now (starts .exit)) (now (firsts .exit)) r ⌝ }
+{
+    walk_by(page, starts, firsts, false)
 }

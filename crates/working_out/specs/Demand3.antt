@@ -1,5 +1,5 @@
 -- The client's demand 3, its words above each line. What is set aside and which refusals are for kinds are parameters:
--- a later request changes both.
+-- the check that document 02, No. 8, adds has others (`DocumentedDemand3`).
 use Prim.Native.Nat.{ℕ}
 use mathlib.Core.Path.{_≡_}
 use mathlib.Core.Bool.{Bool, not}
@@ -12,13 +12,17 @@ use Rattle.records.specs.Kind.{Kind}
 use Rattle.records.specs.Literal.{Literal}
 use Rattle.records.specs.Record.{Record, readPage}
 use Rattle.records.specs.Outcome.{Outcome, answer, refusal}
-use Rattle.working_out.specs.WorkingOut.{Step, Finish, left, ended, WorkedOut, workPage, isSetAside}
+use Rattle.working_out.specs.WorkingOut.{Step, Finish, left, ended, WorkedOut, workPage, isSetAside, isSetAsideLiteral}
 
 -- document 01, 'Outcomes of a page': "Kind refusals are 6, 18, 20, 22, 25, 30, 31 and 32"
 abbrev pub kindRefusals : List ℕ
 kindRefusals = 6 ∷ 18 ∷ 20 ∷ 22 ∷ 25 ∷ 30 ∷ 31 ∷ 32 ∷ []
 
--- these steps have none of the two things set aside
+-- document 02, No. 8, of the added check: "and 42 is one of its kind refusals"
+abbrev pub documentedRefusals : List ℕ
+documentedRefusals = 42 ∷ kindRefusals
+
+-- these steps have none of the things set aside
 abbrev pub nothingSetAside : List Step → Bool
 nothingSetAside = all (λ s. s .notSetAside)
 
@@ -61,3 +65,8 @@ module _ {C : Type 0} (aside : Record → List Kind → List (Option Literal) �
 -- every type.)
 abbrev pub Demand3 : List ℕ → Outcome → Type 0
 Demand3 page outcome = (contents : ℕ → List ℕ) → KindsRightWith isSetAside kindRefusals contents page outcome
+
+-- document 02, No. 8: "For the added check demand 3 no longer needs the limitk condition, for accepted and refused
+-- pages alike"
+abbrev pub DocumentedDemand3 : List ℕ → Outcome → Type 0
+DocumentedDemand3 page outcome = (contents : ℕ → List ℕ) → KindsRightWith isSetAsideLiteral documentedRefusals contents page outcome

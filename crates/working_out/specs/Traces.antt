@@ -3,14 +3,17 @@
 use Prim.Native.Nat.{ℕ}
 use mathlib.Core.Bool.{Bool, true, false, _&&_}
 use mathlib.Core.List.{List, [], _∷_, _++_, map}
+use mathlib.Core.Option.{Option}
 use lib.ListN.{replicate}
 use lib.Dec.{T, eqb}
 use Rattle.page.specs.Bytes.{pick, hex, all, any}
 use Rattle.page.specs.Bytes.{equal as equalNumbers}
 use Rattle.records.specs.Kind.{Kind, vector, scalar, matrix, string, kindNumber}
-use Rattle.records.specs.Record.{readRecord, readPage}
-use Rattle.working_out.specs.WorkingOut.{Step, Finish, left as leftValues, ended as endedThere, WorkedOut, workPage, isSetAside}
-use Rattle.working_out.specs.Demand3.{kindRefusals}
+use Rattle.records.specs.Literal.{Literal}
+use Rattle.records.specs.Record.{Record, readRecord, readPage}
+use Rattle.working_out.specs.WorkingOut.{Step, Finish, left as leftValues, ended as endedThere, WorkedOut, workPage}
+use Rattle.working_out.specs.WorkingOut.{isSetAside, isSetAsideLiteral}
+use Rattle.working_out.specs.Demand3.{kindRefusals, documentedRefusals}
 
 -- what is seen of a record: set aside or not, as asked or not
 data Mark : Type 0 where
@@ -126,25 +129,68 @@ finishes (left ks) endedThere = false
 finishes ended (leftValues vs) = false
 finishes ended endedThere = true
 
-abbrev holds : TraceRow → Bool
-holds r =
-    let worked : WorkedOut (Unit {0}) = workPage isSetAside (λ i. tt) (readPage (r .page)) in
+-- what is set aside is a parameter
+abbrev holds : (Record → List Kind → List (Option Literal) → Bool) → TraceRow → Bool
+holds isAside r =
+    let worked : WorkedOut (Unit {0}) = workPage isAside (λ i. tt) (readPage (r .page)) in
     equalNumbers (map markNumber (r .marks)) (map stepNumber (worked .steps)) && finishes (r .finish) (worked .finish)
 
-traces : T (all holds rows)
+traces : T (all (holds isSetAside) rows)
 unfolding readRecord readPage
 traces = tt
 
--- ## The kind refusals, over 1 to 34
+-- ## Where the literal exception alone is set aside
 
-abbrev upTo34 : List ℕ
-upTo34 =
+abbrev documentedRows : List TraceRow
+documentedRows =
+    -- `limitk("a", up)`
+    row (hex "010161 0202757000 0a1d0002") (fine ∷ fine ∷ forbidden ∷ []) (left (vector ∷ []))
+    -- `limitk(1, up)`
+    ∷ row (hex "000001 0202757000 0a1d0002") (fine ∷ fine ∷ fine ∷ []) (left (vector ∷ []))
+    -- `limit_ratio("a", up)`
+    ∷ row (hex "010161 0202757000 0a1e0002") (fine ∷ fine ∷ forbidden ∷ []) (left (vector ∷ []))
+    -- `limit_ratio(NaN, up)`
+    ∷ row (hex "0002 0202757000 0a1e0002") (fine ∷ fine ∷ fine ∷ []) (left (vector ∷ []))
+    -- `limitk(up)`: of one argument only a vector is asked
+    ∷ row (hex "0202757000 0a1d0001") (fine ∷ fine ∷ []) (left (vector ∷ []))
+    -- `limitk("a", limitk("b", up))`
+    ∷ row (hex "010161 010162 0202757000 0a1d0002 0a1d0002") (fine ∷ fine ∷ fine ∷ forbidden ∷ forbidden ∷ []) (left (vector ∷ []))
+    -- `limitk(1, limitk("a", up))`
+    ∷ row (hex "000001 010161 0202757000 0a1d0002 0a1d0002") (fine ∷ fine ∷ fine ∷ forbidden ∷ fine ∷ []) (left (vector ∷ []))
+    -- `limitk(ln(0), up)`: the call is set aside still, and gives a vector
+    ∷ row (hex "000000 0b026c6e0100000001 0202757000 0a1d0002") (fine ∷ asideForbidden ∷ fine ∷ forbidden ∷ []) (left (vector ∷ []))
+    -- `limitk("a", ln(0))`
+    ∷ row (hex "010161 000000 0b026c6e0100000001 0a1d0002") (fine ∷ fine ∷ asideForbidden ∷ forbidden ∷ []) (left (vector ∷ []))
+    ∷ []
+
+documentedTraces : T (all (holds isSetAsideLiteral) documentedRows)
+unfolding readRecord readPage
+documentedTraces = tt
+
+-- ## The kind refusals, over 1 to 42
+
+abbrev upTo42 : List ℕ
+upTo42 =
     1 ∷ 2 ∷ 3 ∷ 4 ∷ 5 ∷ 6 ∷ 7 ∷ 8 ∷ 9 ∷ 10 ∷ 11 ∷ 12 ∷ 13 ∷ 14 ∷ 15 ∷ 16 ∷ 17
-    ∷ 18 ∷ 19 ∷ 20 ∷ 21 ∷ 22 ∷ 23 ∷ 24 ∷ 25 ∷ 26 ∷ 27 ∷ 28 ∷ 29 ∷ 30 ∷ 31 ∷ 32 ∷ 33 ∷ 34 ∷ []
+    ∷ 18 ∷ 19 ∷ 20 ∷ 21 ∷ 22 ∷ 23 ∷ 24 ∷ 25 ∷ 26 ∷ 27 ∷ 28 ∷ 29 ∷ 30 ∷ 31 ∷ 32 ∷ 33 ∷ 34
+    ∷ 35 ∷ 36 ∷ 37 ∷ 38 ∷ 39 ∷ 40 ∷ 41 ∷ 42 ∷ []
 
-refusalsForKinds : T (equalNumbers (map (λ n. pick (any (eqb n) kindRefusals) 1 0) upTo34) (
+-- 1 at each number of the list
+abbrev marked : List ℕ → List ℕ
+marked forKinds = map (λ n. pick (any (eqb n) forKinds) 1 0) upTo42
+
+abbrev upTo41Marked : List ℕ
+upTo41Marked =
     -- 1 to 17: 6 alone
     0 ∷ 0 ∷ 0 ∷ 0 ∷ 0 ∷ 1 ∷ 0 ∷ 0 ∷ 0 ∷ 0 ∷ 0 ∷ 0 ∷ 0 ∷ 0 ∷ 0 ∷ 0 ∷ 0
     -- 18 to 34: 18, 20, 22, 25, 30, 31, 32
-    ∷ 1 ∷ 0 ∷ 1 ∷ 0 ∷ 1 ∷ 0 ∷ 0 ∷ 1 ∷ 0 ∷ 0 ∷ 0 ∷ 0 ∷ 1 ∷ 1 ∷ 1 ∷ 0 ∷ 0 ∷ []))
+    ∷ 1 ∷ 0 ∷ 1 ∷ 0 ∷ 1 ∷ 0 ∷ 0 ∷ 1 ∷ 0 ∷ 0 ∷ 0 ∷ 0 ∷ 1 ∷ 1 ∷ 1 ∷ 0 ∷ 0
+    -- 35 to 41: none
+    ∷ 0 ∷ 0 ∷ 0 ∷ 0 ∷ 0 ∷ 0 ∷ 0 ∷ []
+
+refusalsForKinds : T (equalNumbers (marked kindRefusals) (upTo41Marked ++ 0 ∷ []))
 refusalsForKinds = tt
+
+-- 42 is the added check's alone
+documentedForKinds : T (equalNumbers (marked documentedRefusals) (upTo41Marked ++ 1 ∷ []))
+documentedForKinds = tt

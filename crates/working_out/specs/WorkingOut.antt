@@ -57,6 +57,14 @@ isSetAside (binary c m) ks bare = false
 isSetAside (aggregate c m n) ks bare = isOneOf ("limitk" ∷ "limit_ratio" ∷ []) c && not (firstAllowed isScalar ks)
 isSetAside (call f n) ks bare = isExempt (f .name) (getD bare 0 none)
 
+-- the literal exception alone (document 02, No. 8: "For the added check demand 3 no longer needs the limitk condition")
+abbrev pub isSetAsideLiteral : Record → List Kind → List (Option Literal) → Bool
+isSetAsideLiteral (leaf l) ks bare = false
+isSetAsideLiteral (wrapper w) ks bare = false
+isSetAsideLiteral (binary c m) ks bare = false
+isSetAsideLiteral (aggregate c m n) ks bare = false
+isSetAsideLiteral (call f n) ks bare = isExempt (f .name) (getD bare 0 none)
+
 -- ## The working-out
 
 -- what is seen of a record

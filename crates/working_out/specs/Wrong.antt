@@ -1,4 +1,5 @@
--- Outcomes that demand 3 rules out, one computed page each, of demand 3 as the contract of check has it.
+-- Outcomes that demand 3 rules out, one computed page each, of demand 3 as the contract of check has it, and at the end
+-- of demand 3 of the added check (document 02, No. 8).
 use Prim.Native.Nat.{ℕ}
 use mathlib.Core.Path.{subst}
 use mathlib.Core.List.{List, [], _++_}
@@ -7,7 +8,7 @@ use Rattle.page.specs.Bytes.{hex}
 use Rattle.records.specs.Kind.{vector, scalar, isVector}
 use Rattle.records.specs.Record.{readRecord, readPage}
 use Rattle.records.specs.Outcome.{Outcome, answer, refusal}
-use Rattle.working_out.specs.Demand3.{Demand3}
+use Rattle.working_out.specs.Demand3.{Demand3, DocumentedDemand3}
 
 abbrev RuledOut : List ℕ → Outcome → Type 0
 RuledOut page outcome = Demand3 page outcome → ⊥
@@ -101,3 +102,23 @@ stoppedBefore f = f contents tt tt .1
 asideBehind : RuledOut (up ++ hex "000000 0b026c6e0100000001") (refusal 22 0)
 unfolding readRecord readPage
 asideBehind f = f contents tt tt .1
+
+-- ## The added check
+
+abbrev DocumentedRuledOut : List ℕ → Outcome → Type 0
+DocumentedRuledOut page outcome = DocumentedDemand3 page outcome → ⊥
+
+-- `limitk("a", up)`, accepted
+stringAccepted : DocumentedRuledOut (hex "010161 0202757000 0a1d0002") (answer vector 0)
+unfolding readRecord readPage
+stringAccepted f = f contents tt .0
+
+-- `limitk(1, up)`: the parameter is a scalar
+scalarRefused : DocumentedRuledOut (hex "000001 0202757000 0a1d0002") (refusal 42 2)
+unfolding readRecord readPage
+scalarRefused f = f contents tt tt .1
+
+-- `limitk("a", limitk("b", up))`, the outer one named
+outerNamed : DocumentedRuledOut (hex "010161 010162 0202757000 0a1d0002 0a1d0002") (refusal 42 4)
+unfolding readRecord readPage
+outerNamed f = f contents tt tt .0

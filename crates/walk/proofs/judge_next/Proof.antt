@@ -16,7 +16,7 @@ sub-if1 c = search needs
 returns : tie.Need-returns
 returns c =
     let at-start = c .before .before .before .before in
-    judgement-short (recordOn (now (at-start .args .page)) (at-start .args .item))
+    judgement-short (at-start .args .limits) (recordOn (now (at-start .args .page)) (at-start .args .item))
     (drop (at-start .args .top) (heldOperands (now (at-start .args .tags)) (now (at-start .args .values))))
     (rw (stack-size (now (at-start .args .tags)) (now (at-start .args .values)) (at-start .pre .0)
     (at-start .args .top)) (omega (arith, c .if1 .taken, at-start .pre .1 .0 .takes)))

@@ -162,7 +162,7 @@ returns : tie.Need-returns
 returns c =
     let at-start = c .before .before .before .before .before .before .before in
     rw (c .before .before .item .given .1)
-    (judgement-number (literalOf (c .before .before .item .given .0 .0))
+    (judgement-number (at-start .args .limits) (literalOf (c .before .before .item .given .0 .0))
     (drop (at-start .args .top) (heldOperands (now (at-start .args .tags)) (now (at-start .args .values))))
     (c .literal-operand .ensures))
 
@@ -170,7 +170,7 @@ returns-2 : tie.Need-returns-2
 returns-2 c =
     let at-start = c .before .before .before .before .before in
     rw (c .enum-told .given .1)
-    (judgement-leaf (string (spanOn (now (at-start .args .page)) (c .enum-told .given .0 .0)))
+    (judgement-leaf (at-start .args .limits) (string (spanOn (now (at-start .args .page)) (c .enum-told .given .0 .0)))
     (drop (at-start .args .top) (heldOperands (now (at-start .args .tags)) (now (at-start .args .values)))))
 
 returns-3 : tie.Need-returns-3
@@ -182,7 +182,7 @@ returns-3 c =
     let read = rw (at-second-item .item2 .given .1) at (at-start .pre .1 .lies) in
     rw (at-second-item .item2 .given .1)
     (c .judge-selector .ensures page read
-    ∙ judgement-leaf (selector (selectorOn page selector·))
+    ∙ judgement-leaf (at-start .args .limits) (selector (selectorOn page selector·))
     (drop (at-start .args .top) (heldOperands (now (at-start .args .tags)) (now (at-start .args .values)))))
 
 returns-4 : tie.Need-returns-4
@@ -192,7 +192,7 @@ returns-4 c =
     let h : at-start .args .top + 1 ≤ 256 = rw (at-second-told .enum-told2 .given .1) at (at-start .pre .1 .fits) in
     rw (at-second-told .enum-told2 .given .1)
     (c .judge-range .ensures ∙ ap judgeRange (c .before .operand-at .ensures)
-    ∙ judgement-wrapper (at-start .pre .0) (at-start .args .top)
+    ∙ judgement-wrapper (at-start .pre .0) (at-start .args .limits) (at-start .args .top)
     (range (at-second-told .enum-told2 .given .0 .0)) h)
 
 returns-5 : tie.Need-returns-5
@@ -202,7 +202,7 @@ returns-5 c =
     let h : at-start .args .top + 1 ≤ 256 = rw (at-third-told .enum-told3 .given .1) at (at-start .pre .1 .fits) in
     rw (at-third-told .enum-told3 .given .1)
     (c .judge-subquery .ensures ∙ ap judgeSubquery (c .before .operand-at2 .ensures)
-    ∙ judgement-wrapper (at-start .pre .0) (at-start .args .top)
+    ∙ judgement-wrapper (at-start .pre .0) (at-start .args .limits) (at-start .args .top)
     (subquery (at-third-told .enum-told3 .given .0 .0)
     (optionalDurationOf (at-third-told .enum-told3 .given .0 .1 .0))) h)
 
@@ -213,7 +213,7 @@ returns-6 c =
     let h : at-start .args .top + 1 ≤ 256 = rw (at-fourth-told .enum-told4 .given .1) at (at-start .pre .1 .fits) in
     rw (at-fourth-told .enum-told4 .given .1)
     (c .judge-at .ensures ∙ ap judgeAt (c .before .operand-at3 .ensures)
-    ∙ judgement-wrapper (at-start .pre .0) (at-start .args .top)
+    ∙ judgement-wrapper (at-start .pre .0) (at-start .args .limits) (at-start .args .top)
     (at (atModifierOf (at-fourth-told .enum-told4 .given .0 .0))) h)
 
 returns-7 : tie.Need-returns-7
@@ -223,7 +223,7 @@ returns-7 c =
     let h : at-start .args .top + 1 ≤ 256 = rw (at-fifth-told .enum-told5 .given .1) at (at-start .pre .1 .fits) in
     rw (at-fifth-told .enum-told5 .given .1)
     (c .judge-offset .ensures ∙ ap judgeOffset (c .before .operand-at4 .ensures)
-    ∙ judgement-wrapper (at-start .pre .0) (at-start .args .top)
+    ∙ judgement-wrapper (at-start .pre .0) (at-start .args .limits) (at-start .args .top)
     (offset (offsetOf (at-fifth-told .enum-told5 .given .0 .0))) h)
 
 returns-8 : tie.Need-returns-8
@@ -232,7 +232,7 @@ returns-8 c =
     let h : at-start .args .top + 1 ≤ 256 = rw (c .before .before .enum-told6 .given .1) at (at-start .pre .1 .fits) in
     rw (c .before .before .enum-told6 .given .1)
     (c .judge-unary .ensures ∙ ap judgeUnary (c .before .operand-at5 .ensures)
-    ∙ judgement-wrapper (at-start .pre .0) (at-start .args .top) unary h)
+    ∙ judgement-wrapper (at-start .pre .0) (at-start .args .limits) (at-start .args .top) unary h)
 
 returns-9 : tie.Need-returns-9
 returns-9 c =
@@ -241,7 +241,7 @@ returns-9 c =
     rw (c .before .before .enum-told7 .given .1)
     (c .judge-paren .ensures
     ∙ ap (λ (x : Operand). ok (otherOperand (operandKind x))) (c .before .operand-at6 .ensures)
-    ∙ judgement-wrapper (at-start .pre .0) (at-start .args .top) paren h)
+    ∙ judgement-wrapper (at-start .pre .0) (at-start .args .limits) (at-start .args .top) paren h)
 
 returns-10 : tie.Need-returns-10
 returns-10 c =
@@ -256,7 +256,7 @@ returns-10 c =
     (at-kind-of .kind-of .ensures ∙ ap operandKind (at-seventh-operand-at .operand-at7 .ensures)) in
     rw (at-third-item .item3 .given .1)
     (c .judge-binary .ensures ∙ sides
-    ∙ judgement-binary (at-start .pre .0) (at-start .args .top) (at-third-item .item3 .given .0 .0) m h)
+    ∙ judgement-binary (at-start .pre .0) (at-start .args .limits) (at-start .args .top) (at-third-item .item3 .given .0 .0) m h)
 
 returns-11 : tie.Need-returns-11
 returns-11 c =
@@ -265,7 +265,7 @@ returns-11 c =
     let h = rw (at-fourth-item .item4 .given .1) at (at-start .pre .1 .fits) in
     rw (at-fourth-item .item4 .given .1)
     (c .judge-aggregate .ensures
-    ∙ judgement-aggregate (at-start .pre .0) (at-start .args .top) (at-fourth-item .item4 .given .0 .0)
+    ∙ judgement-aggregate (at-start .pre .0) (at-start .args .limits) (at-start .args .top) (at-fourth-item .item4 .given .0 .0)
     (labelModifierOn (now (at-start .args .page)) (at-fourth-item .item4 .given .0 .1 .0))
     (at-fourth-item .item4 .given .0 .1 .1 .0) h)
 
@@ -276,7 +276,7 @@ returns-12 c =
     let h = rw (at-fifth-item .item5 .given .1) at (at-start .pre .1 .fits) in
     rw (at-fifth-item .item5 .given .1)
     (c .judge-call .ensures
-    ∙ judgement-call (at-start .pre .0) (at-start .args .top)
+    ∙ judgement-call (at-start .pre .0) (at-start .args .limits) (at-start .args .top)
     (functionOn (now (at-start .args .page)) (at-fifth-item .item5 .given .0 .0))
     (at-fifth-item .item5 .given .0 .1 .0) h)
 

@@ -23,11 +23,11 @@ returns-2 c =
       c .if2 .taken,
     )
 
-asks-scalar-requires : tie.Need-asks-scalar-requires
-asks-scalar-requires c κs = search needs
-
 parameter-is-scalar-requires : tie.Need-parameter-is-scalar-requires
 parameter-is-scalar-requires c κs = search needs
+
+asks-scalar-requires : tie.Need-asks-scalar-requires
+asks-scalar-requires c κs = search needs
 
 returns-3 : tie.Need-returns-3
 returns-3 c =
@@ -38,8 +38,8 @@ returns-3 c =
     simp (
       ← at-is-aggregator .is-aggregator .ensures,
       ← at-is-vector .is-vector .ensures,
-      ← c .before .before .asks-scalar .ensures,
-      ← c .before .parameter-is-scalar .ensures,
+      ← c .before .before .parameter-is-scalar .ensures,
+      ← c .before .asks-scalar .ensures,
       at-first-if .if1 .left,
       at-second-if .if2 .left,
       c .if3 .taken,
@@ -54,9 +54,9 @@ parameter-is-string-requires c κs = search needs
 returns-4 : tie.Need-returns-4
 returns-4 c =
     let at-third-if = c .before .before .before in
-    let at-parameter-is-scalar = at-third-if .before in
-    let at-asks-scalar = at-parameter-is-scalar .before in
-    let at-second-if = at-asks-scalar .before in
+    let at-asks-scalar = at-third-if .before in
+    let at-parameter-is-scalar = at-asks-scalar .before in
+    let at-second-if = at-parameter-is-scalar .before in
     let at-is-vector = at-second-if .before in
     let at-first-if = at-is-vector .before in
     let at-is-aggregator = at-first-if .before in
@@ -73,26 +73,61 @@ returns-4 c =
       c .if4 .taken,
     )
 
+is-limit-requires : tie.Need-is-limit-requires
+is-limit-requires c κs = search needs
+
 returns-5 : tie.Need-returns-5
 returns-5 c =
-    let at-third-if = c .before .before .before in
-    let at-parameter-is-scalar = at-third-if .before in
-    let at-asks-scalar = at-parameter-is-scalar .before in
-    let at-second-if = at-asks-scalar .before in
+    let at-fourth-if = c .before .before in
+    let at-parameter-is-string = at-fourth-if .before in
+    let at-is-count-values = at-parameter-is-string .before in
+    let at-third-if = at-is-count-values .before in
+    let at-asks-scalar = at-third-if .before in
+    let at-parameter-is-scalar = at-asks-scalar .before in
+    let at-second-if = at-parameter-is-scalar .before in
     let at-is-vector = at-second-if .before in
     let at-first-if = at-is-vector .before in
     let at-is-aggregator = at-first-if .before in
     simp (
       ← at-is-aggregator .is-aggregator .ensures,
       ← at-is-vector .is-vector .ensures,
-      ← at-asks-scalar .asks-scalar .ensures,
       ← at-parameter-is-scalar .parameter-is-scalar .ensures,
-      ← c .before .before .is-count-values .ensures,
-      ← c .before .parameter-is-string .ensures,
+      ← at-asks-scalar .asks-scalar .ensures,
+      ← at-is-count-values .is-count-values .ensures,
+      ← at-parameter-is-string .parameter-is-string .ensures,
       at-first-if .if1 .left,
       at-second-if .if2 .left,
       at-third-if .if3 .left,
-      c .if4 .left,
+      ← c .before .is-limit .ensures,
+      at-fourth-if .if4 .left,
+      c .if5 .taken,
+    )
+
+returns-6 : tie.Need-returns-6
+returns-6 c =
+    let at-fourth-if = c .before .before in
+    let at-parameter-is-string = at-fourth-if .before in
+    let at-is-count-values = at-parameter-is-string .before in
+    let at-third-if = at-is-count-values .before in
+    let at-asks-scalar = at-third-if .before in
+    let at-parameter-is-scalar = at-asks-scalar .before in
+    let at-second-if = at-parameter-is-scalar .before in
+    let at-is-vector = at-second-if .before in
+    let at-first-if = at-is-vector .before in
+    let at-is-aggregator = at-first-if .before in
+    simp (
+      ← at-is-aggregator .is-aggregator .ensures,
+      ← at-is-vector .is-vector .ensures,
+      ← at-parameter-is-scalar .parameter-is-scalar .ensures,
+      ← at-asks-scalar .asks-scalar .ensures,
+      ← at-is-count-values .is-count-values .ensures,
+      ← at-parameter-is-string .parameter-is-string .ensures,
+      at-first-if .if1 .left,
+      at-second-if .if2 .left,
+      at-third-if .if3 .left,
+      ← c .before .is-limit .ensures,
+      at-fourth-if .if4 .left,
+      c .if5 .left,
     )
 
 pub judge-operand-spec : {M : Type 1} → statement M
@@ -103,10 +138,12 @@ judge-operand-spec =
     returns
     is-vector-requires
     returns-2
-    asks-scalar-requires
     parameter-is-scalar-requires
+    asks-scalar-requires
     returns-3
     is-count-values-requires
     parameter-is-string-requires
     returns-4
-    returns-5)
+    is-limit-requires
+    returns-5
+    returns-6)

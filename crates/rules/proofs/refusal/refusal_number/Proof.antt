@@ -114,6 +114,9 @@ enum-told-36 c = search needs
 enum-told-37 : tie.Need-enum-told-37
 enum-told-37 c = search needs
 
+enum-told-38 : tie.Need-enum-told-38
+enum-told-38 c = search needs
+
 returns : tie.Need-returns
 returns c = rw (c .enum-told .given .1)
 
@@ -225,6 +228,9 @@ returns-36 c = rw (c .enum-told36 .given .1)
 returns-37 : tie.Need-returns-37
 returns-37 c = rw (c .enum-told37 .given .1)
 
+returns-38 : tie.Need-returns-38
+returns-38 c = rw (c .enum-told38 .given .1)
+
 pub refusal-number-spec : {M : Type 1} → statement M
 refusal-number-spec =
     tie.close
@@ -266,6 +272,7 @@ refusal-number-spec =
     enum-told-35
     enum-told-36
     enum-told-37
+    enum-told-38
     returns
     returns-2
     returns-3
@@ -302,4 +309,5 @@ refusal-number-spec =
     returns-34
     returns-35
     returns-36
-    returns-37)
+    returns-37
+    returns-38)
