@@ -5,7 +5,7 @@ use oracle::coverage::Coverage;
 use oracle::generate::{
     self, counted_bytes, fractions, ill_formed, patterns, times, well_formed, Made,
 };
-use oracle::{chosen, functions, kept};
+use oracle::{chosen, functions, hex, kept};
 use std::collections::HashSet;
 
 #[test]
@@ -54,7 +54,10 @@ fn assert_pages_kept(pages: impl Iterator<Item = Vec<u8>>, least: usize) {
     let entries = kept::entries().expect("the Rust is foreseen");
     let kept: HashSet<_> = entries.into_iter().map(|(page, _)| page).collect();
     let pages: Vec<_> = pages.collect();
-    assert!(pages.len() > least && pages.iter().all(|page| kept.contains(page)));
+    assert!(pages.len() > least, "{} pages", pages.len());
+    for page in &pages {
+        assert!(kept.contains(page), "{}", hex::text(page));
+    }
 }
 
 /// Towns, whole and ill-formed.

@@ -1,5 +1,5 @@
-//! The check that follows the operators document (document 02, No. 8): what is generated has the outcome that it was made
-//! for, and the sentences of the request are true of the oracle's answers.
+//! The check that follows the operators document (document 02, No. 8): what is generated has the outcome that it was
+//! made for, and the sentences of the request are true of the oracle's answers.
 
 use oracle::answer::{self, Answer, Outcome, Worked};
 use oracle::generate::operators::{fixed, nested_limits, pairs, random};

@@ -111,8 +111,8 @@ pub fn check_table(page: &[u8]) -> Result<Kind, Refusal> {
 ///
 /// The kind decides, not what the parameter is. The rule is asked when [`check`] has nothing against the record, so
 /// after [`Rule::AggregateKind`]; the first record that is refused decides. A page that passes, [`check`] accepts with
-/// the same kind. A page that is refused with another rule, [`check`] refuses with it at the same record. The function
-/// table is not asked.
+/// the same kind (proved: `limit-accepted`). A page that is refused with another rule, [`check`] refuses with it at the
+/// same record (`limit-refused`). The function table is not asked.
 ///
 /// ```
 /// use sandzguli::page::{Code, LabelModifier, Page, Record};

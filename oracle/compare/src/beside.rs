@@ -5,8 +5,8 @@ use crate::bench::{everyday_pages, Subject, ROUNDS, SIZES};
 use crate::instructions;
 use crate::library::{Asks, Library, Writes};
 
-/// Prints nanoseconds a page: all calls on pages of three sizes, then check on selectors with long values, on nested calls
-/// and on nested limits; of these last the added checks too, which an earlier archive may not have.
+/// Prints nanoseconds a page: all calls on pages of three sizes, then check on selectors with long values, on nested
+/// calls and on nested limits; of these last the added checks too, which an earlier archive may not have.
 pub fn print(before: &Library, after: &Library) {
     println!("nanoseconds of CPU time a page, the least of {ROUNDS} alternating rounds");
     println!("                           before       after   ratio");

@@ -47,7 +47,7 @@ pub fn compare(library: Library, sizes: Sizes) -> Result<Tally, String> {
     })
 }
 
-/// How many pages are refused with 42, where every class of the parameters, the order and the nesting of limits occurred.
+/// How many pages are refused with 42, where every class of the parameters, the order and the nesting occurred.
 fn reached(coverage: &Coverage) -> Result<u64, String> {
     let is_of_limits = |class: &&str| {
         let words = class.strip_prefix("operators: ");

@@ -1,5 +1,5 @@
-//! The comparison passes a library that judges parameters as the oracle does, and finds those whose check that follows the
-//! operators document is wrong.
+//! The comparison passes a library that judges parameters as the oracle does, and finds those whose check that follows
+//! the operators document is wrong.
 
 use crate::standin::{self, operators};
 use compare::operators::{compare, Sizes};

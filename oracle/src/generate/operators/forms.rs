@@ -16,7 +16,7 @@ const SCALARS: &[Form] = &[
     (Scalar, "010161 0b0166010300 0101"),
 ];
 
-/// `ln(0)`, which the literal exception excuses, a call of `scalar` that carries a vector, and a whole limitk among them.
+/// `ln(0)`, which the literal exception excuses, a call of `scalar` that carries a vector and a whole limitk among them.
 #[rustfmt::skip]
 const VECTORS: &[Form] = &[
     (Vector, "0202757000"), (Vector, "0202757000 08"), (Vector, "0202757000 07"), (Vector, "0202757000 0501"),
