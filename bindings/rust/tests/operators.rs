@@ -5,6 +5,7 @@ mod support;
 
 use sandzguli::page::{Code, Function, LabelModifier, Page, Record};
 use sandzguli::{check, check_operators, check_table, Kind, Refusal, Rule};
+use std::collections::BTreeSet;
 
 const LIMITS: [Code; 2] = [Code::Limitk, Code::LimitRatio];
 
@@ -65,6 +66,25 @@ fn the_kept_list_is_judged_by_check_alone() {
         refused += usize::from(unlike.is_some());
     }
     assert!(refused > 400, "{refused}");
+}
+
+/// Every rule but those of buffers and of the function table occurs on the kept list.
+#[test]
+fn the_operators_check_has_one_rule_more_than_check() {
+    let mut seen = BTreeSet::new();
+    for entry in support::entries() {
+        let outcome = check_operators(&entry.page);
+        seen.insert(outcome.map_or_else(|refusal| refusal.number(), |_| 0));
+    }
+    let numbers = Rule::ALL.iter().map(|rule| rule.number());
+    let never = [
+        Rule::OutputTooShort,
+        Rule::UnknownFunction,
+        Rule::UnlikeSignature,
+    ]
+    .map(Rule::number);
+    let possible = numbers.filter(|number| !never.contains(number));
+    assert!(seen.into_iter().eq([0].into_iter().chain(possible)));
 }
 
 /// An expression of each kind, by a record of its own and by a call that carries it, bare and in brackets.
