@@ -1,11 +1,11 @@
 /* Sandzguli: PromQL queries as byte pages, checked and printed.
  *
- * A page holds a query as records in postfix order. Five calls take any byte string as a page and need no check before
- * them: check, check with the function table, copy, canonical text, split text. Each answers with one word: the kind of
- * the query and the count of bytes written, or why the page is refused and the index of the record that breaks the
- * rule, counted from 0. A sixth call finds the label of refusal 19. Two more take no page: one tells the flag of a
- * pattern, one writes the signature of a function. Names of kinds and refusals, and the version, need neither.
- * docs/REFUSALS.md has an example page for each refusal.
+ * A page holds a query as records in postfix order. Six calls take any byte string as a page and need no check before
+ * them: check, check with the function table, check as the operators document asks, copy, canonical text, split text.
+ * Each answers with one word: the kind of the query and the count of bytes written, or why the page is refused and the
+ * index of the record that breaks the rule, counted from 0. A seventh call finds the label of refusal 19. Two more take
+ * no page: one tells the flag of a pattern, one writes the signature of a function. Names of kinds and refusals, and
+ * the version, need neither. docs/REFUSALS.md has an example page for each refusal.
  *
  * String literals, labels, and the names and values of matchers may hold UTF-8 (RFC 3629). Where they are ill-formed,
  * as those that end inside a character, they are refused with 4; so are metric and function names that are no ASCII
@@ -26,10 +26,13 @@
  * true. sandzguli_pattern tells the flag of a covered pattern, and which patterns are not covered.
  *
  * A call record carries the signature of its function: the kinds of its arguments, its extra and the kind of its
- * result. Check, copy and both texts believe it. sandzguli_check_table does not: it asks the function table, which is
+ * result. All calls on a page but one believe it. sandzguli_check_table does not: it asks the function table, which is
  * that of the Rust crate promql-parser (`FUNCTIONS` in function.rs, 91 names), and refuses a name that is not in it
  * with 37, a signature unlike the table's with 38. sandzguli_signature writes the table's signature of a name, so that
  * nobody writes one by hand.
+ *
+ * limitk and limit_ratio take a parameter, the first of their two arguments. All calls but one let it be of any kind,
+ * as the Rust crate does. sandzguli_check_operators does not: it refuses one that is no scalar with 42.
  *
  * Page, pattern and name are only read. They may be at any address; NULL is allowed where the length is 0.
  *
@@ -42,8 +45,8 @@
  *
  * Refusal 5 (the lent buffer is too short) is tested last, and a longer buffer then lets the call pass. Of pages only
  * those that check accepts are refused with it, with the number of their records as index; names and signatures that do
- * not fit have the index 0. All calls otherwise agree on a page's kind, or refusal and record, but for the two refusals
- * that sandzguli_check_table has alone: 37 and 38.
+ * not fit have the index 0. All calls otherwise agree on a page's kind, or refusal and record, but for the refusals
+ * that one check has alone: 37 and 38 sandzguli_check_table, 42 sandzguli_check_operators.
  *
  * How long a buffer must be: SANDZGULI_COPY_BYTES hold every copy, SANDZGULI_CANONICAL_BYTES every canonical text,
  * SANDZGULI_NAME_BYTES every name and SANDZGULI_SIGNATURE_BYTES every signature (all proved). Canonical text is written
@@ -71,7 +74,7 @@ extern "C" {
 
 /* The version of this header. sandzguli_version tells that of the archive, as one number of the same form. */
 #define SANDZGULI_VERSION_MAJOR 0
-#define SANDZGULI_VERSION_MINOR 4
+#define SANDZGULI_VERSION_MINOR 5
 #define SANDZGULI_VERSION_PATCH 0
 #define SANDZGULI_VERSION \
     (SANDZGULI_VERSION_MAJOR * 65536 + SANDZGULI_VERSION_MINOR * 256 + SANDZGULI_VERSION_PATCH)
@@ -116,10 +119,10 @@ enum sandzguli_kind {
     SANDZGULI_STRING = 3
 };
 
-/* Why a call refuses, each with its name; 35, 36, 39 and 40 are no refusals. Of the five calls on a page only those
- * that write give 5, and only sandzguli_check_table gives 37 and 38, and not 29; all others are given by all of them.
- * sandzguli_signature gives 5 and 37. An archive that is newer than this header may have more refusals:
- * sandzguli_refusal_name has their names. */
+/* Why a call refuses, each with its name; 35, 36, 39 and 40 are no refusals. Of the six calls on a page only those that
+ * write give 5, only sandzguli_check_table gives 37 and 38, and not 29, and only sandzguli_check_operators gives 42;
+ * all others are given by all of them. sandzguli_signature gives 5 and 37. An archive that is newer than this header
+ * may have more refusals: sandzguli_refusal_name has their names. */
 enum sandzguli_refusal {
     SANDZGULI_BAD_FIELD = 1,                /* record cut short, bad number or code */
     SANDZGULI_OPERANDS_MISSING = 2,         /* operands missing, or not one expression at the end */
@@ -157,7 +160,8 @@ enum sandzguli_refusal {
     SANDZGULI_EMPTY_SELECTOR = 34,          /* no name, and no matcher or only ones that accept empty text */
     SANDZGULI_UNKNOWN_FUNCTION = 37,        /* a function that the table does not have */
     SANDZGULI_UNLIKE_SIGNATURE = 38,        /* a signature unlike the function table's */
-    SANDZGULI_WRONG_FLAG = 41               /* the flag of a pattern is wrong: 1 if it matches empty text, else 0 */
+    SANDZGULI_WRONG_FLAG = 41,              /* the flag of a pattern is wrong: 1 if it matches empty text, else 0 */
+    SANDZGULI_LIMIT_PARAMETER = 42          /* the parameter of limitk or limit_ratio is no scalar */
 };
 
 /* What sandzguli_pattern answers. The first two are the flag that stands beside the pattern on a page. */
@@ -180,6 +184,15 @@ sandzguli_outcome sandzguli_check(const uint8_t *page, size_t page_len);
  * check refuses with it at the same record. That number is not 29: functions of the table that declare no kinds are
  * fixed. */
 sandzguli_outcome sandzguli_check_table(const uint8_t *page, size_t page_len);
+
+/* As sandzguli_check, and as the operators document asks: the parameter of limitk and limit_ratio is a scalar. Refused
+ * with 42 (SANDZGULI_LIMIT_PARAMETER) where it is a vector, a matrix or a string, by its kind and not by what it is: a
+ * number in brackets, an addition of numbers and a call that carries a scalar as its result all pass. 42 is asked when
+ * check has nothing against the record, so after 25. The first record that is refused decides.
+ *
+ * A page that passes, check accepts with the same kind. A page that is refused with another number than 42, check
+ * refuses with it at the same record. The function table is not asked. */
+sandzguli_outcome sandzguli_check_operators(const uint8_t *page, size_t page_len);
 
 /* The page of the checked query: numbers under unary records negated, set operators many-to-many, @ before offset
  * wherever both are set on one expression. All else is as on the page, in its order. A copy of at most

@@ -26,6 +26,7 @@ static void test_null(void) {
     expect(is_refused_with(sandzguli_canonical(NULL, 0, NULL, 0), SANDZGULI_OPERANDS_MISSING, 0), "canonical takes NULL");
     expect(is_refused_with(sandzguli_split(NULL, 0, NULL, 0), SANDZGULI_OPERANDS_MISSING, 0), "split takes NULL");
     expect(is_refused_with(sandzguli_check_table(NULL, 0), SANDZGULI_OPERANDS_MISSING, 0), "check_table too");
+    expect(is_refused_with(sandzguli_check_operators(NULL, 0), SANDZGULI_OPERANDS_MISSING, 0), "check_operators too");
     expect(is_refused_with(sandzguli_signature(NULL, 0, NULL, 0), SANDZGULI_UNKNOWN_FUNCTION, 0), "signature too");
     expect(sandzguli_joint_label(NULL, 0) == 0, "joint_label takes NULL");
     expect(sandzguli_pattern(NULL, 0) == SANDZGULI_PATTERN_MATCHES_EMPTY, "pattern takes NULL, as the empty pattern");
@@ -181,6 +182,31 @@ static void test_table(void) {
     expect(is_refused_with(sandzguli_check_table(call, call_len), SANDZGULI_PAST_LIMIT, 0), "fields come before 37");
 }
 
+/* `limitk("a", up)` passes check and prints, and is refused with 42 by the other check; so is `limit_ratio`. Before it
+ * come 25, where the operand is a string too, and 2, without an operand; `topk` is refused with 25 by both. Then comes
+ * `limitk` of a number in brackets, which both take. */
+static void test_operators(void) {
+    uint8_t page[] = {0x01, 0x01, 'a', 0x02, 0x02, 'u', 'p', 0x00, 0x0a, 0x1d, 0x00, 0x02, 0x63};
+    const uint8_t strings[] = {0x01, 0x01, 'a', 0x01, 0x01, 'b', 0x0a, 0x1d, 0x00, 0x02};
+    const uint8_t alone[] = {0x01, 0x01, 'a', 0x0a, 0x1d, 0x00, 0x02};
+    const uint8_t number[] = {0x00, 0x00, 0x01, 0x08, 0x02, 0x02, 'u', 'p', 0x00, 0x0a, 0x1d, 0x00, 0x02};
+    uint8_t *code = &page[9], out[32];
+    size_t length = sizeof page - 1;
+    expect(sandzguli_check(page, length) == SANDZGULI_VECTOR, "check takes a parameter of any kind");
+    expect(sandzguli_check_table(page, length) == SANDZGULI_VECTOR, "and so does check_table");
+    expect(sandzguli_written(sandzguli_canonical(page, length, out, sizeof out)) == 15, "and canonical text");
+    expect(is_refused_with(sandzguli_check_operators(page, length), SANDZGULI_LIMIT_PARAMETER, 2), "42 at limitk");
+    expect(is_refused_with(sandzguli_check(page, sizeof page), SANDZGULI_BAD_FIELD, 3), "byte 99 is no record");
+    expect(is_refused_with(sandzguli_check_operators(page, sizeof page), SANDZGULI_LIMIT_PARAMETER, 2), "42 first");
+    *code = 0x1e;
+    expect(is_refused_with(sandzguli_check_operators(page, length), SANDZGULI_LIMIT_PARAMETER, 2), "42 at limit_ratio");
+    *code = 0x1c;
+    expect(is_refused_with(sandzguli_check_operators(page, length), SANDZGULI_AGGREGATE_KIND, 2), "25 at topk");
+    expect(is_refused_with(sandzguli_check_operators(strings, sizeof strings), SANDZGULI_AGGREGATE_KIND, 2), "25 first");
+    expect(is_refused_with(sandzguli_check_operators(alone, sizeof alone), SANDZGULI_OPERANDS_MISSING, 1), "2 first");
+    expect(sandzguli_check_operators(number, sizeof number) == SANDZGULI_VECTOR, "a scalar passes");
+}
+
 /* A name in memory of exactly its length, and what the library answers, with so many bytes lent. */
 static sandzguli_outcome signature_of(const char *name, uint8_t *out, size_t out_len) {
     size_t length = strlen(name);
@@ -266,13 +292,14 @@ static void test_names(void) {
     test_name(sandzguli_refusal_name, SANDZGULI_UNLIKE_SIGNATURE, "a signature unlike the function table's");
     test_name(sandzguli_refusal_name, SANDZGULI_WRONG_FLAG,
               "the flag of a pattern is wrong: 1 if it matches empty text, else 0");
+    test_name(sandzguli_refusal_name, SANDZGULI_LIMIT_PARAMETER, "the parameter of limitk or limit_ratio is no scalar");
     test_no_name(sandzguli_kind_name, 4);
     test_no_name(sandzguli_refusal_name, 0);
     test_no_name(sandzguli_refusal_name, 35);
     test_no_name(sandzguli_refusal_name, 36);
     test_no_name(sandzguli_refusal_name, 39);
     test_no_name(sandzguli_refusal_name, 40);
-    test_no_name(sandzguli_refusal_name, 42);
+    test_no_name(sandzguli_refusal_name, 43);
     test_no_name(sandzguli_refusal_name, 255);
     test_no_name(sandzguli_refusal_name, UINT64_MAX);
     expect(is_refused_with(sandzguli_refusal_name(1, NULL, 0), SANDZGULI_OUTPUT_TOO_SHORT, 0), "a name needs room");
@@ -305,6 +332,7 @@ int main(void) {
     test_patterns();
     test_flag();
     test_table();
+    test_operators();
     test_signatures();
     test_longest_page();
     test_names();

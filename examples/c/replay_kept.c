@@ -1,7 +1,8 @@
 /* The calls on every page of the kept list (standard input), held against the answers there; the check with the
- * function table against its words, and the call for signatures on names (oracle/KEPT.md):
+ * function table and the one that follows the operators document against their words, and the call for signatures on
+ * names (oracle/KEPT.md):
  *
- *     replay_kept oracle/kept/table oracle/kept/signatures <crates/vectors/stdin */
+ *     replay_kept oracle/kept/table oracle/kept/operators oracle/kept/signatures <crates/vectors/stdin */
 #include "kept_list.h"
 #include "sandzguli.h"
 
@@ -59,12 +60,19 @@ static void replay_writing(const struct entry *entry, writes *call, const struct
     }
 }
 
-static void replay(const struct entry *entry, uint64_t table_word, size_t index) {
+/* The words of the added checks. */
+struct words {
+    uint64_t table;
+    uint64_t operators;
+};
+
+static void replay(const struct entry *entry, struct words words, size_t index) {
     const struct part *page = &entry->page;
     expect(sandzguli_check(page->bytes, page->length) == entry->word, "the word of check", index);
-    expect(sandzguli_check_table(page->bytes, page->length) == table_word, "the word of check_table", index);
+    expect(sandzguli_check_table(page->bytes, page->length) == words.table, "the word of check_table", index);
+    expect(sandzguli_check_operators(page->bytes, page->length) == words.operators, "of check_operators", index);
     expect(sandzguli_joint_label(page->bytes, page->length) == entry->label, "the label of 19", index);
-    calls += 3;
+    calls += 4;
     replay_writing(entry, sandzguli_copy, &entry->copy, index);
     replay_writing(entry, sandzguli_canonical, &entry->canonical, index);
     replay_writing(entry, sandzguli_split, &entry->split, index);
@@ -106,15 +114,16 @@ static size_t replay_signatures(FILE *list) {
     return index;
 }
 
-static size_t replay_pages(FILE *list, FILE *table) {
+static size_t replay_pages(FILE *list, FILE *table, FILE *operators) {
     size_t index = 0;
     while (!is_at_end(list)) {
         struct entry entry = read_entry(list);
-        replay(&entry, read_little_endian(table, 8), index);
+        struct words words = {read_little_endian(table, 8), read_little_endian(operators, 8)};
+        replay(&entry, words, index);
         free_entry(&entry);
         index++;
     }
-    expect(is_at_end(table), "as many words as pages", index);
+    expect(is_at_end(table) && is_at_end(operators), "as many words as pages", index);
     return index;
 }
 
@@ -128,15 +137,17 @@ static FILE *opened(const char *path) {
 }
 
 int main(int count, char **words) {
-    if (count != 3) {
-        fprintf(stderr, "usage: replay_kept TABLE SIGNATURES <LIST\n");
+    if (count != 4) {
+        fprintf(stderr, "usage: replay_kept TABLE OPERATORS SIGNATURES <LIST\n");
         return EXIT_FAILURE;
     }
     FILE *table = opened(words[1]);
-    FILE *signatures = opened(words[2]);
-    size_t pages = replay_pages(stdin, table);
+    FILE *operators = opened(words[2]);
+    FILE *signatures = opened(words[3]);
+    size_t pages = replay_pages(stdin, table, operators);
     size_t names = replay_signatures(signatures);
     fclose(table);
+    fclose(operators);
     fclose(signatures);
     printf("%zu pages, %zu names, %zu calls: as the list has it\n", pages, names, calls);
     return pages == 0 || names == 0;

@@ -43,6 +43,11 @@ static sandzguli_outcome check_table(const uint8_t *page, size_t page_len, uint8
     return sandzguli_check_table(page, page_len);
 }
 
+static sandzguli_outcome check_operators(const uint8_t *page, size_t page_len, uint8_t *out, size_t out_len) {
+    (void)out, (void)out_len;
+    return sandzguli_check_operators(page, page_len);
+}
+
 static sandzguli_outcome joint_label(const uint8_t *page, size_t page_len, uint8_t *out, size_t out_len) {
     (void)out, (void)out_len;
     return sandzguli_joint_label(page, page_len);
@@ -227,9 +232,10 @@ static void add_kept(void) {
 
 int main(void) {
     const struct { const char *name; call *each; } calls[] = {
-        {"check", check}, {"check_table", check_table}, {"joint_label", joint_label}, {"copy", sandzguli_copy},
-        {"canonical", sandzguli_canonical}, {"split", sandzguli_split}, {"pattern", pattern},
-        {"signature", sandzguli_signature}, {"kind_name", kind_name}, {"refusal_name", refusal_name},
+        {"check", check}, {"check_table", check_table}, {"check_operators", check_operators},
+        {"joint_label", joint_label}, {"copy", sandzguli_copy}, {"canonical", sandzguli_canonical},
+        {"split", sandzguli_split}, {"pattern", pattern}, {"signature", sandzguli_signature},
+        {"kind_name", kind_name}, {"refusal_name", refusal_name},
     };
     add_kept();
     add_deepest();
@@ -244,7 +250,7 @@ int main(void) {
     printf("%zu pages; a call that uses %d bytes: %zu\n", page_count, KNOWN_BYTES, measured);
     for (size_t index = 0; index < sizeof calls / sizeof *calls; index++) {
         size_t bytes = used(calls[index].each);
-        printf("%-12s %8zu bytes\n", calls[index].name, bytes);
+        printf("%-15s %8zu bytes\n", calls[index].name, bytes);
         expect(bytes <= SANDZGULI_STACK_BYTES, "the header's bytes of stack are enough");
     }
     return 0;

@@ -6,7 +6,7 @@ use crate::functions::{names as table_names, spelling};
 use crate::generate::stream::{self, Sample};
 use crate::generate::{
     bytes, counted_bytes, damaged, fault, fractions, functions, good, ill_formed, long_texts,
-    patterns, times, well_formed, Scope,
+    operators, patterns, times, well_formed, Scope,
 };
 use crate::random::Random;
 use std::collections::HashSet;
@@ -16,6 +16,9 @@ pub const PATH: &str = concat!(env!("CARGO_MANIFEST_DIR"), "/../crates/vectors/s
 
 /// Where the words of the check with the function table lie, in the list's order.
 pub const TABLE_PATH: &str = concat!(env!("CARGO_MANIFEST_DIR"), "/kept/table");
+
+/// Where the words of the check that follows the operators document lie, in the list's order.
+pub const OPERATORS_PATH: &str = concat!(env!("CARGO_MANIFEST_DIR"), "/kept/operators");
 
 /// Where names lie with the answers of the call for signatures.
 pub const SIGNATURES_PATH: &str = concat!(env!("CARGO_MANIFEST_DIR"), "/kept/signatures");
@@ -29,8 +32,8 @@ const MAX_SPLIT: usize = 65_536;
 const MAX_SIGNATURE: usize = 8;
 
 /// The pages in order: chosen ones first, then generated ones, those about flags, those with @ and offset, those with
-/// calls of the function table; each with whether it may be outside document 01's domain. Of those about flags some
-/// are: No. 7 of document 02 says that they are believed.
+/// calls of the function table, those with limitk and limit_ratio; each with whether it may be outside document 01's
+/// domain. Of those about flags some are: No. 7 of document 02 says that they are believed.
 fn pages() -> impl Iterator<Item = (Vec<u8>, bool)> {
     let mut random = Random::new(SEED);
     let inside = stream::fixed()
@@ -41,7 +44,10 @@ fn pages() -> impl Iterator<Item = (Vec<u8>, bool)> {
     let timed = timed(&mut random).into_iter().map(|page| (page, false));
     let tabled = (0..300).map(|_| functions::random(&mut random).page);
     let tabled: Vec<_> = tabled.map(|page| (page, false)).collect();
-    inside.chain(flagged).chain(timed).chain(tabled)
+    let limited = (0..300).map(|_| operators::random(&mut random).page);
+    let limited: Vec<_> = limited.map(|page| (page, false)).collect();
+    let added = tabled.into_iter().chain(limited);
+    inside.chain(flagged).chain(timed).chain(added)
 }
 
 /// Pages of ASCII first, then pages with characters beyond it, then with fractions too, then with covered patterns.
@@ -172,7 +178,16 @@ pub fn list(entries: &[Entry]) -> Vec<u8> {
 
 /// The words of the check with the function table, a word for each entry.
 pub fn table(entries: &[Entry]) -> Vec<u8> {
-    let words = entries.iter().map(|(_, answer)| answer.table.word(0));
+    words(entries, |answer| answer.table)
+}
+
+/// The words of the check that follows the operators document, a word for each entry.
+pub fn operators(entries: &[Entry]) -> Vec<u8> {
+    words(entries, |answer| answer.operators)
+}
+
+fn words(entries: &[Entry], outcome: fn(&Answer) -> Outcome) -> Vec<u8> {
+    let words = entries.iter().map(|(_, answer)| outcome(answer).word(0));
     words.flat_map(u64::to_le_bytes).collect()
 }
 

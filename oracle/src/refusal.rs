@@ -9,6 +9,10 @@ pub const UNKNOWN_FUNCTION: u8 = 37;
 /// A call's signature is unlike the function table's (document 02, No. 2): of the check with the table alone.
 pub const UNLIKE_SIGNATURE: u8 = 38;
 
+/// The parameter of limitk or limit_ratio is no scalar (document 02, No. 8): of the check that follows the operators
+/// document alone. The Rust takes any kind there, and so has no message.
+pub const LIMIT_PARAMETER: u8 = 42;
+
 /// The numbers of document 01's calls: its own, and what document 02 has added to them so far.
 pub fn of_calls() -> impl Iterator<Item = u8> {
     (1..=34).chain([WRONG_FLAG])
@@ -21,9 +25,21 @@ pub fn of_table_check() -> impl Iterator<Item = u8> {
     of_check.chain([UNKNOWN_FUNCTION, UNLIKE_SIGNATURE])
 }
 
+/// The numbers of the check that follows the operators document, 42 behind the others. 5 is for buffers.
+pub fn of_operators_check() -> impl Iterator<Item = u8> {
+    let of_check = of_calls().filter(|number| *number != 5);
+    of_check.chain([LIMIT_PARAMETER])
+}
+
 /// All numbers that there are, ascending.
 pub fn numbers() -> impl Iterator<Item = u8> {
-    (1..=34).chain([UNKNOWN_FUNCTION, UNLIKE_SIGNATURE, WRONG_FLAG])
+    let added = [
+        UNKNOWN_FUNCTION,
+        UNLIKE_SIGNATURE,
+        WRONG_FLAG,
+        LIMIT_PARAMETER,
+    ];
+    (1..=34).chain(added)
 }
 
 /// Where a message came from: a record's constructor, or `check_ast` of what it built.

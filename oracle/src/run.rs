@@ -29,6 +29,7 @@ fn judge(sample: &Sample, coverage: &mut Coverage) -> Result<(), String> {
     for (made_for, outcome) in [
         (sample.expected, answer.outcome),
         (sample.table, answer.table),
+        (sample.operators, answer.operators),
     ] {
         if let Some(expected) = made_for.filter(|expected| *expected != outcome) {
             return Err(blamed(format!("made for {expected:?}, got {outcome:?}")));

@@ -5,8 +5,8 @@ use oracle::answer::{self, Answer, Outcome, Worked};
 use oracle::functions::near::{self, Unlike};
 use oracle::functions::spelling::{near_unknown, strangers};
 use oracle::functions::{self, names, signatures};
-use oracle::generate::functions::{fixed, nested_abs, random, Tabled};
-use oracle::generate::stream;
+use oracle::generate::functions::{fixed, nested_abs, random};
+use oracle::generate::{stream, Made};
 use oracle::hex;
 use oracle::page::record::{Extra, Kind, Record, Signature, Text};
 use oracle::page::write;
@@ -73,9 +73,9 @@ fn the_table_has_the_sizes_that_are_told() {
 #[test]
 fn generated_pages_have_their_outcome() {
     let random_pages = &mut Random::new(20);
-    let mut assert_made = |made: Tabled| {
+    let mut assert_made = |made: Made| {
         let page = &made.page;
-        assert_eq!(answer(page).table, made.table, "{}", hex::text(page));
+        assert_eq!(answer(page).table, made.expected, "{}", hex::text(page));
     };
     fixed().for_each(&mut assert_made);
     (0..20_000).for_each(|_| assert_made(random(random_pages)));

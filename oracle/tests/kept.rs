@@ -5,7 +5,7 @@ use oracle::coverage::Coverage;
 use oracle::generate::{
     self, counted_bytes, fractions, ill_formed, patterns, times, well_formed, Made,
 };
-use oracle::{chosen, functions, kept};
+use oracle::{chosen, functions, hex, kept};
 use std::collections::HashSet;
 
 #[test]
@@ -13,9 +13,14 @@ fn the_list_is_the_oracles() {
     let kept = std::fs::read(kept::PATH).expect("the list is there");
     let made = kept::entries().expect("the Rust is foreseen");
     assert!(kept == kept::list(&made), "write it again: oracle keep");
-    let table = std::fs::read(kept::TABLE_PATH).expect("the words are there");
-    assert!(table == kept::table(&made), "write it again: oracle keep");
-    assert_eq!(table.len(), 8 * made.len());
+    for (path, words) in [
+        (kept::TABLE_PATH, kept::table(&made)),
+        (kept::OPERATORS_PATH, kept::operators(&made)),
+    ] {
+        let kept = std::fs::read(path).expect("the words are there");
+        assert!(kept == words, "write it again: oracle keep");
+        assert_eq!(kept.len(), 8 * made.len());
+    }
 }
 
 #[test]
@@ -49,7 +54,10 @@ fn assert_pages_kept(pages: impl Iterator<Item = Vec<u8>>, least: usize) {
     let entries = kept::entries().expect("the Rust is foreseen");
     let kept: HashSet<_> = entries.into_iter().map(|(page, _)| page).collect();
     let pages: Vec<_> = pages.collect();
-    assert!(pages.len() > least && pages.iter().all(|page| kept.contains(page)));
+    assert!(pages.len() > least, "{} pages", pages.len());
+    for page in &pages {
+        assert!(kept.contains(page), "{}", hex::text(page));
+    }
 }
 
 /// Towns, whole and ill-formed.
@@ -90,4 +98,13 @@ fn the_list_has_the_functions() {
     let is_short = |page: &Vec<u8>| page.len() < 1000;
     let chosen = chosen::of_functions().iter().map(|row| row.bytes());
     assert_pages_kept(chosen.filter(is_short), 30);
+}
+
+/// limitk and limit_ratio with parameters and operands of every kind, and beside other faults.
+#[test]
+fn the_list_has_the_limits() {
+    let pages = generate::operators::fixed().map(|made| made.page);
+    assert_pages_kept(pages, 500);
+    let chosen = chosen::of_operators().iter().map(|row| row.bytes());
+    assert_pages_kept(chosen, 30);
 }

@@ -2,12 +2,13 @@
 //! table of refusals has.
 
 use oracle::answer::{self, Outcome};
-use oracle::refusal::{self, UNKNOWN_FUNCTION, UNLIKE_SIGNATURE};
+use oracle::refusal::{self, LIMIT_PARAMETER, UNKNOWN_FUNCTION, UNLIKE_SIGNATURE};
 use oracle::{chosen, hex};
 
 const DOCUMENT: &str = include_str!("../../docs/REFUSALS.md");
 const DEFINITIONS: &str = include_str!("../../crates/ast/specs/RefusalTable.antt");
 const OF_TABLE_DEFINED: &str = include_str!("../../crates/functions/specs/TablePages.antt");
+const OF_OPERATORS_DEFINED: &str = include_str!("../../crates/ast/specs/LimitPages.antt");
 
 /// The numbers that document 01's calls do not give: they are of the check with the function table.
 const OF_TABLE: [u8; 2] = [UNKNOWN_FUNCTION, UNLIKE_SIGNATURE];
@@ -43,11 +44,13 @@ fn told() -> Vec<Row> {
     DOCUMENT.lines().filter_map(row).collect()
 }
 
-/// The rows of the definitions' tables: `row 6 1 (text ++ hex "07")`, and `isRefused 37 1 (hex "..")` of the check with
-/// the function table.
+/// The rows of the definitions' tables: `row 6 1 (text ++ hex "07")`, and `isRefused 37 1 (hex "..")` of the added
+/// checks.
 fn defined() -> Vec<Row> {
-    let document_01 = rows_of(DEFINITIONS, "∷ ", "row ");
-    let mut rows = [document_01, rows_of(OF_TABLE_DEFINED, "&& ", "isRefused ")].concat();
+    let mut rows = rows_of(DEFINITIONS, "∷ ", "row ");
+    for added in [OF_TABLE_DEFINED, OF_OPERATORS_DEFINED] {
+        rows.extend(rows_of(added, "&& ", "isRefused "));
+    }
     rows.sort_by_key(|row| row.number);
     rows
 }
@@ -113,9 +116,10 @@ fn the_document_has_the_oracles_answers() {
             number: row.number,
             record: row.record,
         };
-        let outcome = match OF_TABLE.contains(&row.number) {
-            true => answer.table,
-            false => answer.outcome_lent(&answer.canonical, 1),
+        let outcome = match row.number {
+            UNKNOWN_FUNCTION | UNLIKE_SIGNATURE => answer.table,
+            LIMIT_PARAMETER => answer.operators,
+            _ => answer.outcome_lent(&answer.canonical, 1),
         };
         assert_eq!(outcome, expected);
     }
@@ -133,13 +137,23 @@ fn the_document_has_the_chosen_pages() {
     );
 }
 
-/// Which numbers the check with the function table gives, and which it alone.
+/// The numbers in order.
+fn sorted(numbers: impl IntoIterator<Item = u8>) -> Vec<u8> {
+    let mut numbers: Vec<u8> = numbers.into_iter().collect();
+    numbers.sort();
+    numbers
+}
+
+/// Which numbers each added check gives, and which it alone.
 #[test]
 fn the_document_has_the_calls_of_each_number() {
     assert_eq!(given_by("table check"), OF_TABLE);
-    let mut by_table = [given_by("all"), given_by("table check")].concat();
-    by_table.sort();
-    let mut numbers: Vec<u8> = refusal::of_table_check().collect();
-    numbers.sort();
-    assert_eq!(by_table, numbers);
+    let by_table = [given_by("all"), given_by("table check")].concat();
+    assert_eq!(sorted(by_table), sorted(refusal::of_table_check()));
+    assert_eq!(given_by("operators check"), [LIMIT_PARAMETER]);
+    let by_operators = ["all", "all but table check", "operators check"].map(given_by);
+    assert_eq!(
+        sorted(by_operators.concat()),
+        sorted(refusal::of_operators_check())
+    );
 }

@@ -1,5 +1,5 @@
-//! The library's calls as safe functions: both checks, the label of 19, the copy, and what all calls share. Unsafe are
-//! the calls themselves, and that the label is taken as UTF-8 without a test.
+//! The library's calls as safe functions: the three checks, the label of 19, the copy, and what all calls share. Unsafe
+//! are the calls themselves, and that the label is taken as UTF-8 without a test.
 
 use crate::{Kind, Refusal, Rule, COPY_BYTES};
 use std::str::{from_utf8, from_utf8_unchecked};
@@ -7,6 +7,7 @@ use std::str::{from_utf8, from_utf8_unchecked};
 extern "C" {
     fn sandzguli_check(page: *const u8, page_len: usize) -> u64;
     fn sandzguli_check_table(page: *const u8, page_len: usize) -> u64;
+    fn sandzguli_check_operators(page: *const u8, page_len: usize) -> u64;
     fn sandzguli_joint_label(page: *const u8, page_len: usize) -> u64;
     fn sandzguli_copy(page: *const u8, page_len: usize, out: *mut u8, out_len: usize) -> u64;
 }
@@ -102,6 +103,32 @@ pub fn check(page: &[u8]) -> Result<Kind, Refusal> {
 /// ```
 pub fn check_table(page: &[u8]) -> Result<Kind, Refusal> {
     outcome(asked(sandzguli_check_table, page)).map(|written| written.kind)
+}
+
+/// [`check`] as the operators document asks: a `limitk` or `limit_ratio` whose parameter, the first of its two
+/// arguments, is no scalar is refused with [`Rule::LimitParameter`]. [`check`] takes a parameter of any kind there, as
+/// the Rust crate promql-parser does.
+///
+/// The kind decides, not what the parameter is. The rule is asked when [`check`] has nothing against the record, so
+/// after [`Rule::AggregateKind`]; the first record that is refused decides. A page that passes, [`check`] accepts with
+/// the same kind (proved: `limit-accepted`). A page that is refused with another rule, [`check`] refuses with it at the
+/// same record (`limit-refused`). The function table is not asked.
+///
+/// ```
+/// use sandzguli::page::{Code, LabelModifier, Page, Record};
+/// use sandzguli::{Kind, Refusal, Rule};
+///
+/// let [up, limit] = [Record::selector("up", []), Record::aggregate(Code::Limitk, LabelModifier::None, 2)];
+/// let page = Page::from([Record::string("a"), up.clone(), limit.clone()]).to_bytes();
+/// assert_eq!(sandzguli::canonical(&page).unwrap(), r#"limitk("a", up)"#);
+/// assert_eq!(sandzguli::check(&page), Ok(Kind::Vector));
+/// assert_eq!(sandzguli::check_operators(&page), Err(Refusal::new(Rule::LimitParameter, 2)));
+///
+/// let page = Page::from([Record::whole(1), Record::Paren, up, limit]).to_bytes();
+/// assert_eq!(sandzguli::check_operators(&page), Ok(Kind::Vector));
+/// ```
+pub fn check_operators(page: &[u8]) -> Result<Kind, Refusal> {
+    outcome(asked(sandzguli_check_operators, page)).map(|written| written.kind)
 }
 
 /// The label of a page refused with 19, as that part of the page: the first group label that is also in the on list. It

@@ -82,6 +82,9 @@
 //! assert_eq!(sandzguli::check_table(&page).unwrap_err().rule, Rule::UnlikeSignature);
 //! ```
 //!
+//! [`check_operators`] holds `limitk` and `limit_ratio` to the operators document of Prometheus: their parameter is a
+//! scalar. [`check`] and the texts take one of any kind.
+//!
 //! Two pages may be one query: [`same_query`] tells whether they are, by what [`copy`] writes of each. So a sheet of
 //! queries knows which it has already.
 //!
@@ -101,7 +104,7 @@ mod signature;
 mod size;
 mod text;
 
-pub use call::{check, check_table, copy, copy_into, joint_label, Written};
+pub use call::{check, check_operators, check_table, copy, copy_into, joint_label, Written};
 pub use kind::Kind;
 pub use name::{kind_name, kind_name_into, refusal_name, refusal_name_into, version};
 pub use pattern::matches_empty;

@@ -148,6 +148,8 @@ rules! {
     /// [`matches_empty`](crate::matches_empty) tells the right one, and [`Matcher::re`](crate::page::Matcher::re) sets
     /// it.
     41 WrongFlag "the flag of a pattern is wrong: 1 if it matches empty text, else 0",
+    /// Of [`check_operators`](crate::check_operators) only: by its kind, not by what it is.
+    42 LimitParameter "the parameter of limitk or limit_ratio is no scalar",
 }
 
 impl Rule {

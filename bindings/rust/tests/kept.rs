@@ -1,5 +1,5 @@
-//! The functions answer as the Rust does on the kept list, with the function table too, and on the names beside it; the
-//! list's records are read, and written as they stand there.
+//! The functions answer as the Rust does on the kept list, with the function table too and as the operators document
+//! asks, and on the names beside it; the list's records are read, and written as they stand there.
 
 mod support;
 
@@ -53,6 +53,20 @@ fn the_table_check_answers_as_the_list_has_it() {
         }
     }
     assert!(refused.iter().all(|count| *count > 500), "{refused:?}");
+}
+
+#[test]
+fn the_operators_check_answers_as_the_list_has_it() {
+    let mut refused = 0;
+    for entry in support::entries() {
+        let outcome = of_word(entry.operators);
+        assert_eq!(sandzguli::check_operators(&entry.page), outcome);
+        match outcome.map_err(|refusal| refusal.rule) {
+            Err(Rule::LimitParameter) => refused += 1,
+            _ => assert_eq!(entry.operators, entry.word),
+        }
+    }
+    assert!(refused > 400, "{refused}");
 }
 
 #[test]

@@ -66,9 +66,12 @@ fn rules_have_the_librarys_cases_and_numbers() {
 
 /// 35, 36, 39 and 40 are numbers of no rule yet.
 #[test]
-fn rules_have_the_numbers_1_to_34_and_37_38_and_41() {
+fn rules_have_the_numbers_1_to_34_and_37_38_41_and_42() {
     let numbers: Vec<_> = Rule::ALL.iter().map(|rule| rule.number()).collect();
-    assert_eq!(numbers, (1..=34).chain([37, 38, 41]).collect::<Vec<_>>());
+    assert_eq!(
+        numbers,
+        (1..=34).chain([37, 38, 41, 42]).collect::<Vec<_>>()
+    );
 }
 
 /// For every number that a word can hold, and some above.

@@ -142,13 +142,22 @@ fn patterns_have_their_words() {
 }
 
 #[test]
-fn pages_have_their_answers_of_the_table_check() {
-    for [page, answer] in rows(["Page", "Table check"]) {
-        let given = match sandzguli::check_table(&bytes(quoted(page)[0])) {
-            Ok(kind) => kind.to_string(),
-            Err(refusal) => refused(refusal),
-        };
-        assert_eq!(given, quoted(answer)[0], "{page}");
+fn pages_have_their_answers_of_the_added_checks() {
+    type Check = fn(&[u8]) -> Result<Kind, Refusal>;
+    let checks: [(&str, Check); 2] = [
+        ("Table check", sandzguli::check_table),
+        ("Operators check", sandzguli::check_operators),
+    ];
+    for (title, check) in checks {
+        let rows = rows(["Page", title]);
+        assert!(rows.len() > 10, "{title}");
+        for [page, answer] in rows {
+            let given = match check(&bytes(quoted(page)[0])) {
+                Ok(kind) => kind.to_string(),
+                Err(refusal) => refused(refusal),
+            };
+            assert_eq!(given, quoted(answer)[0], "{page}");
+        }
     }
 }
 

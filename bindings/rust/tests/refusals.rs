@@ -21,21 +21,24 @@ struct Row {
 struct Calls {
     check: bool,
     table_check: bool,
+    operators_check: bool,
     /// Copy, canonical text and split text.
     writing: bool,
 }
 
 fn calls(words: &str) -> Calls {
-    let (check, table_check, writing) = match words {
-        "all" => (true, true, true),
-        "all but both checks" => (false, false, true),
-        "all but table check" => (true, false, true),
-        "table check" => (false, true, false),
+    let (check, table_check, operators_check, writing) = match words {
+        "all" => (true, true, true, true),
+        "all but the checks" => (false, false, false, true),
+        "all but table check" => (true, false, true, true),
+        "table check" => (false, true, false, false),
+        "operators check" => (false, false, true, false),
         _ => panic!("{words}"),
     };
     Calls {
         check,
         table_check,
+        operators_check,
         writing,
     }
 }
@@ -104,6 +107,8 @@ fn every_page_is_refused_as_its_row_says() {
         assert_eq!(checked == Some(refusal), calls.check, "{rule:?}");
         let checked = sandzguli::check_table(&page).err();
         assert_eq!(checked == Some(refusal), calls.table_check, "{rule:?}");
+        let checked = sandzguli::check_operators(&page).err();
+        assert_eq!(checked == Some(refusal), calls.operators_check, "{rule:?}");
         for write in [
             sandzguli::copy_into,
             sandzguli::canonical_into,
@@ -117,18 +122,29 @@ fn every_page_is_refused_as_its_row_says() {
     }
 }
 
-/// Where a number is the table check's alone, check accepts the page; where it is the writing calls' alone, both do.
+/// Where a number is an added check's alone, check and the other one accept the page; where it is the writing calls'
+/// alone, all three do. The page of 29 is refused by the table check too, with another number.
 #[test]
 fn what_a_call_does_not_give_is_no_refusal_of_it() {
-    for row in DOCUMENT.lines().filter_map(row) {
-        let is_checked = sandzguli::check(&row.page).is_ok();
-        assert_eq!(is_checked, !row.calls.check, "{:?}", row.rule);
-        let is_listed = sandzguli::check_table(&row.page).is_ok();
+    for Row {
+        rule, page, calls, ..
+    } in DOCUMENT.lines().filter_map(row)
+    {
+        let checks = [
+            sandzguli::check,
+            sandzguli::check_table,
+            sandzguli::check_operators,
+        ];
+        let is_29 = rule == Rule::NoDeclaredKinds;
+        let expected = [
+            !calls.check,
+            !calls.table_check && !is_29,
+            !calls.operators_check,
+        ];
         assert_eq!(
-            is_listed,
-            row.rule == Rule::OutputTooShort,
-            "{:?}",
-            row.rule
+            checks.map(|check| check(&page).is_ok()),
+            expected,
+            "{rule:?}"
         );
     }
 }

@@ -30,7 +30,8 @@ pinned : T (
     && does (nameWritten (refusalName 39) (lent 5)) 0 (lent 5)
     && does (nameWritten (refusalName 40) []) 0 []
     && does (nameWritten (refusalName 41) []) (2 ^ 63 + 5 * 65536) []
-    && does (nameWritten (refusalName 42) []) 0 []
+    && does (nameWritten (refusalName 42) (lent 51)) 204 (bytes "the parameter of limitk or limit_ratio is no scalar")
+    && does (nameWritten (refusalName 43) (lent 5)) 0 (lent 5)
     && does (nameWritten (refusalName 255) []) 0 []
     && does (nameWritten (refusalName (2 ^ 64 - 1)) (lent 5)) 0 (lent 5)
     )
@@ -45,7 +46,7 @@ differ (t ∷ ts) = all (λ u. not (equal t u)) ts && differ ts
 abbrev named : List ℕ
 named =
     1 ∷ 2 ∷ 3 ∷ 4 ∷ 5 ∷ 6 ∷ 7 ∷ 8 ∷ 9 ∷ 10 ∷ 11 ∷ 12 ∷ 13 ∷ 14 ∷ 15 ∷ 16 ∷ 17
-    ∷ 18 ∷ 19 ∷ 20 ∷ 21 ∷ 22 ∷ 23 ∷ 24 ∷ 25 ∷ 26 ∷ 27 ∷ 28 ∷ 29 ∷ 30 ∷ 31 ∷ 32 ∷ 33 ∷ 34 ∷ 37 ∷ 38 ∷ 41 ∷ []
+    ∷ 18 ∷ 19 ∷ 20 ∷ 21 ∷ 22 ∷ 23 ∷ 24 ∷ 25 ∷ 26 ∷ 27 ∷ 28 ∷ 29 ∷ 30 ∷ 31 ∷ 32 ∷ 33 ∷ 34 ∷ 37 ∷ 38 ∷ 41 ∷ 42 ∷ []
 
 -- their names differ from each other and from that of 0, so that none of them is empty
 distinct : T (differ (map refusalName (0 ∷ named)))

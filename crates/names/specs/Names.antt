@@ -53,6 +53,7 @@ refusalNames =
     ∷ "a signature unlike the function table's"
     ∷ "" ∷ ""
     ∷ "the flag of a pattern is wrong: 1 if it matches empty text, else 0"
+    ∷ "the parameter of limitk or limit_ratio is no scalar"
     ∷ []
 
 -- the name of a number; empty where it has none

@@ -3,7 +3,7 @@ use crate::table::write_name;
 ghost use Rattle.names.specs.Names.{refusalName};
 ghost use Rattle.names.specs.Written.{nameWritten, DoesName};
 
-const LETTERS: [u8; 1373] = *b"\
+const LETTERS: [u8; 1424] = *b"\
     record cut short, bad number or code\
     operands missing, or not one expression at the end\
     a limit passed (page, records, text, list, count or time)\
@@ -40,9 +40,10 @@ const LETTERS: [u8; 1373] = *b"\
     no name, and no matcher or only ones that accept empty text\
     a function that the table does not have\
     a signature unlike the function table's\
-    the flag of a pattern is wrong: 1 if it matches empty text, else 0";
+    the flag of a pattern is wrong: 1 if it matches empty text, else 0\
+    the parameter of limitk or limit_ratio is no scalar";
 
-const STARTS: [u16; 43] = [
+const STARTS: [u16; 44] = [
     0,
     0,
     36,
@@ -86,6 +87,7 @@ const STARTS: [u16; 43] = [
     1307,
     1307,
     1373,
+    1424,
 ];
 
 pub fn refusal_name(number: u64, out: &mut [u8]) -> u64

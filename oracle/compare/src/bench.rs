@@ -14,7 +14,7 @@ use crate::clock::nanoseconds;
 use crate::ends;
 use crate::library::{Asks, Library, Writes};
 use oracle::answer::{self, Worked};
-use oracle::generate::{everyday, functions, nesting};
+use oracle::generate::{everyday, functions, nesting, operators};
 use oracle::page::record::Record;
 use oracle::random::Random;
 use oracle::tree::Ready;
@@ -46,6 +46,7 @@ pub fn print(library: &Library) {
         print_calls(library, &subject);
     }
     print_functions(library);
+    print_operators(library);
     print_nested("canonical", library.canonical);
     print_nested("split", library.split);
 }
@@ -61,6 +62,21 @@ fn print_functions(library: &Library) {
     let rust = || subject.built_from_records(Ready::looked_up);
     let (ours, rust) = subject.beside(|| subject.asked(library.check_table), rust);
     print_row("check_table, looked up", ours, Some(rust));
+}
+
+/// Check and the check that follows the operators document on 127 nested limits; the Rust has the first alone.
+fn print_operators(library: &Library) {
+    let pages = vec![operators::nested_limits(); 16];
+    let subject = Subject::new(&pages);
+    println!("127 nested limits, {} bytes", pages[0].len());
+    for (words, call) in [
+        ("check, from records", library.check),
+        ("check_operators, the same", library.check_operators),
+    ] {
+        let rust = || subject.built_from_records(|record| Ready::from(record));
+        let (ours, rust) = subject.beside(|| subject.asked(call), rust);
+        print_row(words, ours, Some(rust));
+    }
 }
 
 /// Pages of so many records.

@@ -4,7 +4,7 @@
 use crate::callgrind::{self, Profile};
 use crate::pattern_costs;
 use oracle::generate::fractions::fills;
-use oracle::generate::{functions, long_texts};
+use oracle::generate::{functions, long_texts, operators};
 use oracle::hex;
 use oracle::page::record::{Fraction, Number};
 use std::path::Path;
@@ -29,9 +29,12 @@ pub struct Set {
 /// The page of 255 nested calls of the function table.
 const NESTED: &str = "255 nested calls";
 
-/// All calls on pages of so many records; check on selectors with so many values of so many bytes; both checks on
-/// nested calls.
-pub const SETS: [Set; 3] = [
+/// The page of 127 nested limitk.
+const NESTED_LIMITS: &str = "127 nested limits";
+
+/// All calls on pages of so many records; check on selectors with so many values of so many bytes; check beside the one
+/// with the function table on nested calls; check beside the one that follows the operators document on nested limits.
+pub const SETS: [Set; 4] = [
     Set {
         calls: &["check", "copy", "canonical", "split"],
         pages: &["5", "40", "250"],
@@ -57,6 +60,11 @@ pub const SETS: [Set; 3] = [
         calls: &["check", "check_table"],
         pages: &[NESTED],
         tables: &[("Instructions, functions", |profile| profile.instructions)],
+    },
+    Set {
+        calls: &["check", "check_operators"],
+        pages: &["5", "40", NESTED_LIMITS],
+        tables: &[("Instructions, operators", |profile| profile.instructions)],
     },
 ];
 
@@ -93,10 +101,13 @@ fn filled(name: &str) -> Option<Vec<u8>> {
 }
 
 /// The pages of a column: of so many records, the one with so many patterns or values, the one with such fills, or the
-/// one of nested calls.
+/// one of nested calls or limits.
 pub fn pages(name: &str) -> Option<Vec<Vec<u8>>> {
     if name == NESTED {
         return Some(vec![functions::nested_abs()]);
+    }
+    if name == NESTED_LIMITS {
+        return Some(vec![operators::nested_limits()]);
     }
     if let Some(page) = pattern_costs::page(name) {
         return Some(vec![page]);

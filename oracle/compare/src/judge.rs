@@ -70,6 +70,8 @@ impl Judge {
         self.asks("check", self.library.check, lent, answer.outcome.word(0))?;
         let table = answer.table.word(0);
         self.asks("check_table", self.library.check_table, lent, table)?;
+        let (call, operators) = (self.library.check_operators, answer.operators.word(0));
+        self.asks("check_operators", call, lent, operators)?;
         self.asks("joint_label", self.library.joint_label, lent, label)?;
         let Library {
             copy,

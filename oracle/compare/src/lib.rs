@@ -4,9 +4,9 @@
 //! answers and what it writes, `run` goes over generated pages in several threads, `resume` over many of them with
 //! stops, `short_texts` over all short texts, `fractions` over many fractions, `patterns` over all short patterns and
 //! many others, `copies` over pairs of pages of one tree and of two, `functions` over names and signatures near those
-//! of the function table, `bench` measures, with `ends` as its floor, `beside` measures two archives in one run,
-//! `instructions` counts on fixed pages and `pattern_costs` on patterns, with `callgrind`. `text_test` runs and times
-//! the test of texts by itself.
+//! of the function table, `operators` over pages with limitk and limit_ratio, `bench` measures, with `ends` as its
+//! floor, `beside` measures two archives in one run, `instructions` counts on fixed pages and `pattern_costs` on
+//! patterns, with `callgrind`. `text_test` runs and times the test of texts by itself.
 
 pub mod bench;
 pub mod beside;
@@ -20,6 +20,7 @@ pub mod instructions;
 pub mod judge;
 pub mod library;
 pub mod memory;
+pub mod operators;
 pub mod pattern_costs;
 pub mod patterns;
 pub mod resume;

@@ -1,7 +1,7 @@
-//! The library's face: eight C functions; a slice passes as pointer and length.
+//! The library's face: nine C functions; a slice passes as pointer and length.
 
-/// `sandzguli_check`, `sandzguli_check_table`, `sandzguli_joint_label`; `sandzguli_pattern`, of which the bytes are a
-/// pattern.
+/// `sandzguli_check`, `sandzguli_check_table`, `sandzguli_check_operators`, `sandzguli_joint_label`;
+/// `sandzguli_pattern`, of which the bytes are a pattern.
 pub type Asks = unsafe extern "C" fn(page: *const u8, page_len: usize) -> u64;
 
 /// `sandzguli_copy`, `sandzguli_canonical`, `sandzguli_split`; `sandzguli_signature`, of which the bytes are a name.
@@ -13,6 +13,7 @@ pub type Writes =
 pub struct Library {
     pub check: Asks,
     pub check_table: Asks,
+    pub check_operators: Asks,
     pub joint_label: Asks,
     pub copy: Writes,
     pub canonical: Writes,
@@ -25,6 +26,7 @@ pub struct Library {
 extern "C" {
     fn sandzguli_check(page: *const u8, page_len: usize) -> u64;
     fn sandzguli_check_table(page: *const u8, page_len: usize) -> u64;
+    fn sandzguli_check_operators(page: *const u8, page_len: usize) -> u64;
     fn sandzguli_joint_label(page: *const u8, page_len: usize) -> u64;
     fn sandzguli_copy(page: *const u8, page_len: usize, out: *mut u8, out_len: usize) -> u64;
     fn sandzguli_canonical(page: *const u8, page_len: usize, out: *mut u8, out_len: usize) -> u64;
@@ -40,6 +42,7 @@ impl Library {
         Self {
             check: sandzguli_check,
             check_table: sandzguli_check_table,
+            check_operators: sandzguli_check_operators,
             joint_label: sandzguli_joint_label,
             copy: sandzguli_copy,
             canonical: sandzguli_canonical,
@@ -66,6 +69,7 @@ impl Library {
         Self {
             check: before_check,
             check_table: missing,
+            check_operators: missing,
             joint_label: before_joint_label,
             copy: before_copy,
             canonical: before_canonical,
@@ -79,7 +83,7 @@ impl Library {
 /// The earliest archives have no such call, and no earlier one is asked.
 #[cfg(feature = "before")]
 unsafe extern "C" fn missing(_: *const u8, _: usize) -> u64 {
-    panic!("an earlier archive is not asked about patterns and functions")
+    panic!("an earlier archive is not asked about patterns, functions and operators")
 }
 
 /// The same of a call that writes.

@@ -4,6 +4,7 @@
 use compare::callgrind::{parse, Profile};
 use compare::instructions::{self, Columns};
 use oracle::answer::{self, Outcome};
+use oracle::operators::is_limited;
 use oracle::page::record::{Matcher, Record};
 
 /// In callgrind's form: 16 calls of a function that calls another and `memcpy`; the other calls `memset` and one that
@@ -145,7 +146,7 @@ fn pages_have_their_records() {
 
 #[test]
 fn pages_have_their_values() {
-    let [_, set, _] = &instructions::SETS;
+    let [_, set, ..] = &instructions::SETS;
     for name in set.pages {
         let pages = instructions::pages(name).expect("a page with these values");
         let (count, length) = name.split_once(" of ").expect("a count and a length");
@@ -187,7 +188,7 @@ fn pages_have_their_fills() {
 
 #[test]
 fn pages_have_their_calls() {
-    let [.., set] = &instructions::SETS;
+    let [_, _, set, _] = &instructions::SETS;
     let [name] = set.pages else {
         panic!("one page");
     };
@@ -197,4 +198,26 @@ fn pages_have_their_calls() {
     let is_call = |record: &&Record| matches!(record, Record::Call { .. });
     assert_eq!(worked.records.iter().filter(is_call).count(), 255);
     assert!(name.starts_with("255 ") && pages.len() == 1);
+}
+
+/// Both checks take every page of the set, so that a difference of their counts is the rule's.
+#[test]
+fn pages_have_their_limits() {
+    let [.., set] = &instructions::SETS;
+    let mut counts = Vec::new();
+    for name in set.pages {
+        let mut limits = 0;
+        for page in instructions::pages(name).expect("pages of this name") {
+            let worked = answer::work(&page).expect("the Rust is foreseen");
+            assert!(matches!(worked.operators, Outcome::Accepted(_)), "{name}");
+            assert_eq!(worked.operators, worked.outcome);
+            limits += worked
+                .records
+                .iter()
+                .filter(|record| is_limited(record))
+                .count();
+        }
+        counts.push(limits);
+    }
+    assert_eq!(counts.last(), Some(&127));
 }

@@ -1,15 +1,16 @@
-//! What documents 01 and 02 answer to a page: outcome, outcome with the function table too, label part of 19, copy,
-//! canonical text, split text.
+//! What documents 01 and 02 answer to a page: outcome, outcome with the function table too, outcome as the operators
+//! document asks, label part of 19, copy, canonical text, split text.
 
 mod walk;
 
 use crate::functions;
+use crate::operators;
 use crate::page::read::{NumberField, TextField};
 use crate::page::record::{Kind, Record};
 use crate::page::write;
 use crate::tree::{self, Pattern, Stop};
 use promql_parser::parser::Expr;
-use walk::Walk;
+use walk::{Rules, Walk};
 
 /// A kind, or a refusal number and the index of its record.
 #[derive(Debug, Clone, Copy, PartialEq, Eq)]
@@ -60,12 +61,16 @@ pub struct Worked<'a> {
     pub outcome: Outcome,
     /// The outcome of the check with the function table too (document 02, No. 2).
     pub table: Outcome,
+    /// The outcome of the check that follows the operators document (document 02, No. 8).
+    pub operators: Outcome,
     pub label: Option<Part>,
     pub domain: Domain,
     /// The Rust's own words, where it refused.
     pub message: Option<String>,
     /// The records read, the refused one included if it was readable.
     pub records: Vec<Record<'a>>,
+    /// The kind that each record left which document 01 accepts, by the Rust.
+    pub kinds: Vec<Kind>,
     /// The last text whose length was read: where a text is the reason of 1, 3 or 4, this one.
     pub text: Option<TextField>,
     /// The last number of kind 0 or of a fill that was begun: where such a number is the reason of 1, this one.
@@ -78,6 +83,7 @@ pub struct Worked<'a> {
 pub struct Answer {
     pub outcome: Outcome,
     pub table: Outcome,
+    pub operators: Outcome,
     pub label: Option<Part>,
     pub domain: Domain,
     /// The number of records, which is the index of 5.
@@ -108,9 +114,9 @@ pub struct Failure(pub String);
 fn walked<'a>(
     walk: &mut Walk<'a>,
     page: &'a [u8],
-    before: impl Fn(&Record) -> Option<u8>,
+    rules: Rules,
 ) -> Result<(Outcome, Option<String>), Failure> {
-    match walk.run(page, before) {
+    match walk.run(page, rules) {
         Ok(outcome) => Ok((outcome, None)),
         Err(Stop::Refused { number, message }) => {
             let record = walk.accepted;
@@ -121,12 +127,25 @@ fn walked<'a>(
     }
 }
 
-/// Document 01's check, and by a walk of its own the check with the function table (document 02, No. 2), which asks the
-/// table once a call's fields are read and before its operands are counted.
+/// The check with the function table (document 02, No. 2): the table is asked once a call's fields are read and before
+/// its operands are counted.
+const WITH_TABLE: Rules = Rules {
+    before: functions::fault,
+    ..Rules::NONE
+};
+
+/// The check that follows the operators document (document 02, No. 8): "right after 25", the last test of an aggregate.
+const WITH_OPERATORS: Rules = Rules {
+    after: operators::fault,
+    ..Rules::NONE
+};
+
+/// Document 01's check, and by walks of their own the checks that document 02 adds.
 pub fn work(page: &[u8]) -> Result<Worked<'_>, Failure> {
     let mut walk = Walk::default();
-    let (outcome, message) = walked(&mut walk, page, |_| None)?;
-    let (table, _) = walked(&mut Walk::default(), page, functions::fault)?;
+    let (outcome, message) = walked(&mut walk, page, Rules::NONE)?;
+    let (table, _) = walked(&mut Walk::default(), page, WITH_TABLE)?;
+    let (operators, _) = walked(&mut Walk::default(), page, WITH_OPERATORS)?;
     let label = match outcome {
         Outcome::Refused { number: 19, .. } => {
             let judged = walk.records.last();
@@ -146,10 +165,12 @@ pub fn work(page: &[u8]) -> Result<Worked<'_>, Failure> {
         page,
         outcome,
         table,
+        operators,
         label,
         domain: domain(&walk.records),
         message,
         records: walk.records,
+        kinds: walk.kinds,
         text: walk.text,
         literal: walk.literal,
         checked,
@@ -189,6 +210,7 @@ pub fn of_worked(worked: &Worked) -> Answer {
     Answer {
         outcome: worked.outcome,
         table: worked.table,
+        operators: worked.operators,
         label: worked.label,
         domain: worked.domain,
         records: worked.records.len(),

@@ -2,7 +2,8 @@
 //!
 //!     oracle answer HEX         what document 01 answers to a page
 //!     oracle run SEED ROUNDS    generated pages, and the classes that they reached
-//!     oracle keep               writes the kept list again, and the answers about the function table beside it
+//!     oracle keep               writes the kept list again, and the answers of the added checks and about the function
+//!                               table beside it
 //!     oracle kept-pages FOLDER  writes each page of the kept list into a file of its own
 //!     oracle show               prints the records of framed pages from standard input, as the reading program does
 //!     oracle write              writes what the program `sheet` must write for the page on standard input
@@ -54,6 +55,7 @@ fn show(page: &[u8]) -> Result<(), String> {
     let answer = answer::of_worked(&worked);
     println!("{:?} ({:?})", answer.outcome, answer.domain);
     println!("with the function table: {:?}", answer.table);
+    println!("as the operators document asks: {:?}", answer.operators);
     if let Some(message) = worked.message {
         println!("the Rust: {message}");
     }
@@ -86,6 +88,7 @@ fn keep() -> Result<(), String> {
     for (path, bytes) in [
         (kept::PATH, &list),
         (kept::TABLE_PATH, &kept::table(&entries)),
+        (kept::OPERATORS_PATH, &kept::operators(&entries)),
         (kept::SIGNATURES_PATH, &kept::signatures()),
     ] {
         std::fs::write(path, bytes).map_err(|error| format!("{path}: {error}"))?;

@@ -1,16 +1,8 @@
 //! The pages of document 02, No. 2: document 01's check beside the check with the function table.
 
-use super::{row, Expected, Row};
+use super::{kind, refused, row, Expected, Row};
 use crate::answer::Outcome;
-use crate::page::record::Kind::{self, Scalar, Vector};
-
-const fn kind(kind: Kind) -> Outcome {
-    Outcome::Accepted(kind)
-}
-
-const fn refused(number: u8, record: usize) -> Outcome {
-    Outcome::Refused { number, record }
-}
+use crate::page::record::Kind::{Scalar, Vector};
 
 const fn table(words: &'static str, page: &'static str, check: Outcome, table: Outcome) -> Row {
     row(words, page, Expected::Checks { check, table })

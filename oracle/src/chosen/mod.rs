@@ -8,6 +8,7 @@ mod fractions;
 mod functions;
 mod long;
 mod one_copy;
+mod operators;
 mod patterns;
 mod printed;
 mod readings;
@@ -49,6 +50,11 @@ pub enum Expected {
         check: Outcome,
         table: Outcome,
     },
+    /// Document 01's check, and the check that follows the operators document.
+    ChecksOperators {
+        check: Outcome,
+        operators: Outcome,
+    },
 }
 
 #[derive(Debug, Clone, Copy)]
@@ -66,6 +72,14 @@ const fn row(words: &'static str, page: &'static str, expected: Expected) -> Row
     }
 }
 
+const fn kind(kind: Kind) -> Outcome {
+    Outcome::Accepted(kind)
+}
+
+const fn refused(number: u8, record: usize) -> Outcome {
+    Outcome::Refused { number, record }
+}
+
 /// All rows, the refusal table first.
 pub fn rows() -> impl Iterator<Item = &'static Row> {
     [
@@ -81,6 +95,7 @@ pub fn rows() -> impl Iterator<Item = &'static Row> {
         patterns::ROWS,
         one_copy::ROWS,
         functions::ROWS,
+        operators::ROWS,
     ]
     .into_iter()
     .flatten()
@@ -89,6 +104,11 @@ pub fn rows() -> impl Iterator<Item = &'static Row> {
 /// The rows of document 02, No. 2.
 pub fn of_functions() -> &'static [Row] {
     functions::ROWS
+}
+
+/// The rows of document 02, No. 8.
+pub fn of_operators() -> &'static [Row] {
+    operators::ROWS
 }
 
 /// Rows outside document 01's domain: the page's flag decides what the pattern says about empty text.
@@ -103,7 +123,7 @@ pub fn outside() -> impl Iterator<Item = &'static Row> {
     .flatten()
 }
 
-/// The rows of the refusal table: No. 1 to 34, 37, 38 and 41.
+/// The rows of the refusal table: No. 1 to 34, 37, 38, 41 and 42.
 pub fn refusal_table() -> &'static [Row] {
     refusals::ROWS
 }
@@ -155,6 +175,9 @@ impl Row {
             }
             Expected::Writes(text) => answer::program_output(answer) == spelled(text),
             Expected::Checks { check, table } => (answer.outcome, answer.table) == (check, table),
+            Expected::ChecksOperators { check, operators } => {
+                (answer.outcome, answer.operators) == (check, operators)
+            }
         }
     }
 }
@@ -165,9 +188,10 @@ fn is_accepted(answer: &Answer) -> bool {
 
 fn brief(answer: &Answer) -> String {
     format!(
-        "{:?} {:?} {:?} sizes {}, {}, {}\n{}\n{}",
+        "{:?} {:?} {:?} {:?} sizes {}, {}, {}\n{}\n{}",
         answer.outcome,
         answer.table,
+        answer.operators,
         answer.label,
         answer.copy.len(),
         answer.canonical.len(),

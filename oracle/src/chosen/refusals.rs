@@ -1,8 +1,7 @@
 //! The refusal table of document 01, and the numbers that document 02 adds: the example of each row.
 
-use super::{row, Expected::*, Row};
-use crate::answer::Outcome;
-use crate::page::record::Kind;
+use super::{kind, refused, row, Expected::*, Row};
+use crate::page::record::Kind::Vector;
 
 #[rustfmt::skip]
 pub const ROWS: &[Row] = &[
@@ -40,7 +39,8 @@ pub const ROWS: &[Row] = &[
     row("32: 1[5m:]", "000001 04 #300000; 00", Refused(32, 1)),
     row("33: up{__name__=\"a\"}", "0202757001 00085f5f6e616d655f5f0161", Refused(33, 0)),
     row("34: {a=\"\"}", "02000100016100", Refused(34, 0)),
-    row("37: Abs(up)", "0202757000 0b034162730100000001", Checks { check: Outcome::Accepted(Kind::Vector), table: Outcome::Refused { number: 37, record: 1 } }),
-    row("38: unlimited abs(up)", "0202757000 0b036162730100010001", Checks { check: Outcome::Accepted(Kind::Vector), table: Outcome::Refused { number: 38, record: 1 } }),
+    row("37: Abs(up)", "0202757000 0b034162730100000001", Checks { check: kind(Vector), table: refused(37, 1) }),
+    row("38: unlimited abs(up)", "0202757000 0b036162730100010001", Checks { check: kind(Vector), table: refused(38, 1) }),
     row("41: up{a=~\"x\"}, flag 1", "0202757001020161017801", Refused(41, 0)),
+    row("42: limitk(\"a\", up)", "010161 0202757000 0a1d0002", ChecksOperators { check: kind(Vector), operators: refused(42, 2) }),
 ];

@@ -1,6 +1,6 @@
 //! The classes that a run must reach.
 
-use super::{characters, fractions, functions, ill_formed, patterns, times, words};
+use super::{characters, fractions, functions, ill_formed, operators, patterns, times, words};
 use crate::refusal;
 
 /// The record kinds, by their number on the page.
@@ -94,5 +94,6 @@ pub fn all() -> Vec<String> {
     classes.extend(patterns::classes());
     classes.extend(times::classes());
     classes.extend(functions::classes());
+    classes.extend(operators::classes());
     classes
 }

@@ -1,12 +1,14 @@
 //! Which classes of document 01 a run of pages reached: refusals, kinds, the parts of records, the rules of both texts;
 //! and of document 02 calls and the function table (No. 2), texts by words (No. 4), fractions (No. 5), patterns and
-//! their flags (No. 7), characters beyond ASCII and ill-formed texts (No. 10), @ and offset (No. 14).
+//! their flags (No. 7), limitk and limit_ratio (No. 8), characters beyond ASCII and ill-formed texts (No. 10), @ and
+//! offset (No. 14).
 
 mod characters;
 mod classes;
 mod fractions;
 mod functions;
 mod ill_formed;
+mod operators;
 mod patterns;
 mod records;
 mod split;
@@ -62,6 +64,7 @@ impl Coverage {
         self.patterns(worked);
         self.times(worked, answer);
         self.functions(worked);
+        self.operators(worked);
         match worked.outcome {
             Outcome::Refused { number, .. } => self.hit(format!("refusal {number:02}")),
             Outcome::Accepted(kind) => {
@@ -112,6 +115,11 @@ impl Coverage {
             *counted = count(class)?;
         }
         Some(coverage)
+    }
+
+    /// How often a class occurred, or nothing if there is no such class.
+    pub fn count(&self, class: &str) -> Option<u64> {
+        self.counts.get(class).copied()
     }
 
     /// The classes that never occurred.

@@ -1,8 +1,10 @@
 //! Pages from a seed: good ones, planted faults, damaged copies, sizes at the limits, long texts, characters beyond
 //! ASCII and ill-formed ones, fractions and what is none, patterns with right and wrong flags, @ and offset in either
-//! order, calls of the function table and what is none, deep nesting, short and random bytes.
+//! order, calls of the function table and what is none, limitk and limit_ratio with parameters of every kind, deep
+//! nesting, short and random bytes.
 
 pub mod alphabet;
+mod around;
 mod call;
 pub mod carriers;
 pub mod codes;
@@ -17,6 +19,7 @@ pub mod ill_formed;
 pub mod limits;
 pub mod long_texts;
 pub mod nesting;
+pub mod operators;
 mod parts;
 pub mod patterns;
 mod scope;
@@ -33,7 +36,7 @@ use crate::page::record::{Kind, Record};
 use crate::page::{write, MAX_PAGE_BYTES, MAX_RECORDS};
 use crate::random::Random;
 
-/// A page, and the outcome that it was made for.
+/// A page, and the outcome that it was made for: of document 01's check, or of one that document 02 adds.
 pub struct Made {
     pub page: Vec<u8>,
     pub expected: Outcome,
@@ -42,6 +45,14 @@ pub struct Made {
 impl Made {
     fn new(page: Vec<u8>, expected: Outcome) -> Self {
         Self { page, expected }
+    }
+
+    fn accepted(records: &[Record], kind: Kind) -> Self {
+        Self::new(write::page(records), Outcome::Accepted(kind))
+    }
+
+    fn refused(page: Vec<u8>, number: u8, record: usize) -> Self {
+        Self::new(page, Outcome::Refused { number, record })
     }
 }
 

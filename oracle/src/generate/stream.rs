@@ -1,10 +1,9 @@
 //! All pages of a run: the fixed ones, then as many rounds as asked for.
 
-use super::functions::{self, Tabled};
 use super::{
-    bytes, codes, counted_bytes, damaged, fault, fractions, good, ill_formed, limits, long_texts,
+    bytes, codes, counted_bytes, damaged, fault, fractions, functions, good, ill_formed, limits,
 };
-use super::{nesting, patterns, shortest, times, well_formed, Made, Scope};
+use super::{long_texts, nesting, operators, patterns, shortest, times, well_formed, Made, Scope};
 use crate::answer::Outcome;
 use crate::chosen;
 use crate::random::Random;
@@ -16,6 +15,8 @@ pub struct Sample {
     pub expected: Option<Outcome>,
     /// The outcome with the function table too, where the page was made for one.
     pub table: Option<Outcome>,
+    /// The outcome as the operators document asks, where the page was made for one.
+    pub operators: Option<Outcome>,
 }
 
 impl Sample {
@@ -24,14 +25,28 @@ impl Sample {
             page,
             expected: None,
             table: None,
+            operators: None,
         }
     }
 
     fn made_for(page: Vec<u8>, expected: Outcome) -> Self {
         Self {
-            page,
             expected: Some(expected),
-            table: None,
+            ..Self::any(page)
+        }
+    }
+
+    fn for_table(made: Made) -> Self {
+        Self {
+            table: Some(made.expected),
+            ..Self::any(made.page)
+        }
+    }
+
+    fn for_operators(made: Made) -> Self {
+        Self {
+            operators: Some(made.expected),
+            ..Self::any(made.page)
         }
     }
 }
@@ -42,18 +57,9 @@ impl From<Made> for Sample {
     }
 }
 
-impl From<Tabled> for Sample {
-    fn from(made: Tabled) -> Self {
-        Self {
-            page: made.page,
-            expected: None,
-            table: Some(made.table),
-        }
-    }
-}
-
 /// Chosen pages, the limits, every code and every kind of operand, deep nesting, long values, characters beyond ASCII,
-/// fractions, patterns with their flags, @ and offset in either order, calls of the function table.
+/// fractions, patterns with their flags, @ and offset in either order, calls of the function table, limitk and
+/// limit_ratio.
 pub fn fixed() -> impl Iterator<Item = Sample> {
     let rows = chosen::rows().chain(chosen::outside());
     let chosen = rows.map(|row| Sample::any(row.bytes()));
@@ -73,8 +79,10 @@ pub fn fixed() -> impl Iterator<Item = Sample> {
         .chain(times::fixed());
     let pages = chosen.chain(limits).chain(swept).chain(nested);
     let requests = requests.map(Sample::from);
-    let tabled = functions::fixed().map(Sample::from);
-    pages.chain(texts).chain(requests).chain(tabled)
+    let tabled = functions::fixed().map(Sample::for_table);
+    let limited = operators::fixed().map(Sample::for_operators);
+    let added = tabled.chain(limited);
+    pages.chain(texts).chain(requests).chain(added)
 }
 
 /// Every byte string of at most two bytes.
@@ -91,15 +99,19 @@ const TIMES: usize = 40;
 /// Pages with calls of the function table in a round.
 const FUNCTIONS: usize = 60;
 
+/// Pages with limitk and limit_ratio in a round.
+const OPERATORS: usize = 60;
+
 /// One round: pages of ASCII, then pages with characters beyond it, then with fractions too, then with covered patterns
-/// and wrong flags, then with @ and offset, then with calls of the function table.
+/// and wrong flags, then with @ and offset, then with calls of the function table, then with limitk and limit_ratio.
 pub fn round(random: &mut Random) -> Vec<Sample> {
     let mut samples = ascii(random);
     samples.extend(beyond_ascii(random));
     samples.extend(with_fractions(random));
     samples.extend(with_patterns(random));
     samples.extend((0..TIMES).map(|_| Sample::from(times::random(random))));
-    samples.extend((0..FUNCTIONS).map(|_| Sample::from(functions::random(random))));
+    samples.extend((0..FUNCTIONS).map(|_| Sample::for_table(functions::random(random))));
+    samples.extend((0..OPERATORS).map(|_| Sample::for_operators(operators::random(random))));
     samples
 }
 

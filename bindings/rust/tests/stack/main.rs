@@ -41,9 +41,10 @@ const OTHERS: [(&str, usize); 7] = [
 ];
 
 /// The calls that read patterns.
-const READING_PATTERNS: [&str; 7] = [
+const READING_PATTERNS: [&str; 8] = [
     "sandzguli_canonical",
     "sandzguli_check",
+    "sandzguli_check_operators",
     "sandzguli_check_table",
     "sandzguli_copy",
     "sandzguli_joint_label",

@@ -5,6 +5,9 @@ const LIST: &[u8] = include_bytes!("../../../../crates/vectors/stdin");
 /// The words of the check with the function table, one for each entry.
 const TABLE: &[u8] = include_bytes!("../../../../oracle/kept/table");
 
+/// The words of the check that follows the operators document, one for each entry.
+const OPERATORS: &[u8] = include_bytes!("../../../../oracle/kept/operators");
+
 /// Names with the answers of the call for signatures.
 const SIGNATURES: &[u8] = include_bytes!("../../../../oracle/kept/signatures");
 
@@ -16,6 +19,8 @@ pub struct Entry {
     pub word: u64,
     /// The word of the check with the function table.
     pub table: u64,
+    /// The word of the check that follows the operators document.
+    pub operators: u64,
     /// Where the label of 19 starts, and its length.
     pub label: (usize, usize),
     pub copy: Vec<u8>,
@@ -36,7 +41,7 @@ fn bytes(list: &mut &[u8]) -> Vec<u8> {
     bytes.to_vec()
 }
 
-fn entry(list: &mut &[u8], table: &mut &[u8]) -> Entry {
+fn entry(list: &mut &[u8], table: &mut &[u8], operators: &mut &[u8]) -> Entry {
     let page = bytes(list);
     let outcome = word(list);
     let label = word(list);
@@ -44,6 +49,7 @@ fn entry(list: &mut &[u8], table: &mut &[u8]) -> Entry {
         page,
         word: outcome,
         table: word(table),
+        operators: word(operators),
         label: ((label >> 8) as usize, (label & 0xff) as usize),
         copy: bytes(list),
         canonical: bytes(list),
@@ -53,13 +59,14 @@ fn entry(list: &mut &[u8], table: &mut &[u8]) -> Entry {
 
 /// The whole list.
 pub fn entries() -> Vec<Entry> {
-    let [mut list, mut table] = [LIST, TABLE];
+    let [mut list, mut table, mut operators] = [LIST, TABLE, OPERATORS];
     let mut entries = Vec::new();
     while !list.is_empty() {
-        entries.push(entry(&mut list, &mut table));
+        entries.push(entry(&mut list, &mut table, &mut operators));
     }
     assert!(entries.len() > 3000, "the list is whole");
-    assert!(table.is_empty(), "a word for each entry");
+    let left = table.len() + operators.len();
+    assert_eq!(left, 0, "a word for each entry");
     entries
 }
 

@@ -11,11 +11,14 @@
 //!     compare functions [COUNT]           names of the function table, near ones and so many random ones through the
 //!                                         call for signatures; every name with every near signature through both
 //!                                         checks
+//!     compare operators [COUNT]           every aggregator on every pair of expressions, limitk and limit_ratio among
+//!                                         other faults, and so many random pages with them, through all calls
 
 use compare::copies;
 use compare::fractions::{self, Sizes};
 use compare::functions;
 use compare::library::Library;
+use compare::operators;
 use compare::patterns;
 use compare::resume::Run;
 use compare::run::{self, Tally};
@@ -25,7 +28,7 @@ use std::process::ExitCode;
 
 const USAGE: &str =
     "usage: compare fixed | seeds FIRST LAST THREADS [STATE] | texts | fractions [COUNT]
-       | patterns [COUNT] | copies [SEEDS] | functions [COUNT]";
+       | patterns [COUNT] | copies [SEEDS] | functions [COUNT] | operators [COUNT]";
 
 /// Seeds between two states: some ten seconds.
 const BLOCK: u64 = 1000;
@@ -49,6 +52,8 @@ fn main() -> ExitCode {
         ["copies", seeds] => many_copies(library, seeds).map(report_copies),
         ["functions"] => functions::compare(library, functions::USUAL).map(report_functions),
         ["functions", count] => many_functions(library, count).map(report_functions),
+        ["operators"] => operators::compare(library, operators::Sizes::USUAL).map(report_operators),
+        ["operators", count] => many_operators(library, count).map(report_operators),
         _ => Err(USAGE.into()),
     };
     match result {
@@ -180,5 +185,21 @@ fn report_functions(tally: functions::Tally) {
         "{} names of the table, {} others, {} calls for signatures; {} pages with {} calls refused by the table: no \
          difference",
         tally.known, tally.unknown, tally.calls, tally.pages, tally.refused
+    );
+}
+
+fn many_operators(library: Library, count: &str) -> Result<operators::Tally, String> {
+    let random = count.parse().map_err(|_| USAGE)?;
+    let sizes = operators::Sizes {
+        random,
+        ..operators::Sizes::USUAL
+    };
+    operators::compare(library, sizes)
+}
+
+fn report_operators(tally: operators::Tally) {
+    println!(
+        "{} pages with limitk and limit_ratio, {} refused with 42, {} calls: no difference",
+        tally.pages, tally.refused, tally.calls
     );
 }

@@ -3,6 +3,7 @@
 mod copies;
 mod fractions;
 mod functions;
+mod operators;
 mod patterns;
 mod planted;
 mod resume;

@@ -1,9 +1,9 @@
 //! Calls as the table has them with wrong arguments: 2, 26, 27, 28 and 30, and no 29.
 
 use super::right::counts;
-use super::{call, declared, Tabled};
+use super::{call, declared};
 use crate::functions::signatures;
-use crate::generate::{Generator, Records};
+use crate::generate::{Generator, Made, Records};
 use crate::page::record::{Extra, Kind, Signature};
 use crate::page::write;
 
@@ -22,7 +22,7 @@ fn can_have(signature: &Signature, number: u8) -> bool {
 
 impl Generator<'_> {
     /// A table call that is refused for its arguments, behind other queries.
-    pub(super) fn argument_fault(&mut self) -> Tabled {
+    pub(super) fn argument_fault(&mut self) -> Made {
         let number = *self.random.pick(&NUMBERS);
         let fitting: Vec<_> = signatures().filter(|each| can_have(each, number)).collect();
         let signature = *self.random.pick(&fitting);
@@ -44,7 +44,7 @@ impl Generator<'_> {
         records.extend(self.table_arguments(signature, given, wrong));
         let record = records.len();
         records.push(call(signature.clone(), count));
-        Tabled::refused(write::page(&records), number, record)
+        Made::refused(write::page(&records), number, record)
     }
 
     /// Up to two queries with calls of the table alone.

@@ -11,36 +11,13 @@ mod unlike;
 
 pub use right::{arguments, counts};
 
-use super::{Generator, Records, Scope};
-use crate::answer::Outcome;
+use super::{Generator, Made, Records, Scope};
 use crate::hex;
 use crate::page::record::{Kind, Number, Record, Signature};
-use crate::page::write;
 use crate::random::Random;
 
-/// A page, and the outcome of the check with the function table that it was made for.
-pub struct Tabled {
-    pub page: Vec<u8>,
-    pub table: Outcome,
-}
-
-impl Tabled {
-    fn accepted(records: &[Record], kind: Kind) -> Self {
-        Self {
-            page: write::page(records),
-            table: Outcome::Accepted(kind),
-        }
-    }
-
-    fn refused(page: Vec<u8>, number: u8, record: usize) -> Self {
-        Self {
-            page,
-            table: Outcome::Refused { number, record },
-        }
-    }
-}
-
-pub fn fixed() -> impl Iterator<Item = Tabled> {
+/// Pages made for outcomes of the check with the function table.
+pub fn fixed() -> impl Iterator<Item = Made> {
     right::fixed()
         .chain(unlike::fixed())
         .chain(unknown::fixed())
@@ -48,7 +25,7 @@ pub fn fixed() -> impl Iterator<Item = Tabled> {
 }
 
 /// A page of any of these sorts.
-pub fn random(random: &mut Random) -> Tabled {
+pub fn random(random: &mut Random) -> Made {
     let mut generator = Generator::new(random, 8, Scope::Patterns);
     match generator.random.below(10) {
         0..=2 => generator.table_page(),

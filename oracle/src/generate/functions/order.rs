@@ -1,11 +1,11 @@
 //! What comes before 37 and 38: all fields of the call, refused records before it, the 257th record. What comes after
 //! them: operands that are missing, the call's arguments, records behind it.
 
-use super::{call, Tabled};
+use super::call;
 use crate::functions::signatures;
-use crate::generate::Generator;
+use crate::generate::around::{length, refused, surrounded, Around};
+use crate::generate::{Generator, Made};
 use crate::hex;
-use crate::page::read::Reader;
 use crate::page::write;
 use crate::refusal::{UNKNOWN_FUNCTION, UNLIKE_SIGNATURE};
 
@@ -44,9 +44,7 @@ const UNREADABLE_NAMES: &[(&str, u8)] = &[
     ("0b0461627a", 1),
 ];
 
-/// Records before and behind a call that is refused with 37 or 38; nothing where the call decides, else what does.
-type Around = (&'static str, &'static str, Option<(u8, usize)>);
-
+/// What stands before and behind a call that is refused with 37 or 38.
 #[rustfmt::skip]
 const AROUND: &[Around] = &[
     ("", "", None), ("0202757000", "", None), ("0202757000", "08", None), ("0202757000", "63", None),
@@ -72,43 +70,23 @@ const LIKE: &[(&str, u8, usize)] = &[
     ("000001 0b026c6e0100000001", 30, 1), ("0002 08 0b026c6e0100000001", 30, 2),
 ];
 
-/// How many records a notation has of which all are readable.
-fn length(notation: &str) -> usize {
-    let page = hex::bytes(notation);
-    let mut reader = Reader::new(&page);
-    let mut records = 0;
-    while !reader.is_at_end() {
-        reader.record().expect("a record that can be read");
-        records += 1;
-    }
-    records
-}
-
-fn refused(notation: &str, number: u8, record: usize) -> Tabled {
-    Tabled::refused(hex::bytes(notation), number, record)
-}
-
-fn surrounded((before, behind, decided): Around, (name, number): (&str, u8)) -> Tabled {
-    let (number, record) = decided.unwrap_or_else(|| (number, length(before)));
-    refused(
-        &format!("{before} {name} 0100 00 01 01 {behind}"),
-        number,
-        record,
-    )
+/// A call of the name with a signature that the table does not have, among other records.
+fn called(around: Around, (name, number): (&str, u8)) -> Made {
+    surrounded(around, (&format!("{name} 0100 00 01 01"), number))
 }
 
 /// The six functions without kinds, on an argument: 26, where an unlimited extra would give 29.
-fn without_kinds() -> impl Iterator<Item = Tabled> {
+fn without_kinds() -> impl Iterator<Item = Made> {
     let known = signatures().filter(|each| each.kinds.is_empty());
     known.map(|signature| {
         let mut page = hex::bytes(UP);
         write::record(&mut page, &call(signature.clone(), 1));
-        Tabled::refused(page, 26, 1)
+        Made::refused(page, 26, 1)
     })
 }
 
 /// The functions of the literal exception, on an excused literal, with another signature than the table's.
-fn excused_unlike() -> impl Iterator<Item = Tabled> {
+fn excused_unlike() -> impl Iterator<Item = Made> {
     let functions = ["0b03657870", "0b026c6e", "0b056c6f673130", "0b046c6f6732"].into_iter();
     functions.flat_map(|name| {
         [
@@ -121,7 +99,7 @@ fn excused_unlike() -> impl Iterator<Item = Tabled> {
     })
 }
 
-fn of_name((name, number): (&'static str, u8)) -> impl Iterator<Item = Tabled> {
+fn of_name((name, number): (&'static str, u8)) -> impl Iterator<Item = Made> {
     let signatures = SIGNATURES.iter().map(move |(before, signature)| {
         refused(
             &format!("{before} {name} {signature}"),
@@ -134,11 +112,11 @@ fn of_name((name, number): (&'static str, u8)) -> impl Iterator<Item = Tabled> {
         .map(move |(fields, number)| refused(&format!("{UP} {name} {fields}"), *number, 1));
     let around = AROUND
         .iter()
-        .map(move |around| surrounded(*around, (name, number)));
+        .map(move |around| called(*around, (name, number)));
     signatures.chain(fields).chain(around)
 }
 
-pub(super) fn fixed() -> impl Iterator<Item = Tabled> {
+pub(super) fn fixed() -> impl Iterator<Item = Made> {
     let unreadable = UNREADABLE_NAMES
         .iter()
         .map(|(call, number)| refused(&format!("{UP} {ABS} {call}"), *number, 2));
@@ -155,7 +133,7 @@ pub(super) fn fixed() -> impl Iterator<Item = Tabled> {
 
 impl Generator<'_> {
     /// A refused call and another fault: in its fields, in a record before it, in one behind it.
-    pub(super) fn beside_fault(&mut self) -> Tabled {
+    pub(super) fn beside_fault(&mut self) -> Made {
         let (name, number) = *self.random.pick(&NAMES);
         let before = self.table_context();
         let record = before.len();
@@ -170,9 +148,9 @@ impl Generator<'_> {
                 let more = length(operands);
                 (format!("{operands} {name} {signature}"), number, more)
             }
-            _ => return surrounded(*self.random.pick(AROUND), (name, number)),
+            _ => return called(*self.random.pick(AROUND), (name, number)),
         };
         page.extend(hex::bytes(&rest));
-        Tabled::refused(page, number, record + more)
+        Made::refused(page, number, record + more)
     }
 }

@@ -1,10 +1,10 @@
 //! Queries of which every call is as the table has it, nested; and such queries with one call that is not.
 
 use super::right::counts;
-use super::{call, declared, Tabled};
+use super::{call, declared};
 use crate::functions::signatures;
 use crate::generate::fault::unread;
-use crate::generate::{Generator, Records};
+use crate::generate::{Generator, Made, Records};
 use crate::page::record::{Kind, Record, Signature};
 use crate::page::{write, MAX_PAGE_BYTES, MAX_RECORDS};
 use crate::refusal::UNKNOWN_FUNCTION;
@@ -108,13 +108,13 @@ impl Generator<'_> {
         }
     }
 
-    pub(super) fn table_page(&mut self) -> Tabled {
+    pub(super) fn table_page(&mut self) -> Made {
         let (records, kind) = self.table_records();
-        Tabled::accepted(&records, kind)
+        Made::accepted(&records, kind)
     }
 
     /// One of the calls refused with 37 or 38, with bytes behind it that the check with the table does not get to.
-    pub(super) fn altered_page(&mut self, number: u8) -> Tabled {
+    pub(super) fn altered_page(&mut self, number: u8) -> Made {
         let (mut records, _) = self.table_records();
         let is_call = |record: &Record| matches!(record, Record::Call { .. });
         let places: Vec<usize> = (0..records.len())
@@ -134,6 +134,6 @@ impl Generator<'_> {
         if self.random.chance(30) {
             page.extend(unread(self.random));
         }
-        Tabled::refused(page, number, place)
+        Made::refused(page, number, place)
     }
 }

@@ -1,9 +1,9 @@
 //! Every function of the table with its signature: as few arguments as it takes, as many as it has kinds, as many as it
 //! takes; and the literal exception.
 
-use super::{call, declared, shortest, Tabled};
+use super::{call, declared, shortest};
 use crate::functions;
-use crate::generate::Records;
+use crate::generate::{Made, Records};
 use crate::page::record::{Extra, Kind, Number, Record, Signature};
 use crate::page::MAX_LIST;
 use std::ops::RangeInclusive;
@@ -25,26 +25,26 @@ pub fn arguments(signature: &Signature, count: usize) -> Records {
     kinds.flat_map(shortest).collect()
 }
 
-fn called(signature: &Signature<'static>, count: usize) -> Tabled {
+fn called(signature: &Signature<'static>, count: usize) -> Made {
     let mut records = arguments(signature, count);
     records.push(call(signature.clone(), count));
-    Tabled::accepted(&records, signature.result)
+    Made::accepted(&records, signature.result)
 }
 
 /// The four functions of the literal exception with their signatures, on a literal that is excused.
-fn excused() -> impl Iterator<Item = Tabled> {
+fn excused() -> impl Iterator<Item = Made> {
     let literals = [Number::NaN, Number::Inf, Number::NegativeInf];
     let functions = ["exp", "ln", "log10", "log2"].into_iter();
     functions.flat_map(move |name| {
         let known = functions::signature(name).expect("a function of the table");
         literals.map(|literal| {
             let records = [Record::Number(literal), call(known.clone(), 1)];
-            Tabled::accepted(&records, Kind::Vector)
+            Made::accepted(&records, Kind::Vector)
         })
     })
 }
 
-pub(super) fn fixed() -> impl Iterator<Item = Tabled> {
+pub(super) fn fixed() -> impl Iterator<Item = Made> {
     let pages = functions::signatures().flat_map(|signature| {
         let counts = counts(signature);
         let mut tried = vec![*counts.start(), signature.kinds.len(), *counts.end()];

@@ -1,17 +1,17 @@
 //! Calls of names that the table lacks: near spellings of its names, aggregators, names before and behind all of them,
 //! short and long ones; with a signature of the table and arguments that it takes.
 
+use super::call;
 use super::right::arguments;
-use super::{call, Tabled};
 use crate::functions::spelling::{near_unknown, strangers, Spelling};
 use crate::functions::{names, signature};
-use crate::generate::Generator;
+use crate::generate::{Generator, Made};
 use crate::page::record::{Signature, Text};
 use crate::page::write;
 use crate::refusal::UNKNOWN_FUNCTION;
 
 /// A call of this name that is like another function in all else; on an empty stack or with its arguments.
-fn refused(name: &str, like: &str, is_bare: bool) -> Tabled {
+fn refused(name: &str, like: &str, is_bare: bool) -> Made {
     let known = signature(like).expect("a function of the table");
     let carried = Signature {
         name: Text::from(name),
@@ -24,7 +24,7 @@ fn refused(name: &str, like: &str, is_bare: bool) -> Tabled {
     };
     let record = records.len();
     records.push(call(carried, count));
-    Tabled::refused(write::page(&records), UNKNOWN_FUNCTION, record)
+    Made::refused(write::page(&records), UNKNOWN_FUNCTION, record)
 }
 
 /// The first near spelling of each sort; several names have none.
@@ -36,7 +36,7 @@ fn of_each_sort() -> impl Iterator<Item = (String, &'static str)> {
     sorts.filter_map(move |sort| near.iter().find(|(name, _)| sort.is_of(name)).cloned())
 }
 
-pub(super) fn fixed() -> impl Iterator<Item = Tabled> {
+pub(super) fn fixed() -> impl Iterator<Item = Made> {
     let numbered = names().enumerate();
     let near = numbered.map(|(place, name)| {
         let near = near_unknown(name);
@@ -58,7 +58,7 @@ impl Generator<'_> {
     }
 
     /// One call of a query with an unknown name, or such a call by itself.
-    pub(super) fn unknown_page(&mut self) -> Tabled {
+    pub(super) fn unknown_page(&mut self) -> Made {
         if self.random.chance(70) {
             return self.altered_page(UNKNOWN_FUNCTION);
         }

@@ -1,17 +1,17 @@
 //! Every function of the table with signatures that are unlike its own in one way: with their arguments, with an
 //! argument too many, on an empty stack, and in queries.
 
+use super::call;
 use super::right::arguments;
-use super::{call, Tabled};
 use crate::functions::near::{self, Unlike};
 use crate::functions::signatures;
-use crate::generate::Generator;
+use crate::generate::{Generator, Made};
 use crate::page::record::{Number, Record, Signature};
 use crate::page::write;
 use crate::refusal::UNLIKE_SIGNATURE;
 
 /// A call of a signature that is unlike the table's: `form` says what stands below it.
-fn refused(carried: &Signature<'static>, form: usize) -> Tabled {
+fn refused(carried: &Signature<'static>, form: usize) -> Made {
     let fitting = carried.kinds.len();
     let (mut records, count) = match form % 3 {
         0 => (arguments(carried, fitting), fitting),
@@ -24,12 +24,12 @@ fn refused(carried: &Signature<'static>, form: usize) -> Tabled {
     };
     let record = records.len();
     records.push(call(carried.clone(), count));
-    Tabled::refused(write::page(&records), UNLIKE_SIGNATURE, record)
+    Made::refused(write::page(&records), UNLIKE_SIGNATURE, record)
 }
 
 /// Each way of being unlike once for each function; which signature and what stands below it changes from one to the
 /// next.
-pub(super) fn fixed() -> impl Iterator<Item = Tabled> {
+pub(super) fn fixed() -> impl Iterator<Item = Made> {
     let numbered = signatures().enumerate();
     numbered.flat_map(|(place, known)| {
         let ways = Unlike::ALL.into_iter().enumerate();
@@ -54,7 +54,7 @@ impl Generator<'_> {
     }
 
     /// One call of a query with an unlike signature, or such a call by itself.
-    pub(super) fn unlike_page(&mut self) -> Tabled {
+    pub(super) fn unlike_page(&mut self) -> Made {
         if self.random.chance(70) {
             return self.altered_page(UNLIKE_SIGNATURE);
         }

@@ -5,18 +5,20 @@ pub mod flags;
 pub mod fraction_texts;
 pub mod fractions;
 pub mod functions;
+pub mod operators;
 pub mod patterns;
 pub mod straying;
 pub mod texts;
 
 use compare::library::Library;
-use oracle::answer::{self, Answer, Outcome};
+use oracle::answer::{self, Answer, Outcome, Worked};
 use oracle::{covered, functions as table};
 
 pub fn whole() -> Library {
     Library {
         check,
         check_table,
+        check_operators,
         joint_label,
         copy,
         canonical,
@@ -59,6 +61,14 @@ fn answer(page: *const u8, length: usize) -> Answer {
     answer::answer(slice(page, length)).expect("the Rust is foreseen")
 }
 
+fn worked<'a>(page: *const u8, length: usize) -> Worked<'a> {
+    answer::work(slice(page, length)).expect("the Rust is foreseen")
+}
+
+fn refused(number: u8, record: usize) -> Outcome {
+    Outcome::Refused { number, record }
+}
+
 fn is_accepted(answer: &Answer) -> bool {
     matches!(answer.outcome, Outcome::Accepted(_))
 }
@@ -78,6 +88,10 @@ extern "C" fn check(page: *const u8, length: usize) -> u64 {
 
 extern "C" fn check_table(page: *const u8, length: usize) -> u64 {
     answer(page, length).table.word(0)
+}
+
+extern "C" fn check_operators(page: *const u8, length: usize) -> u64 {
+    answer(page, length).operators.word(0)
 }
 
 extern "C" fn joint_label(page: *const u8, length: usize) -> u64 {

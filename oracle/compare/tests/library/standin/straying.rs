@@ -10,6 +10,7 @@ pub fn library(name: &str) -> Library {
         "reads behind the page" => Library { check: reads_behind, ..whole },
         "reads before the page" => Library { check: reads_before, ..whole },
         "asks the table behind the page" => Library { check_table: reads_behind, ..whole },
+        "asks for a parameter behind the page" => Library { check_operators: reads_behind, ..whole },
         "writes behind the buffer" => Library { copy: writes_behind, ..whole },
         "writes to the page" => Library { copy: writes_page, ..whole },
         "reads behind the pattern" => Library { pattern: patterns::reads_behind, ..whole },
@@ -21,7 +22,7 @@ pub fn library(name: &str) -> Library {
     }
 }
 
-pub const ALL: [&str; 10] = [
+pub const ALL: [&str; 11] = [
     "reads behind the page",
     "reads before the page",
     "writes behind the buffer",
@@ -32,6 +33,7 @@ pub const ALL: [&str; 10] = [
     "writes to the name",
     "writes behind the signature",
     "asks the table behind the page",
+    "asks for a parameter behind the page",
 ];
 
 extern "C" fn reads_behind(page: *const u8, length: usize) -> u64 {

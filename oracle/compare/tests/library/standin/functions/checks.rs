@@ -1,22 +1,14 @@
 //! Wrong checks with the function table: wrong rules for a call, and the right one asked at a wrong time.
 
-use super::super::{slice, whole};
+use super::super::{refused, slice, whole, worked};
 use super::rules::{Rule, RULES};
 use compare::library::{Asks, Library};
-use oracle::answer::{work, Outcome, Worked};
+use oracle::answer::{Outcome, Worked};
 use oracle::functions;
 use oracle::page::read::Reader;
 use oracle::page::record::Record;
 use oracle::page::write;
 use oracle::refusal::{UNKNOWN_FUNCTION, UNLIKE_SIGNATURE};
-
-fn worked<'a>(page: *const u8, length: usize) -> Worked<'a> {
-    work(slice(page, length)).expect("the Rust is foreseen")
-}
-
-fn refused(number: u8, record: usize) -> Outcome {
-    Outcome::Refused { number, record }
-}
 
 /// The first record that the rule refuses, otherwise document 01's outcome.
 fn first_by(worked: &Worked, rule: Rule) -> Outcome {
