@@ -45,8 +45,7 @@ fn literal_operand(literal: Literal) -> Operand
     }
 }
 
-// The operands are there: they lie from `top` on, the last one first. The rule is what is asked
-// beside document 01.
+// The operands are there: they lie from `top` on, the last one first. The rule says what is asked beside document 01.
 pub fn judge_record(
     page: &[u8],
     item: Record,

@@ -5,7 +5,7 @@ use mathlib.Core.List.{List, [], _∷_, _++_, map}
 use lib.Dec.{T, eqb}
 use lib.ListN.{replicate}
 use Rattle.page.specs.Bytes.{all, bytes, equal}
-use Rattle.names.specs.Names.{refusalNames, kindName, refusalName}
+use Rattle.names.specs.Names.{kindName, refusalName}
 use Rattle.names.specs.Written.{Named, nameWritten}
 
 abbrev does : Named → ℕ → List ℕ → Bool

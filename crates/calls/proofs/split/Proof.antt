@@ -1,14 +1,12 @@
 -- `calls::split` meets its contract: what the walk leaves is enough for the text, and each of the three ends has its
 -- law. Assumes nothing.
 use Prim.Native.Nat.{_-_}
-use lib.ListN.{length}
 use denote.Ref.{now}
 use native.Mathlib.Omega.{arith}
 use borrow.Author.Needs.{needs}
 use Rattle.text.specs.Pretty.{prettify}
 use Rattle.ast.specs.CheckPage.{checkPage}
 use Rattle.walk.specs.Answers.{Accepts}
-use Rattle.ast.specs.Tables.{treeAt}
 use Rattle.records.specs.Answers.{kindOf}
 use Rattle.calls.proofs.RoomLaws.{accepts-some, accepts-last, room-enough, room-short, room-fits}
 use Rattle.calls.proofs.DoesLaws.{does-refused, does-short, does-write}
