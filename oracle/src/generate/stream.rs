@@ -99,8 +99,8 @@ const TIMES: usize = 40;
 /// Pages with calls of the function table in a round.
 const FUNCTIONS: usize = 60;
 
-/// Pages with limitk and limit_ratio in a round.
-const OPERATORS: usize = 60;
+/// Pages with limitk and limit_ratio in a round, but for the one at the limit of records.
+const OPERATORS: usize = 59;
 
 /// One round: pages of ASCII, then pages with characters beyond it, then with fractions too, then with covered patterns
 /// and wrong flags, then with @ and offset, then with calls of the function table, then with limitk and limit_ratio.
@@ -112,6 +112,7 @@ pub fn round(random: &mut Random) -> Vec<Sample> {
     samples.extend((0..TIMES).map(|_| Sample::from(times::random(random))));
     samples.extend((0..FUNCTIONS).map(|_| Sample::for_table(functions::random(random))));
     samples.extend((0..OPERATORS).map(|_| Sample::for_operators(operators::random(random))));
+    samples.push(Sample::for_operators(operators::last(random)));
     samples
 }
 

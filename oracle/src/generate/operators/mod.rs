@@ -38,6 +38,24 @@ pub fn random(random: &mut Random) -> Made {
     }
 }
 
+/// A limit as the last record that a page may have or as the one behind it, or as many as there is room for.
+pub fn last(random: &mut Random) -> Made {
+    let forms: Vec<&Form> = forms::all().collect();
+    let &&(kind, parameter) = random.pick(&forms);
+    let code = random.pick(&CODES);
+    let before = length(parameter) + 1;
+    let at = |place: usize| {
+        let marks = place - before;
+        format!("{parameter} 0202757000 07*{marks}; 0a{code:02x}0002")
+    };
+    match (random.below(3), kind) {
+        (0, _) => Made::new(nested_limits(), Outcome::Accepted(Kind::Vector)),
+        (1, _) => refused(&at(256), 3, 256),
+        (_, Kind::Scalar) => accepted(&at(255)),
+        _ => refused(&at(255), LIMIT_PARAMETER, 255),
+    }
+}
+
 /// Every aggregator on every pair of expressions: limitk and limit_ratio among others that take a parameter or none.
 pub fn pairs() -> impl Iterator<Item = Vec<u8>> {
     let pairs =
