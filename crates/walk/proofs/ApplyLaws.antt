@@ -71,7 +71,8 @@ module _ (rules : Rules) (r : Record) (stack : List Expr) (sound : AllSound stac
       (ap {B = Result (List Operand)} (λ m. andThen m (λ y. ok (y ∷ drop (operands r) (map operandOf stack)))) e
       ∙ judgedBy-operand rules r stack sound)
     where
-      go : (m : Result (List Expr)) → applyBy rules r stack ≡ m → ok (x ∷ drop (operands r) (map operandOf stack)) ≡ mapResult (map operandOf) m → Applied rules r stack x
+      go : (m : Result (List Expr)) → applyBy rules r stack ≡ m
+          → ok (x ∷ drop (operands r) (map operandOf stack)) ≡ mapResult (map operandOf) m → Applied rules r stack x
       go (refused n) is f = absurd (let z : _≡_ {A = ℕ} 0 1 = cc in omega arith)
       go (ok after) is f = record { after = after; applies = is; heldOperands = cc }
 

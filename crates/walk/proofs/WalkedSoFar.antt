@@ -35,7 +35,8 @@ use Rattle.walk.proofs.ProgressLaws.{progress-bad, progress-refused, pr
 use Rattle.walk.proofs.TableLaws.{tables-start, tables-next, entry-of}
 use Rattle.walk.proofs.ArraysLaws.{Arrays, stack-length, arrays-next}
 
-pub record WalkedSoFar (limits : Bool) (page starts₀ firsts₀ starts firsts tags : List ℕ) (values : List Float) (bases : List ℕ) (top at count : ℕ) : Type 0 where
+pub record WalkedSoFar (limits : Bool) (page starts₀ firsts₀ starts firsts tags : List ℕ) (values : List Float)
+    (bases : List ℕ) (top at count : ℕ) : Type 0 where
   -- the trees of which the arrays hold the operands
   pub stack : List Expr
   pub progress : Progress (limitRules limits) page at count stack
@@ -51,7 +52,8 @@ kept-next table before n entry e =
     ∙ ap (λ (k : ℕ). drop k table) (sym (add-one n)) ∙ sym (drop-drop 1 n table) ∙ ap (drop 1) e
     ∙ drop-drop 1 n before ∙ ap (λ (k : ℕ). drop k before) (add-one n)
 
-pub walked-start : (limits : Bool) {page starts firsts tags : List ℕ} {values : List Float} {bases : List ℕ} → length page ≤ 8192 → Sized tags values → length bases ≡ 256
+pub walked-start : (limits : Bool) {page starts firsts tags : List ℕ} {values : List Float} {bases : List ℕ}
+    → length page ≤ 8192 → Sized tags values → length bases ≡ 256
     → length starts ≡ 256 → length firsts ≡ 256 → WalkedSoFar limits page starts firsts starts firsts tags values bases 256 0 0
 walked-start limits {page} {starts} {firsts} {tags} {values} {bases} short sized b s f = record {
   stack = [];
@@ -70,8 +72,10 @@ walked-start limits {page} {starts} {firsts} {tags} {values} {bases} short sized
 }
 
 -- a page too long: no record was read
-pub too-long-refused : (limits : Bool) {page starts firsts : List ℕ} → 8192 < length page → length starts ≡ 256 → length firsts ≡ 256 → Refuses (checkPageBy (limitRules limits) page) page starts firsts 3 0
-too-long-refused limits {page} {starts} {firsts} h s f = record { tables = tables-start page starts firsts s f; refuses = too-long-by (limitRules limits) page h }
+pub too-long-refused : (limits : Bool) {page starts firsts : List ℕ} → 8192 < length page → length starts ≡ 256
+    → length firsts ≡ 256 → Refuses (checkPageBy (limitRules limits) page) page starts firsts 3 0
+too-long-refused limits {page} {starts} {firsts} h s f =
+    record { tables = tables-start page starts firsts s f; refuses = too-long-by (limitRules limits) page h }
 
 -- after a record that takes n operands and puts the operand x
 pub record NextTurn (limits : Bool) (page starts₀ firsts₀ starts firsts tags : List ℕ) (values : List Float) (bases : List ℕ)
@@ -127,7 +131,8 @@ module _ {limits : Bool} {page starts₀ firsts₀ starts firsts tags : List ℕ
     left-tree : checkPageBy rules page ≡ accepted (left-one one .tree) count
     left-tree = progress-end (held .progress) over ∙ ap (atEnd records.end count) (left-one one .is)
 
-    pub ends-accepted : {k : Kind} → k ≡ operandKind (getD (heldOperands tags values) 255 stringOperand) → Accepts (checkPageBy rules page) page starts firsts k count
+    pub ends-accepted : {k : Kind} → k ≡ operandKind (getD (heldOperands tags values) 255 stringOperand)
+        → Accepts (checkPageBy rules page) page starts firsts k count
     unfolding treeAt
     ends-accepted {k} is =
         let last : suc (count - 1) ≡ count = omega (arith, one, held .arrays .depth-range) in
@@ -148,11 +153,13 @@ module _ {limits : Bool} {page starts₀ firsts₀ starts firsts tags : List ℕ
     too-many e = refuses-next (progress-over (held .progress) more e)
 
     module _ (few : count ≡ 256 → ⊥) where
-      pub unreadable : (f : FieldFault) {n : ℕ} → refusedField f ≡ readRecord (drop at page) → n ≡ faultNumber f → Refuses (checkPageBy rules page) page starts firsts n count
+      pub unreadable : (f : FieldFault) {n : ℕ} → refusedField f ≡ readRecord (drop at page) → n ≡ faultNumber f
+          → Refuses (checkPageBy rules page) page starts firsts n count
       unreadable f e number = rw number (refuses-next (progress-bad (held .progress) more few f e))
 
       module _ {r : Record} (next : ℕ) (read : got r (drop next page) ≡ readRecord (drop at page)) where
-        pub unfit : {n : ℕ} → refused n ≡ judgementBy rules r (drop top (heldOperands tags values)) → Refuses (checkPageBy rules page) page starts firsts n count
+        pub unfit : {n : ℕ} → refused n ≡ judgementBy rules r (drop top (heldOperands tags values))
+            → Refuses (checkPageBy rules page) page starts firsts n count
         unfit e =
             refuses-next (progress-refused (held .progress) more few next read
             (unapplied rules r trees (held .progress .sound) (e ∙ ap (judgementBy rules r) (held .arrays .summaries))))

@@ -48,7 +48,8 @@ step : (c : tie.After-bases Inv-loop μ-loop) →
     let at-item = at-operand-count .before .before in
     let at-loop = at-item .before .before .before .before .before in
     let at-start = at-loop .before .before .before .before .before in
-    NextTurn (eqb (at-start .args .rule) 42) (now (at-start .args .page)) (now (at-start .args .starts)) (now (at-start .args .firsts))
+    NextTurn (eqb (at-start .args .rule) 42) (now (at-start .args .page)) (now (at-start .args .starts))
+    (now (at-start .args .firsts))
     (at-loop .loop .starts) (at-loop .loop .firsts) (at-loop .loop .tags) (at-loop .loop .values)
     (at-loop .loop .bases) (at-loop .loop .top) (at-loop .loop .at) (at-loop .loop .count)
     (at-operand-count .operand-count .result) (at-item .item .given .0 .1 .0)
@@ -81,7 +82,8 @@ returns c =
 loop-holds : tie.Need-loop-holds Inv-loop μ-loop
 loop-holds c =
     let at-start = c .before .before .before .before in
-    walked-start (eqb (at-start .args .rule) 42) (c .if1 .left) (record { tags-size = refl; values-size = refl }) refl (at-start .pre .0)
+    walked-start (eqb (at-start .args .rule) 42) (c .if1 .left) (record { tags-size = refl; values-size = refl })
+    refl (at-start .pre .0)
     (at-start .pre .1)
 
 same-length : tie.Need-same-length Inv-loop μ-loop

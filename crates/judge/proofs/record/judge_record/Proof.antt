@@ -171,7 +171,8 @@ returns-2 : tie.Need-returns-2
 returns-2 c =
     let at-start = c .before .before .before .before .before in
     rw (c .enum-told .given .1)
-    (judgement-leaf (eqb (at-start .args .rule) 42) (string (spanOn (now (at-start .args .page)) (c .enum-told .given .0 .0)))
+    (judgement-leaf (eqb (at-start .args .rule) 42)
+    (string (spanOn (now (at-start .args .page)) (c .enum-told .given .0 .0)))
     (drop (at-start .args .top) (heldOperands (now (at-start .args .tags)) (now (at-start .args .values)))))
 
 returns-3 : tie.Need-returns-3
@@ -257,7 +258,8 @@ returns-10 c =
     (at-kind-of .kind-of .ensures ∙ ap operandKind (at-seventh-operand-at .operand-at7 .ensures)) in
     rw (at-third-item .item3 .given .1)
     (c .judge-binary .ensures ∙ sides
-    ∙ judgement-binary (at-start .pre .0) (eqb (at-start .args .rule) 42) (at-start .args .top) (at-third-item .item3 .given .0 .0) m h)
+    ∙ judgement-binary (at-start .pre .0) (eqb (at-start .args .rule) 42) (at-start .args .top)
+    (at-third-item .item3 .given .0 .0) m h)
 
 returns-11 : tie.Need-returns-11
 returns-11 c =
@@ -266,7 +268,8 @@ returns-11 c =
     let h = rw (at-fourth-item .item4 .given .1) at (at-start .pre .1 .fits) in
     rw (at-fourth-item .item4 .given .1)
     (c .judge-aggregate .ensures
-    ∙ judgement-aggregate (at-start .pre .0) (eqb (at-start .args .rule) 42) (at-start .args .top) (at-fourth-item .item4 .given .0 .0)
+    ∙ judgement-aggregate (at-start .pre .0) (eqb (at-start .args .rule) 42) (at-start .args .top)
+    (at-fourth-item .item4 .given .0 .0)
     (labelModifierOn (now (at-start .args .page)) (at-fourth-item .item4 .given .0 .1 .0))
     (at-fourth-item .item4 .given .0 .1 .1 .0) h)
 

@@ -11,7 +11,8 @@ use Rattle.rules.proofs.aggregate.judge_aggregate.Tie as tie
 returns : tie.Need-returns
 returns c =
     let at-start = c .before .before .before in
-    aggregate-none (at-start .pre .0) (eqb (at-start .args .rule) 42) (at-start .args .code) (at-start .args .top) (at-start .args .count)
+    aggregate-none (at-start .pre .0) (eqb (at-start .args .rule) 42) (at-start .args .code) (at-start .args .top)
+    (at-start .args .count)
     (c .if1 .taken)
 
 has-parameter-requires : tie.Need-has-parameter-requires
@@ -21,7 +22,8 @@ returns-2 : tie.Need-returns-2
 returns-2 c =
     let at-first-if = c .before .before .before in
     let at-start = at-first-if .before .before .before in
-    parameter-other (at-start .pre .0) (eqb (at-start .args .rule) 42) (at-start .args .code) (at-start .args .top) (at-start .args .count)
+    parameter-other (at-start .pre .0) (eqb (at-start .args .rule) 42) (at-start .args .code) (at-start .args .top)
+    (at-start .args .count)
     (sym (c .before .before .has-parameter .ensures) ∙ c .before .if2 .taken) (at-first-if .if1 .left)
     (c .if3 .taken) (at-start .pre .1)
 
@@ -52,7 +54,8 @@ returns-3 c =
     let at-has-parameter = at-second-if .before in
     let at-start = at-has-parameter .before .before .before .before in
     c .judge-operand .ensures
-    ∙ parameter-two (at-start .pre .0) (eqb (at-start .args .rule) 42) (at-start .args .code) (at-start .args .top) (at-start .args .count)
+    ∙ parameter-two (at-start .pre .0) (eqb (at-start .args .rule) 42) (at-start .args .code) (at-start .args .top)
+    (at-start .args .count)
     (sym (at-has-parameter .has-parameter .ensures) ∙ at-second-if .if2 .taken) (at-third-if .if3 .left)
     (at-start .pre .1) (at-kind-of .kind-of .ensures ∙ ap operandKind (at-operand-at .operand-at .ensures))
     (c .before .kind-of2 .ensures ∙ ap operandKind (c .before .before .operand-at2 .ensures))
@@ -61,7 +64,8 @@ returns-4 : tie.Need-returns-4
 returns-4 c =
     let at-first-if = c .before .before .before in
     let at-start = at-first-if .before .before .before in
-    plain-other (at-start .pre .0) (eqb (at-start .args .rule) 42) (at-start .args .code) (at-start .args .top) (at-start .args .count)
+    plain-other (at-start .pre .0) (eqb (at-start .args .rule) 42) (at-start .args .code) (at-start .args .top)
+    (at-start .args .count)
     (sym (c .before .before .has-parameter .ensures) ∙ c .before .if2 .left) (at-first-if .if1 .left)
     (c .if4 .taken) (at-start .pre .1)
 
@@ -81,7 +85,8 @@ returns-5 c =
     let at-has-parameter = at-second-if .before in
     let at-start = at-has-parameter .before .before .before .before in
     c .judge-operand2 .ensures
-    ∙ plain-one (at-start .pre .0) (eqb (at-start .args .rule) 42) (at-start .args .code) (at-start .args .top) (at-start .args .count)
+    ∙ plain-one (at-start .pre .0) (eqb (at-start .args .rule) 42) (at-start .args .code) (at-start .args .top)
+    (at-start .args .count)
     (sym (at-has-parameter .has-parameter .ensures) ∙ at-second-if .if2 .left) (at-fourth-if .if4 .left)
     (at-start .pre .1) (c .before .kind-of3 .ensures ∙ ap operandKind (c .before .before .operand-at3 .ensures))
 

@@ -1,8 +1,28 @@
 -- `rules::aggregate::judge_operand` meets its contract: at each return the tests before it say which row of the table
 -- is the first that applies. Assumes nothing.
+use Prim.Native.Nat.{ℕ}
+use mathlib.Core.Path.{_≡_}
+use mathlib.Core.Bool.{Bool, _&&_, not}
+use mathlib.Core.List.{[], _∷_, _++_}
+use mathlib.Core.Option.{Option}
+use lib.Dec.{eqb}
+use Rattle.records.specs.Kind.{Kind, vector}
+use Rattle.records.specs.Answers.{kindOf}
+use Rattle.ast.specs.Refusal.{when}
+use Rattle.ast.specs.CheckAst.{aggregateRows}
+use Rattle.ast.specs.Operand.{otherOperand}
+use Rattle.ast.specs.Judge.{put}
+use Rattle.rules.specs.Answers.{parameterMeant}
+use Rattle.rules.specs.Limit.{limitRows}
 use borrow.Author.Needs.{needs}
 use Rattle.rules.proofs.aggregate.judge_operand.Statement.{statement}
 use Rattle.rules.proofs.aggregate.judge_operand.Tie as tie
+
+-- the verdict is that of the row of 42 alone
+abbrev Behind : ℕ → Option Kind → Kind → Bool → Bool → Bool → Type 0
+Behind code parameter operand asked limit scalar =
+    put (when (asked && limit && not scalar) 42 ∷ []) (otherOperand vector)
+    ≡ put (aggregateRows code parameter operand ++ limitRows asked code parameter) (otherOperand vector)
 
 is-aggregator-requires : tie.Need-is-aggregator-requires
 is-aggregator-requires c κs = search needs
@@ -76,11 +96,14 @@ returns-4 c =
 is-limit-requires : tie.Need-is-limit-requires
 is-limit-requires c κs = search needs
 
-returns-5 : tie.Need-returns-5
-returns-5 c =
-    let at-fourth-if = c .before .before in
-    let at-parameter-is-string = at-fourth-if .before in
-    let at-is-count-values = at-parameter-is-string .before in
+-- behind the fourth test none of document 01's rows applies, and the row of 42 is what is tested next
+rows-left : (c : tie.After-is-limit) →
+    let at-parameter-is-scalar = c .before .before .before .before .before .before in
+    let at-start = at-parameter-is-scalar .before .before .before .before .before in
+    Behind (at-start .args .code) (parameterMeant (at-start .args .parameter)) (kindOf (at-start .args .operand))
+    (eqb (at-start .args .rule) 42) (c .is-limit .result) (at-parameter-is-scalar .parameter-is-scalar .result)
+rows-left c =
+    let at-is-count-values = c .before .before .before in
     let at-third-if = at-is-count-values .before in
     let at-asks-scalar = at-third-if .before in
     let at-parameter-is-scalar = at-asks-scalar .before in
@@ -94,41 +117,19 @@ returns-5 c =
       ← at-parameter-is-scalar .parameter-is-scalar .ensures,
       ← at-asks-scalar .asks-scalar .ensures,
       ← at-is-count-values .is-count-values .ensures,
-      ← at-parameter-is-string .parameter-is-string .ensures,
+      ← c .before .before .parameter-is-string .ensures,
+      ← c .is-limit .ensures,
       at-first-if .if1 .left,
       at-second-if .if2 .left,
       at-third-if .if3 .left,
-      ← c .before .is-limit .ensures,
-      at-fourth-if .if4 .left,
-      c .if5 .taken,
+      c .before .if4 .left,
     )
 
+returns-5 : tie.Need-returns-5
+returns-5 c = rw (c .if5 .taken) at (rows-left (c .before))
+
 returns-6 : tie.Need-returns-6
-returns-6 c =
-    let at-fourth-if = c .before .before in
-    let at-parameter-is-string = at-fourth-if .before in
-    let at-is-count-values = at-parameter-is-string .before in
-    let at-third-if = at-is-count-values .before in
-    let at-asks-scalar = at-third-if .before in
-    let at-parameter-is-scalar = at-asks-scalar .before in
-    let at-second-if = at-parameter-is-scalar .before in
-    let at-is-vector = at-second-if .before in
-    let at-first-if = at-is-vector .before in
-    let at-is-aggregator = at-first-if .before in
-    simp (
-      ← at-is-aggregator .is-aggregator .ensures,
-      ← at-is-vector .is-vector .ensures,
-      ← at-parameter-is-scalar .parameter-is-scalar .ensures,
-      ← at-asks-scalar .asks-scalar .ensures,
-      ← at-is-count-values .is-count-values .ensures,
-      ← at-parameter-is-string .parameter-is-string .ensures,
-      at-first-if .if1 .left,
-      at-second-if .if2 .left,
-      at-third-if .if3 .left,
-      ← c .before .is-limit .ensures,
-      at-fourth-if .if4 .left,
-      c .if5 .left,
-    )
+returns-6 c = rw (c .if5 .left) at (rows-left (c .before))
 
 pub judge-operand-spec : {M : Type 1} → statement M
 judge-operand-spec =

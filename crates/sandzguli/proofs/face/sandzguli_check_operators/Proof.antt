@@ -13,7 +13,8 @@ check-operators-requires c κs = search needs
 
 outcome-word-requires : tie.Need-outcome-word-requires
 outcome-word-requires c κs =
-    subst FitsWord (sym (c .check-operators .ensures .isCheckOperators)) (checkOperators-fits (now (c .before .before .args .page)))
+    subst FitsWord (sym (c .check-operators .ensures .isCheckOperators))
+    (checkOperators-fits (now (c .before .before .args .page)))
 
 returns : tie.Need-returns
 returns c = c .outcome-word .ensures ∙ ap outcomeWord (c .before .check-operators .ensures .isCheckOperators)

@@ -9,9 +9,7 @@ outcome-by-requires : tie.Need-outcome-by-requires
 outcome-by-requires c κs = search needs
 
 returns : tie.Need-returns
-returns c =
-    let at-start = c .before .before in
-    check-meets (now (at-start .args .page)) (c .outcome-by .ensures)
+returns c = check-meets (now (c .before .before .args .page)) (c .outcome-by .ensures)
 
 pub check-spec : {M : Type 1} → statement M
 check-spec = tie.close (tie.spec outcome-by-requires returns)
