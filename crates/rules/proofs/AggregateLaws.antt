@@ -1,4 +1,5 @@
--- The arguments of an aggregate: how many there are, and which one is the operand.
+-- The arguments of an aggregate: how many there are, and which one is the operand. 42 is asked of what document 01
+-- accepts, which is a row behind its own.
 use Prim.Native.Nat.{ℕ, _+_, _≤_}
 use mathlib.Core.Path.{_≡_, refl, sym, ap₂, _∙_}
 use mathlib.Core.Bool.{Bool, true, false, _&&_, _||_, not, true≢false}
