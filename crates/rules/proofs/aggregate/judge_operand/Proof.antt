@@ -1,12 +1,10 @@
 -- `rules::aggregate::judge_operand` meets its contract: at each return the tests before it say which row of the table
 -- is the first that applies. Assumes nothing.
-use Prim.Native.Nat.{ℕ}
 use mathlib.Core.Path.{_≡_}
-use mathlib.Core.Bool.{Bool, _&&_, not}
+use mathlib.Core.Bool.{Bool, true, false, _&&_, not}
 use mathlib.Core.List.{[], _∷_, _++_}
-use mathlib.Core.Option.{Option}
 use lib.Dec.{eqb}
-use Rattle.records.specs.Kind.{Kind, vector}
+use Rattle.records.specs.Kind.{vector}
 use Rattle.records.specs.Answers.{kindOf}
 use Rattle.ast.specs.Refusal.{when}
 use Rattle.ast.specs.CheckAst.{aggregateRows}
@@ -17,12 +15,6 @@ use Rattle.rules.specs.Limit.{limitRows}
 use borrow.Author.Needs.{needs}
 use Rattle.rules.proofs.aggregate.judge_operand.Statement.{statement}
 use Rattle.rules.proofs.aggregate.judge_operand.Tie as tie
-
--- the verdict is that of the row of 42 alone
-abbrev Behind : ℕ → Option Kind → Kind → Bool → Bool → Bool → Type 0
-Behind code parameter operand asked limit scalar =
-    put (when (asked && limit && not scalar) 42 ∷ []) (otherOperand vector)
-    ≡ put (aggregateRows code parameter operand ++ limitRows asked code parameter) (otherOperand vector)
 
 is-aggregator-requires : tie.Need-is-aggregator-requires
 is-aggregator-requires c κs = search needs
@@ -96,13 +88,17 @@ returns-4 c =
 is-limit-requires : tie.Need-is-limit-requires
 is-limit-requires c κs = search needs
 
--- behind the fourth test none of document 01's rows applies, and the row of 42 is what is tested next
-rows-left : (c : tie.After-is-limit) →
+-- behind the fourth test none of document 01's rows applies: the verdict is that of the row of 42, as its test comes out
+rows-left : (c : tie.After-is-limit) (told : Bool) →
     let at-parameter-is-scalar = c .before .before .before .before .before .before in
     let at-start = at-parameter-is-scalar .before .before .before .before .before in
-    Behind (at-start .args .code) (parameterMeant (at-start .args .parameter)) (kindOf (at-start .args .operand))
-    (eqb (at-start .args .rule) 42) (c .is-limit .result) (at-parameter-is-scalar .parameter-is-scalar .result)
-rows-left c =
+    let code = at-start .args .code in
+    let parameter = parameterMeant (at-start .args .parameter) in
+    let asked = eqb (at-start .args .rule) 42 in
+    asked && c .is-limit .result && not (at-parameter-is-scalar .parameter-is-scalar .result) ≡ told
+    → put (when told 42 ∷ []) (otherOperand vector)
+    ≡ put (aggregateRows code parameter (kindOf (at-start .args .operand)) ++ limitRows asked code parameter) (otherOperand vector)
+rows-left c told e =
     let at-is-count-values = c .before .before .before in
     let at-third-if = at-is-count-values .before in
     let at-asks-scalar = at-third-if .before in
@@ -123,13 +119,14 @@ rows-left c =
       at-second-if .if2 .left,
       at-third-if .if3 .left,
       c .before .if4 .left,
+      e,
     )
 
 returns-5 : tie.Need-returns-5
-returns-5 c = rw (c .if5 .taken) at (rows-left (c .before))
+returns-5 c = rows-left (c .before) true (c .if5 .taken)
 
 returns-6 : tie.Need-returns-6
-returns-6 c = rw (c .if5 .left) at (rows-left (c .before))
+returns-6 c = rows-left (c .before) false (c .if5 .left)
 
 pub judge-operand-spec : {M : Type 1} → statement M
 judge-operand-spec =
