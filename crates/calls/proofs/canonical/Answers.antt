@@ -1,0 +1,50 @@
+-- `calls::canonical` meets its contract: what the walk leaves is enough for the text, and each of the three ends has
+-- its law. Assumes nothing.
+use mathlib.Core.Path.{sym, ◌∙◌}
+use native.Mathlib.Nat.{zero-add}
+use borrow.Author.Tests.{leb-true}
+use Rattle.text.specs.Display.{display}
+use Rattle.view.proofs.ViewLaws.{unmarked}
+use Rattle.ast.specs.CheckPage.{check_page}
+use Rattle.walk.specs.Answers.{Accepts}
+use Rattle.records.specs.Answers.{kind_of}
+use Rattle.calls.proofs.RoomLaws.{accepts-some, accepts_last}
+use Rattle.calls.proofs.DoesLaws.{does-refused, does-short, does-write}
+use Rattle.calls.proofs.canonical.Goals as goal
+
+-- where the page is accepted: what the walk left in the tables
+known : (c : goal.In-Accepted-2) →
+    Accepts (check_page c.args.page.now) c.args.page.now c.walk-walked.new.1.0
+    c.walk-walked.new.1.1.0
+    (kind_of c.in-Accepted.kind) c.in-Accepted.n
+known c =
+    rw c.in-Accepted.is at c.walk-walked.ensures.says
+
+pub overflow_sub-n : goal.overflow_sub-n
+overflow_sub-n c =
+    accepts-some (known c {-place at-walked-})
+
+pub text_fits-requires : goal.text_fits-requires
+text_fits-requires c =
+    accepts_last (known c {-place at-walked-})
+
+pub overflow_sub-n-then-text_fits : goal.overflow_sub-n-then-text_fits
+overflow_sub-n-then-text_fits c =
+    accepts-some (known c {-place at-walked-})
+
+pub write_text-written-requires : goal.write_text-written-requires
+write_text-written-requires c =
+    record { tables = accepts_last (known c {-place at-walked-}); numberless = unmarked _ _; room = rw zero-add (leb-true _ _ (sym c.text_fits.ensures ∙ c.if-text_fits.true)) }
+
+pub returns-then-text_fits : goal.returns-then-text_fits
+returns-then-text_fits c =
+    does-write display (known c {-place at-walked-}).tree (known c {-place at-walked-}).kind
+    (sym c.text_fits.ensures ∙ c.if-text_fits.true) c.write_text-written.ensures
+
+pub returns-else-text_fits : goal.returns-else-text_fits
+returns-else-text_fits c =
+    does-short display (known c {-place at-walked-}).tree (sym c.text_fits.ensures ∙ c.if-text_fits.false)
+
+pub returns-in-Refused : goal.returns-in-Refused
+returns-in-Refused c =
+    does-refused display (rw c.in-Refused.is at c.walk-walked.ensures.says).refuses

@@ -1,0 +1,21 @@
+-- `fields::code_of` meets its contract: the code stands after the kind. Assumes nothing.
+use Rattle.fields.proofs.FieldLaws.{base-inside, code-there}
+use Rattle.fields.proofs.code_of.Goals as goal
+
+pub fields_start-start-requires : goal.fields_start-start-requires
+fields_start-start-requires c =
+    base-inside c.requires.node
+
+pub returns-in-Got : goal.returns-in-Got
+returns-in-Got c =
+    record {
+      is = rw (c.in-Got.is, c.fields_start-start.ensures) at
+          c.read_code.ensures;
+    }
+
+pub returns-in-Bad : goal.returns-in-Bad
+returns-in-Bad c =
+    let p = c.requires in
+    absurd (code-there p.0 p.1
+    (rw (c.in-Bad.is, c.fields_start-start.ensures) at
+    c.read_code.ensures))

@@ -1,0 +1,21 @@
+-- `fields::function_of` meets its contract: the name stands after the kind, the rest of the signature after it.
+-- Assumes nothing.
+use Rattle.fields.proofs.FieldLaws.{base-inside, function-reads, function-there}
+use Rattle.fields.proofs.function_of.Goals as goal
+
+pub fields_start-start-requires : goal.fields_start-start-requires
+fields_start-start-requires c =
+    base-inside c.requires.node
+
+pub returns-in-Got : goal.returns-in-Got
+returns-in-Got c =
+    let p = c.requires in
+    let got = rw (c.in-Got.is, c.fields_start-start.ensures) at
+    c.read_text.ensures.reads in record { reads = function-reads p.0 p.1 _ got; lies = rw c.in-Got.is at c.read_text.ensures.lies }
+
+pub returns-in-Bad : goal.returns-in-Bad
+returns-in-Bad c =
+    let p = c.requires in
+    absurd (function-there p.0 p.1
+    (rw (c.in-Bad.is, c.fields_start-start.ensures) at
+    c.read_text.ensures.reads))

@@ -1,0 +1,47 @@
+-- `fields::selector_of` meets its contract: the name, then the count of the matchers; they stand after it. Assumes
+-- nothing.
+use mathlib.Core.Path.{refl}
+use Rattle.text.proofs.EntryLaws.{page-short}
+use Rattle.text.proofs.EntryLaws.{allowed}
+use Rattle.fields.proofs.FieldLaws.{base-inside, selector-reads, name-there, matchers-there}
+use Rattle.fields.proofs.selector_of.Goals as goal
+
+pub fields_start-start-requires : goal.fields_start-start-requires
+fields_start-start-requires c =
+    base-inside c.requires.node
+
+pub returns-in-Got-read_count : goal.returns-in-Got-read_count
+returns-in-Got-read_count c =
+    let p = c.requires in
+    let name = rw (c.in-Got.is, c.fields_start-start.ensures) at
+    c.read_text.ensures.reads in
+    let r = selector-reads p.0 p.1 name
+    (rw c.in-Got-read_count.is at c.read_count.ensures) in
+    let lies = rw c.in-Got.is at c.read_text.ensures.lies in
+    rw c.selector.ensures (
+      r.0,
+      (
+        record {
+          name = lies;
+          stored = r.1;
+          few = (allowed _ r.0.reads).1.0;
+          short = page-short p.0.known.tables;
+        },
+        (refl, refl),
+      ),
+    )
+
+pub returns-in-Bad-read_count : goal.returns-in-Bad-read_count
+returns-in-Bad-read_count c =
+    let p = c.requires in
+    let name = rw (c.in-Got.is, c.fields_start-start.ensures) at
+    c.read_text.ensures.reads in
+    absurd (matchers-there p.0 p.1 name
+    (rw c.in-Bad-read_count.is at c.read_count.ensures))
+
+pub returns-in-Bad : goal.returns-in-Bad
+returns-in-Bad c =
+    let p = c.requires in
+    absurd (name-there p.0 p.1
+    (rw (c.in-Bad.is, c.fields_start-start.ensures) at
+    c.read_text.ensures.reads))

@@ -1,0 +1,30 @@
+-- `fields::spacing_of` meets its contract, field by field. Assumes nothing.
+use Rattle.fields.proofs.FieldLaws.{base-inside, spacing-reads, range-there, step-there}
+use Rattle.fields.proofs.spacing_of.Goals as goal
+
+pub fields_start-start-requires : goal.fields_start-start-requires
+fields_start-start-requires c =
+    base-inside c.requires.node
+
+pub returns-in-Got-read_optional_duration : goal.returns-in-Got-read_optional_duration
+returns-in-Got-read_optional_duration c =
+    let p = c.requires in
+    let range = rw (c.in-Got.is, c.fields_start-start.ensures) at
+    c.read_number.ensures.reads in
+    spacing-reads p.0 p.1 range
+    (rw c.in-Got-read_optional_duration.is at c.read_optional_duration.ensures)
+
+pub returns-in-Bad-read_optional_duration : goal.returns-in-Bad-read_optional_duration
+returns-in-Bad-read_optional_duration c =
+    let p = c.requires in
+    let range = rw (c.in-Got.is, c.fields_start-start.ensures) at
+    c.read_number.ensures.reads in
+    absurd (step-there p.0 p.1 range
+    (rw c.in-Bad-read_optional_duration.is at c.read_optional_duration.ensures))
+
+pub returns-in-Bad : goal.returns-in-Bad
+returns-in-Bad c =
+    let p = c.requires in
+    absurd (range-there p.0 p.1
+    (rw (c.in-Bad.is, c.fields_start-start.ensures) at
+    c.read_number.ensures.reads))

@@ -1,0 +1,84 @@
+use Prim.Native.Nat.{ℕ, ◌+◌, ◌-◌, ◌/◌, ◌<◌}
+use native.Mathlib.Omega.{arith}
+use mathlib.Core.Path.{◌≡◌, sym, ◌∙◌}
+use mathlib.Core.List.{[]}
+use lib.ListN.{get_or}
+use Rattle.functions.specs.Order.{order_of}
+use Rattle.functions.specs.Table.{count_of, names_in, place_of}
+use Rattle.functions.proofs.CutLaws.{length-names_in, table-form, names_in-at}
+use Rattle.functions.proofs.PlaceLaws.{left-all, left-none}
+use Rattle.functions.proofs.PlaceLaws.{Halved, left_behind, left-front, left-found}
+use Rattle.functions.proofs.find.find.Goals as goal
+
+abbrev middle : ℕ → ℕ → ℕ
+middle low high = low + (high - low) / 2
+
+-- the place is one of those left
+half : (c : goal.In-loop-low) →
+    Halved (names_in c.args.letters.now c.args.starts.now) c.args.name.now
+    c.loop-low.low c.loop-low.high (middle c.loop-low.low c.loop-low.high)
+half c =
+    record {
+      sorted = (table-form c.args.letters.now c.args.starts.now c.requires).named;
+      left = c.loop-low.invariant;
+      from = omega arith;
+      to = omega (arith, c.loop-low-test.true);
+    }
+
+inside : (c : goal.In-loop-low) →
+    middle c.loop-low.low c.loop-low.high < count_of c.args.starts.now
+inside c =
+    omega (
+      arith,
+      (half c).to,
+      (half c).left.inside,
+      length-names_in c.args.letters.now c.args.starts.now,
+    )
+
+-- the name there, beside the name that is looked for
+order : (c : goal.After-order_of) →
+    order_of
+    (get_or (names_in c.args.letters.now c.args.starts.now)
+    (middle c.loop-low.low c.loop-low.high) [])
+    c.args.name.now
+    ≡ c.order_of.result
+order c =
+    rw (
+      names_in-at c.args.letters.now c.args.starts.now _ (inside c {-place-}),
+      ← c.text_in.ensures,
+    )
+    (sym c.order_of.ensures)
+
+pub loop-low-init : goal.loop-low-init
+loop-low-init c =
+    left-all _ _ _ (length-names_in c.args.letters.now c.args.starts.now)
+
+pub overflow_add-middle : goal.overflow_add-middle
+overflow_add-middle c =
+    omega (arith, inside c)
+
+pub text_in-requires : goal.text_in-requires
+text_in-requires c =
+    record { table = c.requires; inside = omega (arith, inside c) }
+
+pub returns-in-Same : goal.returns-in-Same
+unfolding place_of
+returns-in-Same c =
+    left-found (half c {-place at-loop-test-}) (order c {-place-} ∙ c.in-Same.is)
+
+pub overflow_add-low : goal.overflow_add-low
+overflow_add-low c =
+    omega (arith, inside c {-place at-loop-test-})
+
+pub loop-low-preserved-in-Before : goal.loop-low-preserved-in-Before
+loop-low-preserved-in-Before c =
+    left_behind (half c {-place at-loop-test-}) (order c {-place-} ∙ c.in-Before.is)
+
+pub loop-low-preserved : goal.loop-low-preserved
+loop-low-preserved c =
+    left-front (half c {-place at-loop-test-}) (order c {-place-} ∙ c.in-Behind.is)
+
+pub returns : goal.returns
+unfolding place_of
+returns c =
+    left-none c.loop-low.invariant c.loop-low-test.false

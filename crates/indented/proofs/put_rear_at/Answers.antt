@@ -1,0 +1,75 @@
+-- `indented::put_rear_at` meets its contract. Assumes nothing.
+use Rattle.indented.proofs.IndentLaws.{run-closed}
+use Rattle.view.proofs.NodeLaws.{layout-shaped}
+use Rattle.text.proofs.WriteLaws.{wrote_nothing, wrote_as, room_as}
+use Rattle.text.specs.Layout.{rear_at}
+use Rattle.base.proofs.SpliceLaws.{fits, next, end}
+use mathlib.Core.Path.{sym, ap, ◌∙◌}
+use Rattle.indented.proofs.put_rear_at.Goals as goal
+
+pub put_suffix-requires : goal.put_suffix-requires
+put_suffix-requires c =
+    let e = layout-shaped c.requires.node
+    (sym c.in-Suffixed.is ∙ c.shape_of.ensures) in record { node = c.requires.node; room = room_as _ _ c.args.at _ (ap (rear_at c.args.level) e) c.requires.room }
+
+pub put_byte-lead-requires : goal.put_byte-lead-requires
+put_byte-lead-requires c =
+    let e = layout-shaped c.requires.node
+    (sym c.in-Enclosed.is ∙ c.shape_of.ensures) in
+    fits (run-closed c.args.level c.args.out.now c.args.at
+    (ap (rear_at c.args.level) e) c.requires.room)
+
+pub put_spaces-last-requires : goal.put_spaces-last-requires
+put_spaces-last-requires c =
+    let e = layout-shaped c.requires.node
+    (sym c.in-Enclosed.is ∙ c.shape_of.ensures) in
+    fits (next (run-closed c.args.level c.args.out.now c.args.at
+    (ap (rear_at c.args.level) e) c.requires.room) c.put_byte-lead.ensures)
+
+pub put_byte-requires : goal.put_byte-requires
+put_byte-requires c =
+    let e = layout-shaped c.requires.node
+    (sym c.in-Enclosed.is ∙ c.shape_of.ensures) in
+    fits (next (next (run-closed c.args.level c.args.out.now c.args.at
+    (ap (rear_at c.args.level) e) c.requires.room) c.put_byte-lead.ensures)
+    c.put_spaces-last.ensures)
+
+pub returns-in-Whole : goal.returns-in-Whole
+returns-in-Whole c =
+    let e = layout-shaped c.requires.node
+    (sym c.in-Whole.is ∙ c.shape_of.ensures) in
+    wrote_nothing _ _ (ap (rear_at c.args.level) e)
+
+pub returns-in-Minus : goal.returns-in-Minus
+returns-in-Minus c =
+    let e = layout-shaped c.requires.node
+    (sym c.in-Minus.is ∙ c.shape_of.ensures) in
+    wrote_nothing _ _ (ap (rear_at c.args.level) e)
+
+pub shape_of-out-in-Suffixed : goal.shape_of-out-in-Suffixed
+shape_of-out-in-Suffixed c =
+    c.put_suffix.auto.1.1.1.0
+
+pub returns-in-Suffixed : goal.returns-in-Suffixed
+returns-in-Suffixed c =
+    let e = layout-shaped c.requires.node
+    (sym c.in-Suffixed.is ∙ c.shape_of.ensures) in
+    wrote_as (ap (rear_at c.args.level) e) c.put_suffix.ensures
+
+pub shape_of-out-in-Enclosed : goal.shape_of-out-in-Enclosed
+shape_of-out-in-Enclosed c =
+    c.put_byte.auto.1.0 ∙ c.put_spaces-last.auto.1.0 ∙ c.put_byte-lead.auto.1.0
+
+pub returns-in-Enclosed : goal.returns-in-Enclosed
+returns-in-Enclosed c =
+    let e = layout-shaped c.requires.node
+    (sym c.in-Enclosed.is ∙ c.shape_of.ensures) in
+    end (next (next (next (run-closed c.args.level c.args.out.now c.args.at
+    (ap (rear_at c.args.level) e) c.requires.room) c.put_byte-lead.ensures)
+    c.put_spaces-last.ensures) c.put_byte.ensures)
+
+pub returns-in-Infixed : goal.returns-in-Infixed
+returns-in-Infixed c =
+    let e = layout-shaped c.requires.node
+    (sym c.in-Infixed.is ∙ c.shape_of.ensures) in
+    wrote_nothing _ _ (ap (rear_at c.args.level) e)

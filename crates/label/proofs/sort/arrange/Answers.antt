@@ -1,0 +1,23 @@
+use native.Mathlib.Omega.{arith}
+use Rattle.label.proofs.SortLaws.{arrange-start, arrange-on, arrange-end, behind-keys, own_key}
+use Rattle.label.proofs.sort.arrange.Goals as goal
+
+pub loop-i-init : goal.loop-i-init
+loop-i-init c =
+    arrange-start _ _
+
+pub place-requires : goal.place-requires
+place-requires c = (
+  own_key c.requires c.loop-i.invariant c.loop-i-test.true,
+  omega (arith, c.loop-i.invariant.size, c.loop-i.invariant.upto, c.loop-i-test.true),
+  behind-keys c.loop-i.invariant c.loop-i-test.true,
+)
+
+pub loop-i-preserved : goal.loop-i-preserved
+loop-i-preserved c =
+    arrange-on c.requires c.loop-i.invariant (omega (arith, c.loop-i-test.true))
+    c.place.ensures c.place.auto.1.1.0
+
+pub returns : goal.returns
+returns c =
+    arrange-end c.loop-i.invariant (omega (arith, c.loop-i-test.false))

@@ -1,0 +1,23 @@
+use Prim.Native.Nat.{◌-◌}
+use native.Mathlib.Omega.{arith}
+use mathlib.Core.Logic.{⊎_elim}
+use mathlib.Core.Path.{ap}
+use lib.ListN.{length}
+use Rattle.leaves.proofs.EscapeLaws.{escape_end, escape-adds-one, escape-adds-two}
+use Rattle.leaves.proofs.string.escaped_len.Goals as goal
+
+pub loop-i-preserved : goal.loop-i-preserved
+loop-i-preserved c =
+    let l = c.args.text.now in
+    ⊎_elim (λ w. omega (
+      arith,
+      escape-adds-one l _ _ c.loop-i-test.true c.escape_letter.ensures w.0.taken,
+    ))
+    (λ w. omega (
+      arith,
+      escape-adds-two l _ _ c.loop-i-test.true c.escape_letter.ensures w.0.left,
+    )) c.if-escape_letter-eq0.branch
+
+pub returns : goal.returns
+returns c =
+    omega (arith, ap length (escape_end c.args.text.now _ c.loop-i-test.false))

@@ -1,0 +1,47 @@
+-- `program::put_line` meets its contract: what `split` did, then the line feed or the words. Assumes nothing.
+use mathlib.Core.Path.{sym}
+use native.Mathlib.Omega.{arith}
+use lib.ListN.{take}
+use lib.Seq.{length-take-le}
+use Rattle.records.specs.Outcome.{answer, refusal}
+use Rattle.records.specs.Answers.{kind_of}
+use Rattle.outcomes.specs.Calls.{split_text, Does}
+use Rattle.program.proofs.SheetLaws.{answer-room, answer-line, refused-room, refused-line}
+use Rattle.program.proofs.put_line.Goals as goal
+
+-- what `split` did, where the page is accepted
+accepted : (c : goal.In-Accepted-2) →
+    Does (split_text c.args.page.now (take 65536 c.args.out.now))
+    (answer (kind_of c.in-Accepted.kind) c.in-Accepted.n) c.split.new.1.0
+accepted c =
+    rw c.in-Accepted.is at c.split.ensures
+
+-- where it is refused
+refused : (c : goal.After-refusal_number) →
+    Does (split_text c.args.page.now (take 65536 c.args.out.now))
+    (refusal c.refusal_number.result c.in-Refused.index)
+    c.split.new.1.0
+refused c =
+    rw c.refusal_number.ensures (rw c.in-Refused.is at c.split.ensures)
+
+pub slice_bounds-split-end-2 : goal.slice_bounds-split-end-2
+slice_bounds-split-end-2 c =
+    sym (length-take-le 65536 c.args.out.now (omega (arith, c.requires)))
+
+pub put_byte-requires : goal.put_byte-requires
+put_byte-requires c =
+    answer-room c.args.page.now c.args.out.now c.requires (accepted c {-place-})
+
+pub put_refused-requires : goal.put_refused-requires
+put_refused-requires c =
+    refused-room c.args.page.now c.args.out.now c.requires (refused c {-place-})
+
+pub returns-in-Accepted : goal.returns-in-Accepted
+returns-in-Accepted c =
+    answer-line c.args.page.now c.args.out.now c.requires (accepted c {-place at_n-})
+    c.put_byte.ensures
+
+pub returns-in-Refused : goal.returns-in-Refused
+returns-in-Refused c =
+    refused-line c.args.page.now c.args.out.now c.requires
+    (refused c {-place at-refusal-number-}) c.put_refused.ensures

@@ -1,0 +1,12 @@
+-- `record_lines::modifier::put_modifier` meets its contract, form by form. Assumes nothing.
+use Rattle.record_lines.proofs.LineLaws.{shows_then}
+use Rattle.record_lines.proofs.modifier.put_modifier.Goals as goal
+
+pub returns-in-None : goal.returns-in-None
+returns-in-None c =
+    rw c.in-None.is c.put_spaced.ensures
+
+pub returns-in-Some : goal.returns-in-Some
+returns-in-Some c =
+    rw c.in-Some.is
+    (shows_then c.put_spaced-next.ensures c.put_bin_modifier.ensures)

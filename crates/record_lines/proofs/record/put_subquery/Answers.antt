@@ -1,0 +1,8 @@
+-- `record_lines::record::put_subquery` meets its contract. Assumes nothing.
+use Rattle.record_lines.proofs.LineLaws.{shows_then}
+use Rattle.record_lines.proofs.record.put_subquery.Goals as goal
+
+pub returns : goal.returns
+returns c =
+    shows_then c.put_spaced-next.ensures
+    (rw c.step_numbers.ensures at c.put_numbers.ensures)

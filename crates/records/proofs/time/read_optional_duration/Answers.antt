@@ -1,0 +1,35 @@
+-- `records::time::read_optional_duration` meets its contract: 0, or 1 and a number. Assumes nothing.
+use native.Mathlib.Omega.{arith}
+use lib.ListN.{drop}
+use Rattle.page.proofs.FieldLaws.{no-form}
+use Rattle.page.specs.Number.{read_number}
+use Rattle.records.specs.Field.{option_forms}
+use Rattle.records.proofs.time.read_optional_duration.Goals as goal
+
+pub returns-in-0 : goal.returns-in-0
+returns-in-0 c =
+    let e = rw c.in-Got.is at c.read_number.ensures.reads in
+    simp (← e, c.in-0.keys1)
+
+pub returns-in-Got-read_number : goal.returns-in-Got-read_number
+returns-in-Got-read_number c =
+    let e = rw c.in-Got.is at c.read_number.ensures.reads in
+    let f = rw c.in-Got-read_number.is at c.read_number-in-1.ensures.reads in
+    simp (← e, c.in-1.keys2, ← f)
+
+pub returns-in-Bad-read_number : goal.returns-in-Bad-read_number
+returns-in-Bad-read_number c =
+    let e = rw c.in-Got.is at c.read_number.ensures.reads in
+    let f = rw c.in-Bad-read_number.is at c.read_number-in-1.ensures.reads in
+    simp (← e, c.in-1.keys2, ← f)
+
+pub returns-in_default : goal.returns-in_default
+returns-in_default c =
+    let e = rw c.in-Got.is at c.read_number.ensures.reads in
+    rw (← e)
+    (no-form (option_forms read_number) c.in-Got.present
+    (drop c.in-Got.next c.args.page.now) (omega arith))
+
+pub returns-in-Bad : goal.returns-in-Bad
+returns-in-Bad c =
+    let e = rw c.in-Bad.is at c.read_number.ensures.reads in simp (← e)

@@ -1,0 +1,29 @@
+-- `table_check::check_with` meets its contract: the walk's tables say where the records stand that it accepted,
+-- `reached` adds the one that it refused, and the first fault among them decides. The laws stand in `OutcomeLaws`.
+-- Assumes nothing.
+use Rattle.table_check.proofs.OutcomeLaws.{accepts-standing, refuses-standing, refuses-inside, accepted-with}
+use Rattle.table_check.proofs.OutcomeLaws.{refused-with}
+use Rattle.table_check.proofs.check_with.Goals as goal
+
+pub outcome_with-requires : goal.outcome_with-requires
+outcome_with-requires c =
+    record { known = accepts-standing (rw c.in-Accepted.is at c.walk.ensures.says); table = c.requires }
+
+pub reached-count-requires : goal.reached-count-requires
+reached-count-requires c =
+    record {
+      sized = (
+        (rw c.in-Refused.is at c.walk.ensures.says).tables.starts-size,
+        refuses-inside (rw c.in-Refused.is at c.walk.ensures.says),
+      );
+      known = refuses-standing (rw c.in-Refused.is at c.walk.ensures.says);
+    }
+
+pub returns-in-Accepted : goal.returns-in-Accepted
+returns-in-Accepted c =
+    accepted-with (rw c.in-Accepted.is at c.walk.ensures.says) c.outcome_with.ensures
+
+pub returns-in-Refused : goal.returns-in-Refused
+returns-in-Refused c =
+    refused-with (rw c.in-Refused.is at c.walk.ensures.says)
+    c.reached-count.ensures c.outcome_with-in-Refused.ensures

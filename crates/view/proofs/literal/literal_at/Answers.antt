@@ -1,0 +1,19 @@
+-- `view::literal::literal_at` meets its contract: the literal stands after the kind. Assumes nothing.
+use mathlib.Core.Path.{refl}
+use Rattle.page.specs.Read.{return}
+use Rattle.records.specs.Literal.{read_literal}
+use Rattle.records.specs.Record.{number, leaf}
+use Rattle.view.proofs.KindLaws.{one_field, no_field}
+use Rattle.view.proofs.literal.literal_at.Goals as goal
+
+pub returns-in-Got : goal.returns-in-Got
+returns-in-Got c =
+    one_field c.requires.starts c.requires.kind read_literal (λ l. leaf (number l)) (λ t. refl)
+    (rw (c.in-Got.is, c.fields_start.ensures) at
+    c.read_literal.ensures)
+
+pub returns-in-Bad : goal.returns-in-Bad
+returns-in-Bad c =
+    absurd (no_field c.requires.starts c.requires.kind read_literal (λ l. return (leaf (number l))) (λ t. refl)
+    (rw (c.in-Bad.is, c.fields_start.ensures) at
+    c.read_literal.ensures))

@@ -1,0 +1,18 @@
+-- `view::literal::negated` meets its contract: case by case. Assumes nothing.
+use Rattle.view.proofs.literal.negated.Goals as goal
+
+pub returns-in-Whole : goal.returns-in-Whole
+returns-in-Whole c =
+    rw c.in-Whole.is
+
+pub returns-in-Negative : goal.returns-in-Negative
+returns-in-Negative c =
+    rw c.in-Negative.is
+
+pub returns-in-Fraction : goal.returns-in-Fraction
+returns-in-Fraction c =
+    rw c.in-Fraction.is
+
+pub returns-in-NegativeFraction : goal.returns-in-NegativeFraction
+returns-in-NegativeFraction c =
+    rw c.in-NegativeFraction.is
