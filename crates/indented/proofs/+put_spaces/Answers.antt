@@ -15,7 +15,7 @@ returns-then-level-eq0 t c =
 pub put_bytes-next-requires : goal.put_bytes-next-requires
 put_bytes-next-requires t c =
     fits (run-two (bytes "  ") (indent (c.args.level - 1)) c.args.out.now c.args.at
-    (indent-more c.args.level c.if-level-eq0.false) c.requires.1)
+    (indent-more c.args.level c.if-level-eq0.false) c.requires)
 
 pub overflow_sub-level : goal.overflow_sub-level
 overflow_sub-level t c =
@@ -23,9 +23,9 @@ overflow_sub-level t c =
 
 pub put_spaces-requires : goal.put_spaces-requires
 put_spaces-requires t c = (
-  omega (arith, c.if-level-eq0.false, c.requires.0),
+  omega (arith, c.if-level-eq0.false, c.decreases),
   fits (next (run-two (bytes "  ") (indent (c.args.level - 1)) c.args.out.now
-      c.args.at (indent-more c.args.level c.if-level-eq0.false) c.requires.1)
+      c.args.at (indent-more c.args.level c.if-level-eq0.false) c.requires)
       c.put_bytes-next.ensures),
 )
 
@@ -36,5 +36,5 @@ shape_of-out t c =
 pub returns : goal.returns
 returns t c =
     end (next (next (run-two (bytes "  ") (indent (c.args.level - 1)) c.args.out.now
-    c.args.at (indent-more c.args.level c.if-level-eq0.false) c.requires.1)
+    c.args.at (indent-more c.args.level c.if-level-eq0.false) c.requires)
     c.put_bytes-next.ensures) c.put_spaces.ensures)

@@ -8,7 +8,7 @@ use Rattle.patterns.proofs.+choice_item_sequence.Goals as goal
 
 pub choice-sequence-requires : goal.choice-sequence-requires
 choice-sequence-requires t c =
-    (omega (arith, c.requires.0, c.requires.1), c.requires.1)
+    (omega (arith, c.decreases, c.requires), c.requires)
 
 pub choice-returns-then-pattern-next : goal.choice-returns-then-pattern-next
 choice-returns-then-pattern-next t c =
@@ -39,7 +39,7 @@ choice-choice-requires t c =
         arith,
         s.low,
         c.if-pattern-next.false,
-        c.requires.0,
+        c.decreases,
       ),
       omega (arith, c.if-pattern-next.false),
     )
@@ -80,7 +80,7 @@ item-overflow_add-at t c =
 
 pub item-choice-requires : goal.item-choice-requires
 item-choice-requires t c = (
-  omega (arith, c.if-pattern-at.false, c.requires.0),
+  omega (arith, c.if-pattern-at.false, c.decreases),
   omega (arith, c.if-pattern-at.false),
 )
 
@@ -144,7 +144,7 @@ item-returns t c =
 
 pub sequence-loop-here-init : goal.sequence-loop-here-init
 sequence-loop-here-init t c =
-    items-begin _ _ c.requires.1
+    items-begin _ _ c.requires
 
 pub sequence-bounds-pattern-here : goal.sequence-bounds-pattern-here
 sequence-bounds-pattern-here t c =
@@ -160,7 +160,7 @@ sequence-item-requires t c = (
     arith,
     c.loop-here.invariant.low,
     c.loop-here.invariant.high,
-    c.requires.0,
+    c.decreases,
   ),
   c.loop-here.invariant.high,
 )

@@ -4,6 +4,7 @@
 -- way out of the other two in `ChoiceLaws` and `ItemLaws`. Assumes nothing.
 use Prim.Native.Nat.{◌+◌, ◌-◌, ◌*◌}
 use lib.ListN.{length}
+use Rattle.patterns.proofs.SequenceLaws.{ItemsSoFar}
 use Rattle.patterns.proofs.+choice_item_sequence.Given as goal
 
 abbrev pub decreases-choice : goal.decreases-choice
@@ -17,3 +18,9 @@ decreases-item l =
 abbrev pub decreases-sequence : goal.decreases-sequence
 decreases-sequence l =
     3 * (length l.pattern.now - l.at) + 1
+
+abbrev pub invariant-sequence-loop-here : goal.invariant-sequence-loop-here
+invariant-sequence-loop-here l = ItemsSoFar l.pattern l.at l.empty l.here
+
+abbrev pub decreases-sequence-loop-here : goal.decreases-sequence-loop-here
+decreases-sequence-loop-here l = length l.pattern - l.here

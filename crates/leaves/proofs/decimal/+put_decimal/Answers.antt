@@ -7,7 +7,7 @@ use Rattle.leaves.proofs.decimal.+put_decimal.Goals as goal
 
 pub put_byte-requires : goal.put_byte-requires
 put_byte-requires t c =
-    omega (arith, ap length (decimal-last _ c.if-n-lt10.true), c.requires.1)
+    omega (arith, ap length (decimal-last _ c.if-n-lt10.true), c.requires)
 
 pub returns-then-n-lt10 : goal.returns-then-n-lt10
 returns-then-n-lt10 t c =
@@ -15,14 +15,14 @@ returns-then-n-lt10 t c =
 
 pub put_decimal-next-requires : goal.put_decimal-next-requires
 put_decimal-next-requires t c =
-    (omega (arith, c.requires.0), first _ _ c.requires.1 (decimal-more _ c.if-n-lt10.false))
+    (omega (arith, c.decreases), first _ _ c.requires (decimal-more _ c.if-n-lt10.false))
 
 pub put_byte-requires-2 : goal.put_byte-requires-2
 put_byte-requires-2 t c =
-    room (step (begin _ _ _ c.requires.1) (decimal-more _ c.if-n-lt10.false)
+    room (step (begin _ _ _ c.requires) (decimal-more _ c.if-n-lt10.false)
     c.put_decimal-next.ensures) (cut-last _)
 
 pub returns : goal.returns
 returns t c =
-    finish (step (step (begin _ _ _ c.requires.1) (decimal-more _ c.if-n-lt10.false)
+    finish (step (step (begin _ _ _ c.requires) (decimal-more _ c.if-n-lt10.false)
     c.put_decimal-next.ensures) (cut-last _) c.put_byte-2.ensures) refl
