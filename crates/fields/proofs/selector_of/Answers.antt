@@ -18,18 +18,16 @@ returns-in-Got-read_count c =
     let r = selector-reads p.0 p.1 name
     (rw c.in-Got-read_count.is at c.read_count.ensures) in
     let lies = rw c.in-Got.is at c.read_text.ensures.lies in
-    rw c.selector.ensures (
-      r.0,
-      (
-        record {
-          name = lies;
-          stored = r.1;
-          few = (allowed _ r.0.reads).1.0;
-          short = page-short p.0.known.tables;
-        },
-        (refl, refl),
-      ),
-    )
+    rw c.selector.ensures record {
+      reads = r.0;
+      lies = record {
+        name = lies;
+        stored = r.1;
+        few = (allowed _ r.0.reads).1.0;
+        short = page-short p.0.known.tables;
+      };
+      unasked = (refl, refl);
+    }
 
 pub returns-in-Bad-read_count : goal.returns-in-Bad-read_count
 returns-in-Bad-read_count c =

@@ -8,12 +8,12 @@ use Rattle.joint_label.proofs.group.joint_of.Goals as goal
 pub returns-in-1 : goal.returns-in-1
 returns-in-1 c =
     let e = rw c.in-Got.is at c.read_number.ensures.reads in
-    part-as (simp (← e, c.in-1.keys1)) c.joint_in.ensures
+    part-as (simp (← e, c.in-1.is)) c.joint_in.ensures
 
 pub returns-in-2 : goal.returns-in-2
 returns-in-2 c =
     let e = rw c.in-Got.is at c.read_number.ensures.reads in
-    part-as (simp (← e, c.in-2.keys2)) c.joint_in-in-2.ensures
+    part-as (simp (← e, c.in-2.is)) c.joint_in-in-2.ensures
 
 pub returns-in_default : goal.returns-in_default
 returns-in_default c =

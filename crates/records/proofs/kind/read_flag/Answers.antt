@@ -8,12 +8,12 @@ use Rattle.records.proofs.kind.read_flag.Goals as goal
 pub returns-in-0 : goal.returns-in-0
 returns-in-0 c =
     let e = rw c.in-Got.is at c.read_number.ensures.reads in
-    simp (← e, c.in-0.keys1)
+    simp (← e, c.in-0.is)
 
 pub returns-in-1 : goal.returns-in-1
 returns-in-1 c =
     let e = rw c.in-Got.is at c.read_number.ensures.reads in
-    simp (← e, c.in-1.keys2)
+    simp (← e, c.in-1.is)
 
 pub returns-in_default : goal.returns-in_default
 returns-in_default c =

@@ -14,7 +14,7 @@ loop-left-preserved c =
     let e = rw c.in-Got.is at c.read_matcher_facts.ensures in
     facts-more c.args.count (drop c.args.start c.args.page.now)
     c.loop-left.left (drop c.loop-left.at c.args.page.now) _ c.loop-left.named
-    c.loop-left.empty c.loop-left.wrong-flag _ _ _ c.loop-left.invariant c.loop-left-test.true e
+    c.loop-left.empty c.loop-left.wrong_flag _ _ _ c.loop-left.invariant c.loop-left-test.true e
 
 pub returns-in-Bad : goal.returns-in-Bad
 returns-in-Bad c =
@@ -33,7 +33,7 @@ returns c =
       reads = e;
       facts = (
         facts-all c.args.count (drop c.args.start c.args.page.now)
-            c.loop-left.left _ c.loop-left.named c.loop-left.empty c.loop-left.wrong-flag
+            c.loop-left.left _ c.loop-left.named c.loop-left.empty c.loop-left.wrong_flag
             c.loop-left.invariant c.loop-left-test.false,
         read_length read_matcher c.args.count (drop c.args.start c.args.page.now)
             e,

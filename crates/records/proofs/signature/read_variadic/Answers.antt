@@ -8,24 +8,24 @@ use Rattle.records.proofs.signature.read_variadic.Goals as goal
 pub returns-in-0 : goal.returns-in-0
 returns-in-0 c =
     let e = rw c.in-Got.is at c.read_number.ensures.reads in
-    simp (← e, c.in-0.keys1)
+    simp (← e, c.in-0.is)
 
 pub returns-in-1 : goal.returns-in-1
 returns-in-1 c =
     let e = rw c.in-Got.is at c.read_number.ensures.reads in
-    simp (← e, c.in-1.keys2)
+    simp (← e, c.in-1.is)
 
 pub returns-in-Got-read_upper : goal.returns-in-Got-read_upper
 returns-in-Got-read_upper c =
     let e = rw c.in-Got.is at c.read_number.ensures.reads in
     let f = rw c.in-Got-read_upper.is at c.read_upper.ensures in
-    simp (← e, c.in-2.keys3, ← f)
+    simp (← e, c.in-2.is, ← f)
 
 pub returns-in-Bad-read_upper : goal.returns-in-Bad-read_upper
 returns-in-Bad-read_upper c =
     let e = rw c.in-Got.is at c.read_number.ensures.reads in
     let g = rw c.in-Bad-read_upper.is at c.read_upper.ensures in
-    simp (← e, c.in-2.keys3, ← g)
+    simp (← e, c.in-2.is, ← g)
 
 pub returns-in_default : goal.returns-in_default
 returns-in_default c =

@@ -23,27 +23,27 @@ stored_text-value-requires c =
 
 pub returns-then-op-eq0 : goal.returns-then-op-eq0
 returns-then-op-eq0 c =
-    rw c.with_op.ensures (
-      is-equal c.args.page.now c.args.at c.requires
+    rw c.with_op.ensures record {
+      reads = is-equal c.args.page.now c.args.at c.requires
           c.stored_text-name.ensures.reads c.stored_text-value.ensures.reads
-          c.if-op-eq0.true,
-      record {
+          c.if-op-eq0.true;
+      lies = record {
         name = c.stored_text-name.ensures.lies;
         value = c.stored_text-value.ensures.lies;
-      },
-    )
+      };
+    }
 
 pub returns-then-op-eq1 : goal.returns-then-op-eq1
 returns-then-op-eq1 c =
-    rw c.with_op-then-op-eq1.ensures (
-      is-not-equal c.args.page.now c.args.at c.requires
+    rw c.with_op-then-op-eq1.ensures record {
+      reads = is-not-equal c.args.page.now c.args.at c.requires
           c.stored_text-name.ensures.reads c.stored_text-value.ensures.reads
-          c.if-op-eq1.true,
-      record {
+          c.if-op-eq1.true;
+      lies = record {
         name = c.stored_text-name.ensures.lies;
         value = c.stored_text-value.ensures.lies;
-      },
-    )
+      };
+    }
 
 pub bounds-page-next : goal.bounds-page-next
 bounds-page-next c =
@@ -58,15 +58,15 @@ returns-then-op-eq2 c =
     (pattern-flag-stored c.args.page.now c.args.at c.requires
     c.stored_text-name.ensures.reads c.stored_text-value.ensures.reads
     c.if-op-eq0.false c.if-op-eq1.false) in
-    rw c.with_op-then-op-eq2.ensures (
-      is-pattern c.args.page.now c.args.at c.requires
+    rw c.with_op-then-op-eq2.ensures record {
+      reads = is-pattern c.args.page.now c.args.at c.requires
           c.stored_text-name.ensures.reads c.stored_text-value.ensures.reads flag
-          c.if-op-eq2.true,
-      record {
+          c.if-op-eq2.true;
+      lies = record {
         name = c.stored_text-name.ensures.lies;
         value = c.stored_text-value.ensures.lies;
-      },
-    )
+      };
+    }
 
 pub returns : goal.returns
 returns c =
@@ -74,12 +74,12 @@ returns c =
     (pattern-flag-stored c.args.page.now c.args.at c.requires
     c.stored_text-name.ensures.reads c.stored_text-value.ensures.reads
     c.if-op-eq0.false c.if-op-eq1.false) in
-    rw c.with_op-2.ensures (
-      is-negated c.args.page.now c.args.at c.requires
+    rw c.with_op-2.ensures record {
+      reads = is-negated c.args.page.now c.args.at c.requires
           c.stored_text-name.ensures.reads c.stored_text-value.ensures.reads flag
-          c.if-op-eq0.false c.if-op-eq1.false c.if-op-eq2.false,
-      record {
+          c.if-op-eq0.false c.if-op-eq1.false c.if-op-eq2.false;
+      lies = record {
         name = c.stored_text-name.ensures.lies;
         value = c.stored_text-value.ensures.lies;
-      },
-    )
+      };
+    }

@@ -9,19 +9,19 @@ use Rattle.records.proofs.time.read_optional_duration.Goals as goal
 pub returns-in-0 : goal.returns-in-0
 returns-in-0 c =
     let e = rw c.in-Got.is at c.read_number.ensures.reads in
-    simp (← e, c.in-0.keys1)
+    simp (← e, c.in-0.is)
 
 pub returns-in-Got-read_number : goal.returns-in-Got-read_number
 returns-in-Got-read_number c =
     let e = rw c.in-Got.is at c.read_number.ensures.reads in
     let f = rw c.in-Got-read_number.is at c.read_number-in-1.ensures.reads in
-    simp (← e, c.in-1.keys2, ← f)
+    simp (← e, c.in-1.is, ← f)
 
 pub returns-in-Bad-read_number : goal.returns-in-Bad-read_number
 returns-in-Bad-read_number c =
     let e = rw c.in-Got.is at c.read_number.ensures.reads in
     let f = rw c.in-Bad-read_number.is at c.read_number-in-1.ensures.reads in
-    simp (← e, c.in-1.keys2, ← f)
+    simp (← e, c.in-1.is, ← f)
 
 pub returns-in_default : goal.returns-in_default
 returns-in_default c =
