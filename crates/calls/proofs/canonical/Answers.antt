@@ -13,7 +13,7 @@ use Rattle.calls.proofs.DoesLaws.{does-refused, does-short, does-write}
 use Rattle.calls.proofs.canonical.Goals as goal
 
 -- where the page is accepted: what the walk left in the tables
-known : (c : goal.In-Accepted-2) →
+known : (c : goal.In-Accepted) →
     Accepts (check_page c.args.page.now) c.args.page.now c.walk-walked.new.1.0
     c.walk-walked.new.1.1.0
     (kind_of c.in-Accepted.kind) c.in-Accepted.n
@@ -22,28 +22,28 @@ known c =
 
 pub overflow_sub-n : goal.overflow_sub-n
 overflow_sub-n c =
-    accepts-some (known c {-place at-walked-})
+    accepts-some (known (goal.at.overflow_sub-n c).In-Accepted)
 
 pub text_fits-requires : goal.text_fits-requires
 text_fits-requires c =
-    accepts_last (known c {-place at-walked-})
+    accepts_last (known (goal.at.text_fits-requires c).In-Accepted)
 
 pub overflow_sub-n-then-text_fits : goal.overflow_sub-n-then-text_fits
 overflow_sub-n-then-text_fits c =
-    accepts-some (known c {-place at-walked-})
+    accepts-some (known (goal.at.overflow_sub-n-then-text_fits c).In-Accepted)
 
 pub write_text-written-requires : goal.write_text-written-requires
 write_text-written-requires c =
-    record { tables = accepts_last (known c {-place at-walked-}); numberless = unmarked _ _; room = rw zero-add (leb-true _ _ (sym c.text_fits.ensures ∙ c.if-text_fits.true)) }
+    record { tables = accepts_last (known (goal.at.write_text-written-requires c).In-Accepted); numberless = unmarked _ _; room = rw zero-add (leb-true _ _ (sym c.text_fits.ensures ∙ c.if-text_fits.true)) }
 
 pub returns-then-text_fits : goal.returns-then-text_fits
 returns-then-text_fits c =
-    does-write display (known c {-place at-walked-}).tree (known c {-place at-walked-}).kind
+    does-write display (known (goal.at.returns-then-text_fits c).In-Accepted).tree (known (goal.at.returns-then-text_fits c).In-Accepted).kind
     (sym c.text_fits.ensures ∙ c.if-text_fits.true) c.write_text-written.ensures
 
 pub returns-else-text_fits : goal.returns-else-text_fits
 returns-else-text_fits c =
-    does-short display (known c {-place at-walked-}).tree (sym c.text_fits.ensures ∙ c.if-text_fits.false)
+    does-short display (known (goal.at.returns-else-text_fits c).In-Accepted).tree (sym c.text_fits.ensures ∙ c.if-text_fits.false)
 
 pub returns-in-Refused : goal.returns-in-Refused
 returns-in-Refused c =

@@ -14,14 +14,14 @@ use Rattle.calls.proofs.DoesLaws.{does-refused, does-short, does-write}
 use Rattle.calls.proofs.copy.Goals as goal
 
 -- where the page is accepted: what the walk left in the tables
-known : (c : goal.In-Accepted-2) →
+known : (c : goal.In-Accepted) →
     Accepts (check_page c.args.page.now) c.args.page.now c.walk-walked.new.1.0
     c.walk-walked.new.1.1.0
     (kind_of c.in-Accepted.kind) c.in-Accepted.n
 known c =
     rw c.in-Accepted.is at c.walk-walked.ensures.says
 
-starts-known : (c : goal.In-Accepted-2) →
+starts-known : (c : goal.In-Accepted) →
     PageStarts c.args.page.now c.walk-walked.new.1.0 c.in-Accepted.n
 starts-known c =
     accepted-starts (known_bytes c.args.page.now c.type_inv.page)
@@ -29,20 +29,20 @@ starts-known c =
 
 pub copy_fits-requires : goal.copy_fits-requires
 copy_fits-requires c =
-    starts-known c {-place-}
+    starts-known (goal.at.copy_fits-requires c).In-Accepted
 
 pub put_copy-written-requires : goal.put_copy-written-requires
 put_copy-written-requires c =
-    (starts-known c, {-place at-walked-} leb-true _ _ (sym c.copy_fits.ensures ∙ c.if-copy_fits.true))
+    (starts-known (goal.at.put_copy-written-requires c).In-Accepted, leb-true _ _ (sym c.copy_fits.ensures ∙ c.if-copy_fits.true))
 
 pub returns-then-copy_fits : goal.returns-then-copy_fits
 returns-then-copy_fits c =
-    does-write (λ e. copy_page c.args.page.now) (known c {-place at-walked-}).tree (known c {-place at-walked-}).kind
+    does-write (λ e. copy_page c.args.page.now) (known (goal.at.returns-then-copy_fits c).In-Accepted).tree (known (goal.at.returns-then-copy_fits c).In-Accepted).kind
     (sym c.copy_fits.ensures ∙ c.if-copy_fits.true) c.put_copy-written.ensures
 
 pub returns-else-copy_fits : goal.returns-else-copy_fits
 returns-else-copy_fits c =
-    does-short (λ e. copy_page c.args.page.now) (known c {-place at-walked-}).tree
+    does-short (λ e. copy_page c.args.page.now) (known (goal.at.returns-else-copy_fits c).In-Accepted).tree
     (sym c.copy_fits.ensures ∙ c.if-copy_fits.false)
 
 pub returns-in-Refused : goal.returns-in-Refused

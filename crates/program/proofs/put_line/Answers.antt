@@ -10,7 +10,7 @@ use Rattle.program.proofs.SheetLaws.{answer-room, answer-line, refused-room, ref
 use Rattle.program.proofs.put_line.Goals as goal
 
 -- what `split` did, where the page is accepted
-accepted : (c : goal.In-Accepted-2) →
+accepted : (c : goal.In-Accepted) →
     Does (split_text c.args.page.now (take 65536 c.args.out.now))
     (answer (kind_of c.in-Accepted.kind) c.in-Accepted.n) c.split.new.1.0
 accepted c =
@@ -30,18 +30,18 @@ slice_bounds-split-end-2 c =
 
 pub put_byte-requires : goal.put_byte-requires
 put_byte-requires c =
-    answer-room c.args.page.now c.args.out.now c.requires (accepted c {-place-})
+    answer-room c.args.page.now c.args.out.now c.requires (accepted (goal.at.put_byte-requires c).In-Accepted)
 
 pub put_refused-requires : goal.put_refused-requires
 put_refused-requires c =
-    refused-room c.args.page.now c.args.out.now c.requires (refused c {-place-})
+    refused-room c.args.page.now c.args.out.now c.requires (refused (goal.at.put_refused-requires c).After-refusal_number)
 
 pub returns-in-Accepted : goal.returns-in-Accepted
 returns-in-Accepted c =
-    answer-line c.args.page.now c.args.out.now c.requires (accepted c {-place at_n-})
+    answer-line c.args.page.now c.args.out.now c.requires (accepted (goal.at.returns-in-Accepted c).In-Accepted)
     c.put_byte.ensures
 
 pub returns-in-Refused : goal.returns-in-Refused
 returns-in-Refused c =
     refused-line c.args.page.now c.args.out.now c.requires
-    (refused c {-place at-refusal-number-}) c.put_refused.ensures
+    (refused (goal.at.returns-in-Refused c).After-refusal_number) c.put_refused.ensures

@@ -57,11 +57,11 @@ loop-at-init c =
 
 pub shape_of-starts-then-count-eq-RECORD_LIMIT : goal.shape_of-starts-then-count-eq-RECORD_LIMIT
 shape_of-starts-then-count-eq-RECORD_LIMIT c =
-    starts-stay c {-place-}
+    starts-stay (goal.at.shape_of-starts-then-count-eq-RECORD_LIMIT c).At-loop-at
 
 pub shape_of-firsts-then-count-eq-RECORD_LIMIT : goal.shape_of-firsts-then-count-eq-RECORD_LIMIT
 shape_of-firsts-then-count-eq-RECORD_LIMIT c =
-    firsts-stay c {-place-}
+    firsts-stay (goal.at.shape_of-firsts-then-count-eq-RECORD_LIMIT c).At-loop-at
 
 pub returns-then-count-eq-RECORD_LIMIT : goal.returns-then-count-eq-RECORD_LIMIT
 returns-then-count-eq-RECORD_LIMIT c =
@@ -74,11 +74,11 @@ returns-then-count-eq-RECORD_LIMIT c =
 
 pub shape_of-starts-in-Bad : goal.shape_of-starts-in-Bad
 shape_of-starts-in-Bad c =
-    starts-stay c {-place at-loop-}
+    starts-stay (goal.at.shape_of-starts-in-Bad c).At-loop-at
 
 pub shape_of-firsts-in-Bad : goal.shape_of-firsts-in-Bad
 shape_of-firsts-in-Bad c =
-    firsts-stay c {-place at-loop-}
+    firsts-stay (goal.at.shape_of-firsts-in-Bad c).At-loop-at
 
 pub returns-in-Bad : goal.returns-in-Bad
 returns-in-Bad c =
@@ -116,11 +116,11 @@ judge_next-requires c =
 
 pub shape_of-starts-in-Refused : goal.shape_of-starts-in-Refused
 shape_of-starts-in-Refused c =
-    starts-stay c {-place at-loop-}
+    starts-stay (goal.at.shape_of-starts-in-Refused c).At-loop-at
 
 pub shape_of-firsts-in-Refused : goal.shape_of-firsts-in-Refused
 shape_of-firsts-in-Refused c =
-    firsts-stay c {-place at-loop-}
+    firsts-stay (goal.at.shape_of-firsts-in-Refused c).At-loop-at
 
 pub returns-in-Refused : goal.returns-in-Refused
 returns-in-Refused c =
@@ -139,7 +139,7 @@ slice_bounds-first_record-end c =
 
 pub first_record-first-requires : goal.first_record-first-requires
 first_record-first-requires c =
-    record { sized = c.loop-at.invariant.arrays.bases-size; inside = ((step c).high, omega (arith, c.loop-at.invariant.progress.count-range, c.if-count-eq-RECORD_LIMIT.false)) }
+    record { sized = c.loop-at.invariant.arrays.bases-size; inside = ((step (goal.at.first_record-first-requires c).After-bases-1).high, omega (arith, c.loop-at.invariant.progress.count-range, c.if-count-eq-RECORD_LIMIT.false)) }
 
 pub overflow_cast-starts : goal.overflow_cast-starts
 overflow_cast-starts c =
@@ -169,27 +169,27 @@ bounds-firsts-count c =
 
 pub overflow_add-top : goal.overflow_add-top
 overflow_add-top c =
-    omega (arith, (step c {-place-}).high)
+    omega (arith, (step (goal.at.overflow_add-top c).After-bases-1).high)
 
 pub overflow_sub-top : goal.overflow_sub-top
 overflow_sub-top c =
-    omega (arith, (step c {-place-}).low)
+    omega (arith, (step (goal.at.overflow_sub-top c).After-bases-1).low)
 
 pub bounds-tags-top : goal.bounds-tags-top
 bounds-tags-top c =
-    omega (arith, (step c {-place-}).high, (step c {-place-}).low)
+    omega (arith, (step (goal.at.bounds-tags-top c).After-bases-1).high, (step (goal.at.bounds-tags-top c).After-bases-1).low)
 
 pub offset_bounds-values-top : goal.offset_bounds-values-top
 offset_bounds-values-top c =
-    omega (arith, (step c {-place at-bases-}).high)
+    omega (arith, (step (goal.at.offset_bounds-values-top c).After-bases-1).high)
 
 pub bounds-values-top : goal.bounds-values-top
 bounds-values-top c =
-    omega (arith, (step c {-place at-bases-}).high, (step c {-place at-bases-}).low)
+    omega (arith, (step (goal.at.bounds-values-top c).After-bases-1).high, (step (goal.at.bounds-values-top c).After-bases-1).low)
 
 pub bounds-bases-top : goal.bounds-bases-top
 bounds-bases-top c =
-    omega (arith, (step c {-place at-bases-}).high, (step c {-place at-bases-}).low)
+    omega (arith, (step (goal.at.bounds-bases-top c).After-bases-1).high, (step (goal.at.bounds-bases-top c).After-bases-1).low)
 
 pub overflow_add-count : goal.overflow_add-count
 overflow_add-count c =
@@ -202,15 +202,15 @@ loop-at-smaller c =
 pub loop-at-preserved : goal.loop-at-preserved
 loop-at-preserved c =
     rw (c.tag_of.ensures, c.value_of.ensures, c.first_record-first.ensures)
-    ((step c {-place at-bases-}).walked-again c.within-at.result c.within-at.ensures)
+    ((step (goal.at.loop-at-preserved c).After-bases-1).walked-again c.within-at.result c.within-at.ensures)
 
 pub shape_of-starts-then-top-ne-LAST : goal.shape_of-starts-then-top-ne-LAST
 shape_of-starts-then-top-ne-LAST c =
-    starts-stay c {-place-}
+    starts-stay (goal.at.shape_of-starts-then-top-ne-LAST c).At-loop-at
 
 pub shape_of-firsts-then-top-ne-LAST : goal.shape_of-firsts-then-top-ne-LAST
 shape_of-firsts-then-top-ne-LAST c =
-    firsts-stay c {-place-}
+    firsts-stay (goal.at.shape_of-firsts-then-top-ne-LAST c).At-loop-at
 
 pub returns-then-top-ne-LAST : goal.returns-then-top-ne-LAST
 returns-then-top-ne-LAST c =
@@ -235,11 +235,11 @@ operand_at-requires c =
 
 pub shape_of-starts : goal.shape_of-starts
 shape_of-starts c =
-    starts-stay c {-place at-loop-}
+    starts-stay (goal.at.shape_of-starts c).At-loop-at
 
 pub shape_of-firsts : goal.shape_of-firsts
 shape_of-firsts c =
-    firsts-stay c {-place at-loop-}
+    firsts-stay (goal.at.shape_of-firsts c).At-loop-at
 
 pub returns : goal.returns
 returns c =

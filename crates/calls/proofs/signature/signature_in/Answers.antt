@@ -13,13 +13,13 @@ use Rattle.calls.proofs.SignatureLaws.{text-some, signs-unknown, signs-found}
 use Rattle.calls.proofs.signature.signature_in.Goals as goal
 
 -- the name stands at the place
-found : (c : goal.In-At-2) →
+found : (c : goal.In-At) →
     some c.in-At.place
     ≡ place_of c.args.letters.now c.args.starts.now c.args.name.now
 found c = sym (ap place_meant c.in-At.is) ∙ c.find.ensures
 
 -- so its signature is one of the texts
-inside : (c : goal.In-At-2) →
+inside : (c : goal.In-At) →
     count_of c.args.starts.now + c.in-At.place < length c.args.starts.now - 1
 inside c =
     let letters = c.args.letters.now in
@@ -32,22 +32,22 @@ inside c =
 
 pub overflow_add-starts : goal.overflow_add-starts
 overflow_add-starts c =
-    omega (arith, inside c {-place-})
+    omega (arith, inside (goal.at.overflow_add-starts c).In-At)
 
 pub text_in-requires : goal.text_in-requires
 text_in-requires c =
-    record { table = c.requires; inside = inside c {-place-} }
+    record { table = c.requires; inside = inside (goal.at.text_in-requires c).In-At }
 
 pub put_signature-requires : goal.put_signature-requires
 put_signature-requires c =
     rw c.text_in.ensures
     (text-some c.args.letters.now c.args.starts.now _ c.requires
-    (inside c {-place at_place-}))
+    (inside (goal.at.put_signature-requires c).In-At))
 
 pub returns-in-At : goal.returns-in-At
 returns-in-At c =
     signs-found c.args.letters.now c.args.starts.now c.args.name.now
-    c.args.out.now c.in-At.place (found c {-place at_place-})
+    c.args.out.now c.in-At.place (found (goal.at.returns-in-At c).In-At)
     (rw (← c.text_in.ensures) c.put_signature.ensures)
 
 pub returns-in-Nothing : goal.returns-in-Nothing

@@ -23,39 +23,39 @@ begun c = start c.requires.0.room (number-copy c.requires.0.span c.requires.1)
 
 pub put_byte-kind-requires : goal.put_byte-kind-requires
 put_byte-kind-requires c =
-    fits (begun c {-place at-start-})
+    fits (begun (goal.at.put_byte-kind-requires c).Start)
 
 pub overflow_add-start : goal.overflow_add-start
 overflow_add-start c =
-    omega (arith, wide c, {-place at-start-} c.requires.0.span.inside)
+    omega (arith, wide (goal.at.overflow_add-start c).Start, c.requires.0.span.inside)
 
 pub bounds-page-start : goal.bounds-page-start
 bounds-page-start c =
-    omega (arith, wide c, {-place at-start-} c.requires.0.span.inside)
+    omega (arith, wide (goal.at.bounds-page-start c).Start, c.requires.0.span.inside)
 
 pub put_byte-form-requires : goal.put_byte-form-requires
 put_byte-form-requires c =
-    fits (next (begun c {-place at-start-}) c.put_byte-kind.ensures)
+    fits (next (begun (goal.at.put_byte-form-requires c).Start) c.put_byte-kind.ensures)
 
 pub overflow_add-magnitude : goal.overflow_add-magnitude
 overflow_add-magnitude c =
-    omega (arith, wide c, {-place at-start-} c.requires.0.span.inside)
+    omega (arith, wide (goal.at.overflow_add-magnitude c).Start, c.requires.0.span.inside)
 
 pub slice_bounds-put_bytes-count : goal.slice_bounds-put_bytes-count
 slice_bounds-put_bytes-count c =
-    omega (arith, wide c, {-place at-start-} c.requires.0.span.inside)
+    omega (arith, wide (goal.at.slice_bounds-put_bytes-count c).Start, c.requires.0.span.inside)
 
 pub slice_bounds-put_bytes-start : goal.slice_bounds-put_bytes-start
 slice_bounds-put_bytes-start c =
-    omega (arith, wide c, {-place at-start-} c.requires.0.span.inside)
+    omega (arith, wide (goal.at.slice_bounds-put_bytes-start c).Start, c.requires.0.span.inside)
 
 pub put_bytes-requires : goal.put_bytes-requires
 put_bytes-requires c =
-    fits (next-as (next (begun c {-place at-start-}) c.put_byte-kind.ensures)
+    fits (next-as (next (begun (goal.at.put_bytes-requires c).Start) c.put_byte-kind.ensures)
     (sym (ap (λ b. b ∷ []) c.form_after.ensures)) c.put_byte-form.ensures)
 
 pub returns : goal.returns
 returns c =
-    end (next (next-as (next (begun c {-place at-start-}) c.put_byte-kind.ensures)
+    end (next (next-as (next (begun (goal.at.returns c).Start) c.put_byte-kind.ensures)
     (sym (ap (λ b. b ∷ []) c.form_after.ensures)) c.put_byte-form.ensures)
     c.put_bytes.ensures)

@@ -33,12 +33,12 @@ slice_bounds-put_bytes-end c =
 
 pub put_bytes-written-requires : goal.put_bytes-written-requires
 put_bytes-written-requires c =
-    fits (begun c {-place at-start-})
+    fits (begun (goal.at.put_bytes-written-requires c).Start)
 
 pub put_bytes-requires : goal.put_bytes-requires
 put_bytes-requires c =
-    fits (next (begun c {-place at-start-}) c.put_bytes-written.ensures)
+    fits (next (begun (goal.at.put_bytes-requires c).Start) c.put_bytes-written.ensures)
 
 pub returns : goal.returns
 returns c =
-    end (next (next (begun c {-place at-start-}) c.put_bytes-written.ensures) c.put_bytes.ensures)
+    end (next (next (begun (goal.at.returns c).Start) c.put_bytes-written.ensures) c.put_bytes.ensures)

@@ -19,19 +19,19 @@ begun c =
 
 pub put_bytes-form-requires : goal.put_bytes-form-requires
 put_bytes-form-requires c =
-    fits (begun c {-place-})
+    fits (begun (goal.at.put_bytes-form-requires c).After-cardinality_at-cut)
 
 pub put_byte-rest-requires : goal.put_byte-rest-requires
 put_byte-rest-requires c =
-    fits (next (begun c {-place at-cardinality-at-}) c.put_bytes-form.ensures)
+    fits (next (begun (goal.at.put_byte-rest-requires c).After-cardinality_at-cut) c.put_bytes-form.ensures)
 
 pub put_bytes-requires : goal.put_bytes-requires
 put_bytes-requires c =
-    fits (next-as (next (begun c {-place at-cardinality-at-}) c.put_bytes-form.ensures)
+    fits (next-as (next (begun (goal.at.put_bytes-requires c).After-cardinality_at-cut) c.put_bytes-form.ensures)
     (sym (ap (λ b. b ∷ []) c.set_cardinality.ensures)) c.put_byte-rest.ensures)
 
 pub returns : goal.returns
 returns c =
-    end (next (next-as (next (begun c {-place at-cardinality-at-}) c.put_bytes-form.ensures)
+    end (next (next-as (next (begun (goal.at.returns c).After-cardinality_at-cut) c.put_bytes-form.ensures)
     (sym (ap (λ b. b ∷ []) c.set_cardinality.ensures)) c.put_byte-rest.ensures)
     c.put_bytes.ensures)

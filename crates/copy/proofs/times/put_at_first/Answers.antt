@@ -27,7 +27,7 @@ slice_bounds-put_bytes-end c =
 
 pub put_bytes-written-requires : goal.put_bytes-written-requires
 put_bytes-written-requires c =
-    room (begun c {-place at-start-})
+    room (begun (goal.at.put_bytes-written-requires c).Start)
     (second-first c.args.page.now c.args.start c.args.next
     c.args.after)
 
@@ -45,13 +45,13 @@ slice_bounds-put_bytes-end-2 c =
 
 pub put_bytes-requires : goal.put_bytes-requires
 put_bytes-requires c =
-    room (step (begun c {-place at-start-})
+    room (step (begun (goal.at.put_bytes-requires c).Start)
     (second-first c.args.page.now c.args.start c.args.next
     c.args.after) c.put_bytes-written.ensures) (cut-last _)
 
 pub returns : goal.returns
 returns c =
-    finish (step (step (begun c {-place at-start-})
+    finish (step (step (begun (goal.at.returns c).Start)
     (second-first c.args.page.now c.args.start c.args.next
     c.args.after) c.put_bytes-written.ensures) (cut-last _)
     c.put_bytes.ensures) refl

@@ -20,14 +20,14 @@ use Rattle.functions.proofs.TableLaws.{place_of-inside, compare-unknown, compare
 use Rattle.functions.proofs.carried.compare_signature.Goals as goal
 
 -- the name stands at the place
-found : (c : goal.In-At-2) →
+found : (c : goal.In-At) →
     some c.in-At.place
     ≡ place_of c.args.letters.now c.args.starts.now
     (span_on c.args.page.now c.args.name)
 found c =
     sym (ap place_meant c.in-At.is) ∙ rw c.text_at.ensures at c.find.ensures
 
-inside : (c : goal.In-At-2) →
+inside : (c : goal.In-At) →
     c.in-At.place < count_of c.args.starts.now
 inside c =
     place_of-inside c.args.letters.now c.args.starts.now _ c.in-At.place (found c)
@@ -46,19 +46,19 @@ compared c b e table formed f rest named signed =
 
 pub overflow_add-starts : goal.overflow_add-starts
 overflow_add-starts c =
-    omega (arith, inside c {-place-})
+    omega (arith, inside (goal.at.overflow_add-starts c).In-At)
 
 pub text_in-requires : goal.text_in-requires
 text_in-requires c =
-    let form = table-form c.args.letters.now c.args.starts.now c.requires.table in record { table = c.requires.table; inside = omega (arith, inside c, {-place-} form.paired) }
+    let form = table-form c.args.letters.now c.args.starts.now c.requires.table in record { table = c.requires.table; inside = omega (arith, inside (goal.at.text_in-requires c).In-At, form.paired) }
 
 pub returns-then-begins_at : goal.returns-then-begins_at
 returns-then-begins_at c =
-    compared c {-place-} _ c.if-begins_at.true
+    compared (goal.at.returns-then-begins_at c).After-begins_at _ c.if-begins_at.true
 
 pub returns-else-begins_at : goal.returns-else-begins_at
 returns-else-begins_at c =
-    compared c {-place-} _ c.if-begins_at.false
+    compared (goal.at.returns-else-begins_at c).After-begins_at _ c.if-begins_at.false
 
 pub returns-in-Nothing : goal.returns-in-Nothing
 returns-in-Nothing c =

@@ -55,11 +55,11 @@ loop-low-init c =
 
 pub overflow_add-middle : goal.overflow_add-middle
 overflow_add-middle c =
-    omega (arith, inside c)
+    omega (arith, inside (goal.at.overflow_add-middle c).In-loop-low)
 
 pub text_in-requires : goal.text_in-requires
 text_in-requires c =
-    record { table = c.requires; inside = omega (arith, inside c) }
+    record { table = c.requires; inside = omega (arith, inside (goal.at.text_in-requires c).In-loop-low) }
 
 pub returns-in-Same : goal.returns-in-Same
 unfolding place_of
@@ -68,7 +68,7 @@ returns-in-Same c =
 
 pub overflow_add-low : goal.overflow_add-low
 overflow_add-low c =
-    omega (arith, inside c {-place at-loop-test-})
+    omega (arith, inside (goal.at.overflow_add-low c).In-loop-low)
 
 pub loop-low-preserved-in-Before : goal.loop-low-preserved-in-Before
 loop-low-preserved-in-Before c =

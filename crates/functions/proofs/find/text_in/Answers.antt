@@ -14,15 +14,15 @@ here c =
 
 pub slice_bounds-result-count : goal.slice_bounds-result-count
 slice_bounds-result-count c =
-    let text = here c in omega (arith, text.ordered)
+    let text = here (goal.at.slice_bounds-result-count c).After-wide-end in omega (arith, text.ordered)
 
 pub slice_bounds-result-start : goal.slice_bounds-result-start
 slice_bounds-result-start c =
-    let text = here c in omega (arith, text.ordered, text.inside)
+    let text = here (goal.at.slice_bounds-result-start c).After-wide-end in omega (arith, text.ordered, text.inside)
 
 pub slice_bounds-result-end : goal.slice_bounds-result-end
 slice_bounds-result-end c =
-    let text = here c in omega (arith, text.ordered, text.inside)
+    let text = here (goal.at.slice_bounds-result-end c).After-wide-end in omega (arith, text.ordered, text.inside)
 
 pub returns : goal.returns
 returns c =

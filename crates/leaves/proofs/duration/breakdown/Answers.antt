@@ -21,11 +21,11 @@ count_of-count-requires c =
 
 pub overflow_mul-rest : goal.overflow_mul-rest
 overflow_mul-rest c =
-    omega (arith, within c)
+    omega (arith, within (goal.at.overflow_mul-rest c).After-count_of-count)
 
 pub overflow_sub-rest : goal.overflow_sub-rest
 overflow_sub-rest c =
-    within c
+    within (goal.at.overflow_sub-rest c).After-count_of-count
 
 pub loop-i-preserved : goal.loop-i-preserved
 loop-i-preserved c =

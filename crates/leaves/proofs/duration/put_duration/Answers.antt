@@ -32,11 +32,11 @@ loop-i-init c =
 
 pub put_count-pos-requires : goal.put_count-pos-requires
 put_count-pos-requires c =
-    (c.loop-i-test.true, room c.loop-i.invariant.0 (piece c {-place-}))
+    (c.loop-i-test.true, room c.loop-i.invariant.0 (piece (goal.at.put_count-pos-requires c).In-loop-i))
 
 pub loop-i-preserved : goal.loop-i-preserved
 loop-i-preserved c =
-    (step c.loop-i.invariant.0 (piece c {-place at-loop-test-}) c.put_count-pos.ensures, omega arith)
+    (step c.loop-i.invariant.0 (piece (goal.at.loop-i-preserved c).In-loop-i) c.put_count-pos.ensures, omega arith)
 
 pub returns : goal.returns
 returns c =

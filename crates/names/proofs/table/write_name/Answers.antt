@@ -40,7 +40,7 @@ returns-then-last-number c =
 
 pub overflow_sub-size : goal.overflow_sub-size
 overflow_sub-size c =
-    (here c).ordered
+    (here (goal.at.overflow_sub-size c).After-wide-end).ordered
 
 pub returns-then-out-size : goal.returns-then-out-size
 returns-then-out-size c =
@@ -48,19 +48,19 @@ returns-then-out-size c =
 
 pub slice_bounds-put_bytes-count : goal.slice_bounds-put_bytes-count
 slice_bounds-put_bytes-count c =
-    (here c {-place-}).ordered
+    (here (goal.at.slice_bounds-put_bytes-count c).After-wide-end).ordered
 
 pub slice_bounds-put_bytes-start : goal.slice_bounds-put_bytes-start
 slice_bounds-put_bytes-start c =
-    let p = here c {-place-} in omega (arith, p.ordered, p.inside)
+    let p = here (goal.at.slice_bounds-put_bytes-start c).After-wide-end in omega (arith, p.ordered, p.inside)
 
 pub slice_bounds-put_bytes-end : goal.slice_bounds-put_bytes-end
 slice_bounds-put_bytes-end c =
-    let p = here c {-place-} in omega (arith, p.ordered, p.inside)
+    let p = here (goal.at.slice_bounds-put_bytes-end c).After-wide-end in omega (arith, p.ordered, p.inside)
 
 pub overflow_mul-result : goal.overflow_mul-result
 overflow_mul-result c =
-    omega (arith, c.put_bytes.ensures.ends, size c, {-place at-second-wide-} (here c {-place at-second-wide-}).short)
+    omega (arith, c.put_bytes.ensures.ends, size (goal.at.overflow_mul-result c).After-wide-end, (here (goal.at.overflow_mul-result c).After-wide-end).short)
 
 pub returns : goal.returns
 returns c =

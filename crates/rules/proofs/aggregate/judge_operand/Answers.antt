@@ -81,8 +81,8 @@ returns-then-is_count_values-parameter_is_string c =
 
 pub returns-then-rule-is_limit : goal.returns-then-rule-is_limit
 returns-then-rule-is_limit c =
-    rows_left c {-place-} true c.if-rule-is_limit.true
+    rows_left (goal.at.returns-then-rule-is_limit c).After-is_limit true c.if-rule-is_limit.true
 
 pub returns : goal.returns
 returns c =
-    rows_left c {-place-} false c.if-rule-is_limit.false
+    rows_left (goal.at.returns c).After-is_limit false c.if-rule-is_limit.false

@@ -8,7 +8,7 @@ use Rattle.sandzguli.proofs.WordLaws.{kind_number-small}
 use Rattle.sandzguli.proofs.word.outcome_word.Goals as goal
 
 -- a refusal's number and its record are small
-inside : (c : goal.In-Refused-2)
+inside : (c : goal.In-Refused)
     → FitsWord (refusal (refusal_number c.in-Refused.refusal) c.in-Refused.index)
 inside c = rw c.in-Refused.is at c.requires
 
@@ -18,15 +18,15 @@ overflow_add-result c =
 
 pub overflow_mul-result-in-Refused : goal.overflow_mul-result-in-Refused
 overflow_mul-result-in-Refused c =
-    omega (arith, (inside c {-place-}).0, c.refusal_number.ensures)
+    omega (arith, (inside (goal.at.overflow_mul-result-in-Refused c).In-Refused).0, c.refusal_number.ensures)
 
 pub overflow_add-result-in-Refused : goal.overflow_add-result-in-Refused
 overflow_add-result-in-Refused c =
-    omega (arith, (inside c {-place-}).0, c.refusal_number.ensures)
+    omega (arith, (inside (goal.at.overflow_add-result-in-Refused c).In-Refused).0, c.refusal_number.ensures)
 
 pub overflow_add-result-in-Refused-2 : goal.overflow_add-result-in-Refused-2
 overflow_add-result-in-Refused-2 c =
-    omega (arith, (inside c {-place-}).0, (inside c {-place-}).1, c.refusal_number.ensures)
+    omega (arith, (inside (goal.at.overflow_add-result-in-Refused-2 c).In-Refused).0, (inside (goal.at.overflow_add-result-in-Refused-2 c).In-Refused).1, c.refusal_number.ensures)
 
 pub returns-in-Accepted : goal.returns-in-Accepted
 returns-in-Accepted c =

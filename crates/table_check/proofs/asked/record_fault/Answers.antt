@@ -52,12 +52,12 @@ stored_text-requires c =
 
 pub returns-in-Like : goal.returns-in-Like
 returns-in-Like c =
-    compared c {-place-} Like c.in-Like.is
+    compared (goal.at.returns-in-Like c).After-compare_signature Like c.in-Like.is
 
 pub returns-in-Unlike : goal.returns-in-Unlike
 returns-in-Unlike c =
-    compared c {-place-} Unlike c.in-Unlike.is
+    compared (goal.at.returns-in-Unlike c).After-compare_signature Unlike c.in-Unlike.is
 
 pub returns-in-Unknown : goal.returns-in-Unknown
 returns-in-Unknown c =
-    compared c {-place-} Unknown c.in-Unknown.is
+    compared (goal.at.returns-in-Unknown c).After-compare_signature Unknown c.in-Unknown.is

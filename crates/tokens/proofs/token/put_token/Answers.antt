@@ -26,15 +26,15 @@ loop-i-init c =
 
 pub put_byte-pos-requires : goal.put_byte-pos-requires
 put_byte-pos-requires c =
-    room c.loop-i.invariant (token-letter _ _ c.loop-i-test.true (letter-inside c {-place-}))
+    room c.loop-i.invariant (token-letter _ _ c.loop-i-test.true (letter-inside (goal.at.put_byte-pos-requires c).In-loop-i))
 
 pub overflow_add-i : goal.overflow_add-i
 overflow_add-i c =
-    omega (arith, letter-inside c {-place at-loop-test-})
+    omega (arith, letter-inside (goal.at.overflow_add-i c).In-loop-i)
 
 pub loop-i-preserved : goal.loop-i-preserved
 loop-i-preserved c =
-    step c.loop-i.invariant (token-letter _ _ c.loop-i-test.true (letter-inside c {-place at-loop-test-}))
+    step c.loop-i.invariant (token-letter _ _ c.loop-i-test.true (letter-inside (goal.at.loop-i-preserved c).In-loop-i))
     c.put_byte-pos.ensures
 
 pub returns : goal.returns
