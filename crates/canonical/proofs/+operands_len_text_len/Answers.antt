@@ -10,22 +10,22 @@ use Rattle.canonical.proofs.+operands_len_text_len.Goals as goal
 
 pub operands_len-returns-then-count-eq0 : goal.operands_len-returns-then-count-eq0
 operands_len-returns-then-count-eq0 t c =
-    len-none display display c.requires.operands.0 _ c.requires.operands.1.0 _ _ c.if-count-eq0.true
+    len-none display display c.requires.tables _ c.requires.operands _ _ c.if-count-eq0.true
 
 pub operands_len-overflow_sub-root : goal.operands_len-overflow_sub-root
 operands_len-overflow_sub-root t c =
-    (last-operand c.requires.operands.0 _ c.requires.operands.1.0 c.if-count-eq0.false).some
+    (last-operand c.requires.tables _ c.requires.operands c.if-count-eq0.false).some
 
 pub operands_len-text_len-last-requires : goal.operands_len-text_len-last-requires
 operands_len-text_len-last-requires t c =
-    let w = last-operand c.requires.operands.0 _ c.requires.operands.1.0 c.if-count-eq0.false in (
-      omega (arith, w.some, c.requires.tables),
-      (fewer c.requires.operands.0 (omega (arith, w.some)), c.requires.operands.1.1),
+    let w = last-operand c.requires.tables _ c.requires.operands c.if-count-eq0.false in (
+      omega (arith, w.some, c.decreases),
+      (fewer c.requires.tables (omega (arith, w.some)), c.requires.numberless),
     )
 
 pub operands_len-returns-then-count-eq1 : goal.operands_len-returns-then-count-eq1
 operands_len-returns-then-count-eq1 t c =
-    len-one display display c.requires.operands.0 _ c.requires.operands.1.0 _ _ _ c.if-count-eq1.true
+    len-one display display c.requires.tables _ c.requires.operands _ _ _ c.if-count-eq1.true
     c.text_len-last.ensures
 
 pub operands_len-overflow_sub-left : goal.operands_len-overflow_sub-left
@@ -34,16 +34,16 @@ operands_len-overflow_sub-left t c =
 
 pub operands_len-returns-then-left-gap : goal.operands_len-returns-then-left-gap
 operands_len-returns-then-left-gap t c =
-    len-full display display c.requires.operands.0 _ c.requires.operands.1.0 c.if-count-eq0.false
+    len-full display display c.requires.tables _ c.requires.operands c.if-count-eq0.false
     c.if-count-eq1.false _ _ _ c.text_len-last.ensures c.if-left-gap.true
 
 pub operands_len-bounds-firsts-root : goal.operands_len-bounds-firsts-root
 operands_len-bounds-firsts-root t c =
     omega (
       arith,
-      (last-operand c.requires.operands.0 _ c.requires.operands.1.0 c.if-count-eq0.false).some,
-      c.requires.operands.0.firsts-size,
-      c.requires.operands.0.few,
+      (last-operand c.requires.tables _ c.requires.operands c.if-count-eq0.false).some,
+      c.requires.tables.firsts-size,
+      c.requires.tables.few,
     )
 
 pub operands_len-overflow_cast-first : goal.operands_len-overflow_cast-first
@@ -60,11 +60,11 @@ operands_len-overflow_sub-left-2 t c =
 
 pub operands_len-operands_len-rest-requires : goal.operands_len-operands_len-rest-requires
 operands_len-operands_len-rest-requires t c =
-    let w = last-operand c.requires.operands.0 _ c.requires.operands.1.0 c.if-count-eq0.false in (
-      omega (arith, w.low, c.requires.tables),
+    let w = last-operand c.requires.tables _ c.requires.operands c.if-count-eq0.false in (
+      omega (arith, w.low, c.decreases),
       (
-        fewer c.requires.operands.0 (omega (arith, w.low)),
-        (fewer-operands c.requires.operands.0 _ c.requires.operands.1.0 c.if-count-eq0.false, unmarked _ _),
+        fewer c.requires.tables (omega (arith, w.low)),
+        (fewer-operands c.requires.tables _ c.requires.operands c.if-count-eq0.false, unmarked _ _),
       ),
     )
 
@@ -78,7 +78,7 @@ operands_len-overflow_add-result-2 t c =
 
 pub operands_len-returns : goal.operands_len-returns
 operands_len-returns t c =
-    len_more display display c.requires.operands.0 _ c.requires.operands.1.0 c.if-count-eq0.false
+    len_more display display c.requires.tables _ c.requires.operands c.if-count-eq0.false
     c.if-count-eq1.false _ _ _ c.text_len-last.ensures _ c.if-left-gap.false
     c.operands_len-rest.ensures
 
@@ -88,7 +88,7 @@ text_len-returns-then-cap-eq0 t c =
 
 pub text_len-view_at-node-requires : goal.text_len-view_at-node-requires
 text_len-view_at-node-requires t c =
-    record { starts = starts-of c.requires.numberless.0; numberless = c.requires.numberless.1 }
+    record { starts = starts-of c.requires.tables; numberless = c.requires.numberless }
 
 pub text_len-front_len-front-requires : goal.text_len-front_len-front-requires
 text_len-front_len-front-requires t c =
@@ -109,9 +109,9 @@ text_len-overflow_sub-cap-2 t c =
 pub text_len-operands_len-inner-requires : goal.text_len-operands_len-inner-requires
 text_len-operands_len-inner-requires t c =
     let laid_out = c.view_at-node.ensures.laid_out in (
-      omega (arith, laid_out.low, c.requires.tables),
+      omega (arith, laid_out.low, c.decreases),
       (
-        fewer c.requires.numberless.0 (omega (arith, laid_out.low)),
+        fewer c.requires.tables (omega (arith, laid_out.low)),
         (laid_out.enough, rw c.is_minus.ensures (minus-numberless c.view_at-node.ensures)),
       ),
     )

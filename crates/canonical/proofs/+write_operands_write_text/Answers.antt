@@ -16,26 +16,26 @@ use Rattle.canonical.proofs.+write_operands_write_text.Goals as goal
 
 pub write_operands-returns-then-count-eq0 : goal.write_operands-returns-then-count-eq0
 write_operands-returns-then-count-eq0 t c =
-    wrote_nothing _ _ (text-none display display c.requires.node.0 _ c.requires.node.1.1.0 _ c.if-count-eq0.true)
+    wrote_nothing _ _ (text-none display display c.requires.tables _ c.requires.operands _ c.if-count-eq0.true)
 
 pub write_operands-overflow_sub-root : goal.write_operands-overflow_sub-root
 write_operands-overflow_sub-root t c =
-    (last-operand c.requires.node.0 _ c.requires.node.1.1.0 c.if-count-eq0.false).some
+    (last-operand c.requires.tables _ c.requires.operands c.if-count-eq0.false).some
 
 pub write_operands-write_text-requires : goal.write_operands-write_text-requires
 write_operands-write_text-requires t c =
-    let w = last-operand c.requires.node.0 _ c.requires.node.1.1.0 c.if-count-eq0.false in (
-      omega (arith, w.some, c.requires.tables),
+    let w = last-operand c.requires.tables _ c.requires.operands c.if-count-eq0.false in (
+      omega (arith, w.some, c.decreases),
       (
-        fewer c.requires.node.0 (omega (arith, w.some)),
+        fewer c.requires.tables (omega (arith, w.some)),
         (
-          c.requires.node.1.1.1.0,
+          c.requires.numberless,
           omega (
             arith,
             ap length
-                (text-one display display c.requires.node.0 _ c.requires.node.1.1.0
+                (text-one display display c.requires.tables _ c.requires.operands
                 (between (layout_at c.args.page.now c.args.node)) c.if-count-eq1.true),
-            c.requires.node.1.1.1.1,
+            c.requires.room,
           ),
         ),
       ),
@@ -48,16 +48,16 @@ write_operands-shape_of-out-then-count-eq1 t c =
 pub write_operands-returns-then-count-eq1 : goal.write_operands-returns-then-count-eq1
 write_operands-returns-then-count-eq1 t c =
     wrote_as
-    (text-one display display c.requires.node.0 _ c.requires.node.1.1.0 _ c.if-count-eq1.true)
+    (text-one display display c.requires.tables _ c.requires.operands _ c.if-count-eq1.true)
     c.write_text.ensures
 
 pub write_operands-bounds-firsts-root : goal.write_operands-bounds-firsts-root
 write_operands-bounds-firsts-root t c =
     omega (
       arith,
-      (last-operand c.requires.node.0 _ c.requires.node.1.1.0 c.if-count-eq0.false).some,
-      c.requires.node.0.firsts-size,
-      c.requires.node.0.few,
+      (last-operand c.requires.tables _ c.requires.operands c.if-count-eq0.false).some,
+      c.requires.tables.firsts-size,
+      c.requires.tables.few,
     )
 
 pub write_operands-overflow_cast-first : goal.write_operands-overflow_cast-first
@@ -70,18 +70,18 @@ write_operands-overflow_sub-count t c =
 
 pub write_operands-write_operands-gap-requires : goal.write_operands-write_operands-gap-requires
 write_operands-write_operands-gap-requires t c =
-    let w = last-operand c.requires.node.0 _ c.requires.node.1.1.0 c.if-count-eq0.false in
-    let run = run_more display display c.requires.node.0 _ c.requires.node.1.1.0
+    let w = last-operand c.requires.tables _ c.requires.operands c.if-count-eq0.false in
+    let run = run_more display display c.requires.tables _ c.requires.operands
     (between (layout_at c.args.page.now c.args.node)) c.if-count-eq0.false
     c.if-count-eq1.false c.args.out.now c.args.at
-    c.requires.node.1.1.1.1 in (
-      omega (arith, w.low, c.requires.tables),
+    c.requires.room in (
+      omega (arith, w.low, c.decreases),
       (
-        fewer c.requires.node.0 (omega (arith, w.low)),
+        fewer c.requires.tables (omega (arith, w.low)),
         (
-          c.requires.node.1.0,
+          c.requires.node,
           (
-            fewer-operands c.requires.node.0 _ c.requires.node.1.1.0 c.if-count-eq0.false,
+            fewer-operands c.requires.tables _ c.requires.operands c.if-count-eq0.false,
             (unmarked _ _, fits run),
           ),
         ),
@@ -90,21 +90,21 @@ write_operands-write_operands-gap-requires t c =
 
 pub write_operands-put_between-next-requires : goal.write_operands-put_between-next-requires
 write_operands-put_between-next-requires t c =
-    let run = run_more display display c.requires.node.0 _ c.requires.node.1.1.0
+    let run = run_more display display c.requires.tables _ c.requires.operands
     (between (layout_at c.args.page.now c.args.node)) c.if-count-eq0.false
-    c.if-count-eq1.false c.args.out.now c.args.at c.requires.node.1.1.1.1 in record { node = c.requires.node.1.0; room = fits (next run c.write_operands-gap.ensures) }
+    c.if-count-eq1.false c.args.out.now c.args.at c.requires.room in record { node = c.requires.node; room = fits (next run c.write_operands-gap.ensures) }
 
 pub write_operands-write_text-requires-2 : goal.write_operands-write_text-requires-2
 write_operands-write_text-requires-2 t c =
-    let w = last-operand c.requires.node.0 _ c.requires.node.1.1.0 c.if-count-eq0.false in
-    let run = run_more display display c.requires.node.0 _ c.requires.node.1.1.0
+    let w = last-operand c.requires.tables _ c.requires.operands c.if-count-eq0.false in
+    let run = run_more display display c.requires.tables _ c.requires.operands
     (between (layout_at c.args.page.now c.args.node)) c.if-count-eq0.false
-    c.if-count-eq1.false c.args.out.now c.args.at c.requires.node.1.1.1.1 in (
-      omega (arith, w.some, c.requires.tables),
+    c.if-count-eq1.false c.args.out.now c.args.at c.requires.room in (
+      omega (arith, w.some, c.decreases),
       (
-        fewer c.requires.node.0 (omega (arith, w.some)),
+        fewer c.requires.tables (omega (arith, w.some)),
         (
-          c.requires.node.1.1.1.0,
+          c.requires.numberless,
           fits (next (next run c.write_operands-gap.ensures) c.put_between-next.ensures),
         ),
       ),
@@ -117,32 +117,32 @@ write_operands-shape_of-out t c =
 
 pub write_operands-returns : goal.write_operands-returns
 write_operands-returns t c =
-    let run = run_more display display c.requires.node.0 _ c.requires.node.1.1.0
+    let run = run_more display display c.requires.tables _ c.requires.operands
     (between (layout_at c.args.page.now c.args.node)) c.if-count-eq0.false
-    c.if-count-eq1.false c.args.out.now c.args.at c.requires.node.1.1.1.1 in
+    c.if-count-eq1.false c.args.out.now c.args.at c.requires.room in
     end (next (next (next run c.write_operands-gap.ensures) c.put_between-next.ensures)
     c.write_text-2.ensures)
 
 pub write_text-view_at-node-requires : goal.write_text-view_at-node-requires
 write_text-view_at-node-requires t c =
-    record { starts = starts-of c.requires.numberless.0; numberless = c.requires.numberless.1.0 }
+    record { starts = starts-of c.requires.tables; numberless = c.requires.numberless }
 
 pub write_text-put_front-inner-requires : goal.write_text-put_front-inner-requires
 write_text-put_front-inner-requires t c =
     record {
       node = c.view_at-node.ensures.stands;
       room = fits (run-node c.view_at-node.ensures.laid_out c.args.out.now
-          c.args.at c.requires.numberless.1.1);
+          c.args.at c.requires.room);
     }
 
 pub write_text-write_operands-others-requires : goal.write_text-write_operands-others-requires
 write_text-write_operands-others-requires t c =
     let laid_out = c.view_at-node.ensures.laid_out in
-    let run = next (run-node laid_out c.args.out.now c.args.at c.requires.numberless.1.1)
+    let run = next (run-node laid_out c.args.out.now c.args.at c.requires.room)
     c.put_front-inner.ensures in (
-      omega (arith, laid_out.low, c.requires.tables),
+      omega (arith, laid_out.low, c.decreases),
       (
-        fewer c.requires.numberless.0 (omega (arith, laid_out.low)),
+        fewer c.requires.tables (omega (arith, laid_out.low)),
         (
           c.view_at-node.ensures.stands,
           (
@@ -158,7 +158,7 @@ write_text-put_rear-requires t c =
     record {
       node = c.view_at-node.ensures.stands;
       room = fits (next (next (run-node c.view_at-node.ensures.laid_out c.args.out.now
-          c.args.at c.requires.numberless.1.1) c.put_front-inner.ensures)
+          c.args.at c.requires.room) c.put_front-inner.ensures)
           c.write_operands-others.ensures);
     }
 
@@ -170,5 +170,5 @@ write_text-shape_of-out t c =
 pub write_text-returns : goal.write_text-returns
 write_text-returns t c =
     end (next (next (next (run-node c.view_at-node.ensures.laid_out c.args.out.now
-    c.args.at c.requires.numberless.1.1) c.put_front-inner.ensures)
+    c.args.at c.requires.room) c.put_front-inner.ensures)
     c.write_operands-others.ensures) c.put_rear.ensures)

@@ -11,7 +11,7 @@ use Rattle.measure.proofs.+measure_measure_operands.Goals as goal
 
 pub measure-view_at-node-requires : goal.measure-view_at-node-requires
 measure-view_at-node-requires t c =
-    record { starts = starts-of c.requires.numberless.0; numberless = c.requires.numberless.1.0 }
+    record { starts = starts-of c.requires.tables; numberless = c.requires.numberless }
 
 pub measure-front_len-front-requires : goal.measure-front_len-front-requires
 measure-front_len-front-requires t c =
@@ -28,14 +28,14 @@ measure-between_len-gap-requires t c =
 pub measure-measure_operands-inner-requires : goal.measure-measure_operands-inner-requires
 measure-measure_operands-inner-requires t c =
     let laid_out = c.view_at-node.ensures.laid_out in (
-      omega (arith, laid_out.low, c.requires.tables),
+      omega (arith, laid_out.low, c.decreases),
       (
-        fewer c.requires.numberless.0 (omega (arith, laid_out.low)),
+        fewer c.requires.tables (omega (arith, laid_out.low)),
         (
           laid_out.enough,
           (
             rw c.is_minus-minus.ensures (minus-numberless c.view_at-node.ensures),
-            (omega arith, c.requires.numberless.1.1),
+            (omega arith, c.requires.known),
           ),
         ),
       ),
@@ -77,13 +77,13 @@ measure-overflow_cast-widths t c =
 
 pub measure-bounds-widths-i : goal.measure-bounds-widths-i
 measure-bounds-widths-i t c =
-    omega (arith, c.measure_operands-inner.ensures.known.size, c.requires.numberless.0.few)
+    omega (arith, c.measure_operands-inner.ensures.known.size, c.requires.tables.few)
 
 pub measure-shape_of-widths : goal.measure-shape_of-widths
 measure-shape_of-widths t c =
     set-size c.args.i
     (c.front_len-front.result + c.measure_operands-inner.result + c.rear_len-rear.result)
-    c.measure_operands-inner.ensures.known c.requires.numberless.1.1
+    c.measure_operands-inner.ensures.known c.requires.known
 
 pub measure-returns : goal.measure-returns
 measure-returns t c =
@@ -91,37 +91,37 @@ measure-returns t c =
     c.between_len-gap.ensures c.measure_operands-inner.ensures.value
     c.rear_len-rear.ensures in record {
       value = width;
-      known = widths-set _ _ c.measure_operands-inner.ensures.known (omega (arith, c.requires.numberless.0.few))
+      known = widths-set _ _ c.measure_operands-inner.ensures.known (omega (arith, c.requires.tables.few))
           width;
     }
 
 pub measure_operands-returns-then-count-eq0 : goal.measure_operands-returns-then-count-eq0
 measure_operands-returns-then-count-eq0 t c =
-    record { value = len-none display display c.requires.operands.0 _ c.requires.operands.1.0 _ _ c.if-count-eq0.true; known = c.requires.operands.1.1.1.1 }
+    record { value = len-none display display c.requires.tables _ c.requires.operands _ _ c.if-count-eq0.true; known = c.requires.known }
 
 pub measure_operands-overflow_sub-root : goal.measure_operands-overflow_sub-root
 measure_operands-overflow_sub-root t c =
-    (last-operand c.requires.operands.0 _ c.requires.operands.1.0 c.if-count-eq0.false).some
+    (last-operand c.requires.tables _ c.requires.operands c.if-count-eq0.false).some
 
 pub measure_operands-measure-width-requires : goal.measure_operands-measure-width-requires
 measure_operands-measure-width-requires t c =
-    let w = last-operand c.requires.operands.0 _ c.requires.operands.1.0 c.if-count-eq0.false in (
-      omega (arith, w.some, c.requires.tables),
+    let w = last-operand c.requires.tables _ c.requires.operands c.if-count-eq0.false in (
+      omega (arith, w.some, c.decreases),
       (
-        fewer c.requires.operands.0 (omega (arith, w.some)),
-        (c.requires.operands.1.1.0, c.requires.operands.1.1.1.1),
+        fewer c.requires.tables (omega (arith, w.some)),
+        (c.requires.numberless, c.requires.known),
       ),
     )
 
 pub measure_operands-shape_of-widths-then-count-eq1 : goal.measure_operands-shape_of-widths-then-count-eq1
 measure_operands-shape_of-widths-then-count-eq1 t c =
-    omega (arith, c.measure-width.ensures.known.size, c.requires.operands.1.1.1.1.size)
+    omega (arith, c.measure-width.ensures.known.size, c.requires.known.size)
 
 pub measure_operands-returns-then-count-eq1 : goal.measure_operands-returns-then-count-eq1
 measure_operands-returns-then-count-eq1 t c =
     record {
-      value = len-one display display c.requires.operands.0 _ c.requires.operands.1.0 _ _ _ c.if-count-eq1.true
-          (recapped _ _ _ _ c.measure-width.ensures.value c.requires.operands.1.1.1.0
+      value = len-one display display c.requires.tables _ c.requires.operands _ _ _ c.if-count-eq1.true
+          (recapped _ _ _ _ c.measure-width.ensures.value c.requires.cap
           c.capped_add-last.ensures);
       known = c.measure-width.ensures.known;
     }
@@ -130,9 +130,9 @@ pub measure_operands-bounds-firsts-root : goal.measure_operands-bounds-firsts-ro
 measure_operands-bounds-firsts-root t c =
     omega (
       arith,
-      (last-operand c.requires.operands.0 _ c.requires.operands.1.0 c.if-count-eq0.false).some,
-      c.requires.operands.0.firsts-size,
-      c.requires.operands.0.few,
+      (last-operand c.requires.tables _ c.requires.operands c.if-count-eq0.false).some,
+      c.requires.tables.firsts-size,
+      c.requires.tables.few,
     )
 
 pub measure_operands-overflow_cast-first : goal.measure_operands-overflow_cast-first
@@ -149,16 +149,16 @@ measure_operands-overflow_sub-fewer t c =
 
 pub measure_operands-measure_operands-rest-requires : goal.measure_operands-measure_operands-rest-requires
 measure_operands-measure_operands-rest-requires t c =
-    let w = last-operand c.requires.operands.0 _ c.requires.operands.1.0 c.if-count-eq0.false in (
-      omega (arith, w.low, c.requires.tables),
+    let w = last-operand c.requires.tables _ c.requires.operands c.if-count-eq0.false in (
+      omega (arith, w.low, c.decreases),
       (
-        fewer c.requires.operands.0 (omega (arith, w.low)),
+        fewer c.requires.tables (omega (arith, w.low)),
         (
-          fewer-operands c.requires.operands.0 _ c.requires.operands.1.0 c.if-count-eq0.false,
+          fewer-operands c.requires.tables _ c.requires.operands c.if-count-eq0.false,
           (
             unmarked _ _,
             (
-              omega (arith, c.room_after-room.ensures, c.requires.operands.1.1.1.0),
+              omega (arith, c.room_after-room.ensures, c.requires.cap),
               c.measure-width.ensures.known,
             ),
           ),
@@ -168,14 +168,14 @@ measure_operands-measure_operands-rest-requires t c =
 
 pub measure_operands-shape_of-widths-then-left-gap : goal.measure_operands-shape_of-widths-then-left-gap
 measure_operands-shape_of-widths-then-left-gap t c =
-    omega (arith, c.measure_operands-rest.ensures.known.size, c.requires.operands.1.1.1.1.size)
+    omega (arith, c.measure_operands-rest.ensures.known.size, c.requires.known.size)
 
 pub measure_operands-returns-then-left-gap : goal.measure_operands-returns-then-left-gap
 measure_operands-returns-then-left-gap t c =
     record {
-      value = len-full display display c.requires.operands.0 _ c.requires.operands.1.0 c.if-count-eq0.false
+      value = len-full display display c.requires.tables _ c.requires.operands c.if-count-eq0.false
           c.if-count-eq1.false _ _ _
-          (recapped _ _ _ _ c.measure-width.ensures.value c.requires.operands.1.1.1.0
+          (recapped _ _ _ _ c.measure-width.ensures.value c.requires.cap
           c.capped_add-last.ensures) c.if-left-gap.true;
       known = c.measure_operands-rest.ensures.known;
     }
@@ -197,14 +197,14 @@ measure_operands-overflow_add-result-2 t c =
 
 pub measure_operands-shape_of-widths : goal.measure_operands-shape_of-widths
 measure_operands-shape_of-widths t c =
-    omega (arith, c.measure_operands-rest.ensures.known.size, c.requires.operands.1.1.1.1.size)
+    omega (arith, c.measure_operands-rest.ensures.known.size, c.requires.known.size)
 
 pub measure_operands-returns : goal.measure_operands-returns
 measure_operands-returns t c =
     record {
-      value = len_more display display c.requires.operands.0 _ c.requires.operands.1.0 c.if-count-eq0.false
+      value = len_more display display c.requires.tables _ c.requires.operands c.if-count-eq0.false
           c.if-count-eq1.false _ _ _
-          (recapped _ _ _ _ c.measure-width.ensures.value c.requires.operands.1.1.1.0
+          (recapped _ _ _ _ c.measure-width.ensures.value c.requires.cap
           c.capped_add-last.ensures) _ c.if-left-gap.false
           (rw c.room_after-room.ensures at c.measure_operands-rest.ensures.value);
       known = c.measure_operands-rest.ensures.known;

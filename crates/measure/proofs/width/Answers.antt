@@ -4,7 +4,7 @@ use Rattle.measure.proofs.width.Goals as goal
 
 pub bounds-widths-i : goal.bounds-widths-i
 bounds-widths-i c =
-    omega (arith, c.requires.tables.few, c.requires.known.0.size)
+    omega (arith, c.requires.tables.few, c.requires.known.size)
 
 pub overflow_cast-known : goal.overflow_cast-known
 overflow_cast-known c =
@@ -12,4 +12,4 @@ overflow_cast-known c =
 
 pub returns-then-known-ne0 : goal.returns-then-known-ne0
 returns-then-known-ne0 c =
-    c.requires.known.0.right c.args.i c.if-known-ne0.true
+    c.requires.known.right c.args.i c.if-known-ne0.true

@@ -13,15 +13,15 @@ returns-then-top-needed c =
     judgement-short (eqb c.args.rule 42) (record_on c.args.page.now c.args.item)
     (drop c.args.top (held_operands c.args.tags.now c.args.values.now))
     (rw (stack-size c.args.tags.now c.args.values.now c.requires.sized
-    c.args.top) (omega (arith, c.if-top-needed.true, c.requires.item.0.takes)))
+    c.args.top) (omega (arith, c.if-top-needed.true, c.requires.item.takes)))
 
 pub judge_record-requires : goal.judge_record-requires
 judge_record-requires c =
     record {
       sized = c.requires.sized;
       ready = record {
-        lies = c.requires.item.0.lies;
-        exact = c.requires.item.0.exact;
-        fits = omega (arith, c.if-top-needed.false, c.requires.item.0.takes, c.requires.item.1);
+        lies = c.requires.item.lies;
+        exact = c.requires.item.exact;
+        fits = omega (arith, c.if-top-needed.false, c.requires.item.takes, c.requires.inside);
       };
     }

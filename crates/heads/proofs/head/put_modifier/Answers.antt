@@ -6,14 +6,14 @@ use Rattle.heads.proofs.head.put_modifier.Goals as goal
 
 pub put_bool-after_bool-requires : goal.put_bool-after_bool-requires
 put_bool-after_bool-requires c =
-    fits (start {o = c.args.out.now} c.requires.exact.1
+    fits (start {o = c.args.out.now} c.requires.room
     (modifier-pieces (bin_modifier_on c.args.page.now c.args.modifier)))
 
 pub put_matching-matched-requires : goal.put_matching-matched-requires
 put_matching-matched-requires c =
     record {
       stored = c.requires.stored.matching;
-      room = fits (next (start c.requires.exact.1
+      room = fits (next (start c.requires.room
           (modifier-pieces (bin_modifier_on c.args.page.now c.args.modifier)))
           c.put_bool-after_bool.ensures);
     }
@@ -22,7 +22,7 @@ pub put_cardinality-grouped-requires : goal.put_cardinality-grouped-requires
 put_cardinality-grouped-requires c =
     record {
       stored = c.requires.stored.card;
-      room = fits (next (next (start c.requires.exact.1
+      room = fits (next (next (start c.requires.room
           (modifier-pieces (bin_modifier_on c.args.page.now c.args.modifier)))
           c.put_bool-after_bool.ensures) c.put_matching-matched.ensures);
     }
@@ -30,8 +30,8 @@ put_cardinality-grouped-requires c =
 pub put_fills-requires : goal.put_fills-requires
 put_fills-requires c =
     record {
-      exact = c.requires.exact.0;
-      room = fits (next (next (next (start c.requires.exact.1
+      exact = c.requires.exact;
+      room = fits (next (next (next (start c.requires.room
           (modifier-pieces (bin_modifier_on c.args.page.now c.args.modifier)))
           c.put_bool-after_bool.ensures) c.put_matching-matched.ensures)
           c.put_cardinality-grouped.ensures);
@@ -39,7 +39,7 @@ put_fills-requires c =
 
 pub returns : goal.returns
 returns c =
-    end (next (next (next (next (start c.requires.exact.1
+    end (next (next (next (next (start c.requires.room
     (modifier-pieces (bin_modifier_on c.args.page.now c.args.modifier)))
     c.put_bool-after_bool.ensures) c.put_matching-matched.ensures)
     c.put_cardinality-grouped.ensures) c.put_fills.ensures)

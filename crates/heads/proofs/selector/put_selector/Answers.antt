@@ -11,15 +11,15 @@ use Rattle.heads.proofs.selector.put_selector.Goals as goal
 pub put_bytes-behind-requires : goal.put_bytes-behind-requires
 put_bytes-behind-requires c =
     part-fits (λ (l : List ℕ). l) c.text_at.ensures _ _
-    (first _ _ c.requires.stored.1.1
+    (first _ _ c.requires.room
     (selector-cut (selector_on c.args.page.now c.args.selector)))
 
 pub put_braces-requires : goal.put_braces-requires
 put_braces-requires c =
     record {
-      stored = c.requires.stored.0;
-      limits = c.requires.stored.1.0;
-      room = room (step (begin _ _ _ c.requires.stored.1.1)
+      stored = c.requires.stored;
+      limits = c.requires.limits;
+      room = room (step (begin _ _ _ c.requires.room)
           (selector-cut (selector_on c.args.page.now c.args.selector))
           (part-wrote (λ (l : List ℕ). l) c.text_at.ensures c.put_bytes-behind.ensures))
           (cut-last _);
@@ -27,7 +27,7 @@ put_braces-requires c =
 
 pub returns : goal.returns
 returns c =
-    finish (step (step (begin _ _ _ c.requires.stored.1.1)
+    finish (step (step (begin _ _ _ c.requires.room)
     (selector-cut (selector_on c.args.page.now c.args.selector))
     (part-wrote (λ (l : List ℕ). l) c.text_at.ensures c.put_bytes-behind.ensures))
     (cut-last _) c.put_braces.ensures) refl

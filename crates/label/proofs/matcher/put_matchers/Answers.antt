@@ -6,7 +6,7 @@ use Rattle.label.proofs.matcher.put_matchers.Goals as goal
 
 pub collect-n-requires : goal.collect-n-requires
 collect-n-requires c =
-    record { stored = c.requires.stored; limits = (c.requires.limits.0.0, c.requires.limits.0.1) }
+    record { stored = c.requires.stored; limits = (c.requires.limits.0, c.requires.limits.1) }
 
 pub slice_bounds-order-end : goal.slice_bounds-order-end
 slice_bounds-order-end c =
@@ -19,7 +19,7 @@ arrange-requires c =
 pub put_in_order-requires : goal.put_in_order-requires
 put_in_order-requires c = (
   c.arrange.ensures.keys,
-  sorted-fits c.collect-n.ensures c.arrange.ensures _ _ c.requires.limits.1,
+  sorted-fits c.collect-n.ensures c.arrange.ensures _ _ c.requires.room,
 )
 
 pub returns : goal.returns

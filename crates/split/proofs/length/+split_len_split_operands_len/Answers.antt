@@ -15,11 +15,11 @@ split_len-returns-then-cap-eq0 t c =
 
 pub split_len-width-line-requires : goal.split_len-width-line-requires
 split_len-width-line-requires t c =
-    record { tables = c.requires.known.0; known = c.requires.known.1.0; numberless = c.requires.known.1.1.0 }
+    record { tables = c.requires.tables; known = c.requires.known; numberless = c.requires.numberless }
 
 pub split_len-indent_len-lead-requires : goal.split_len-indent_len-lead-requires
 split_len-indent_len-lead-requires t c =
-    omega (arith, c.requires.known.1.1.1)
+    omega (arith, c.requires.level)
 
 pub split_len-returns-then-line-le-LINE_LIMIT : goal.split_len-returns-then-line-le-LINE_LIMIT
 split_len-returns-then-line-le-LINE_LIMIT t c =
@@ -29,11 +29,11 @@ split_len-returns-then-line-le-LINE_LIMIT t c =
 
 pub split_len-view_at-node-requires : goal.split_len-view_at-node-requires
 split_len-view_at-node-requires t c =
-    record { starts = starts-of c.requires.known.0; numberless = c.requires.known.1.1.0 }
+    record { starts = starts-of c.requires.tables; numberless = c.requires.numberless }
 
 pub split_len-front_at_len-front-requires : goal.split_len-front_at_len-front-requires
 split_len-front_at_len-front-requires t c =
-    record { node = c.view_at-node.ensures.stands; level = omega (arith, c.requires.known.1.1.1) }
+    record { node = c.view_at-node.ensures.stands; level = omega (arith, c.requires.level) }
 
 pub split_len-overflow_sub-left : goal.split_len-overflow_sub-left
 split_len-overflow_sub-left t c =
@@ -41,20 +41,20 @@ split_len-overflow_sub-left t c =
 
 pub split_len-between_at_len-gap-requires : goal.split_len-between_at_len-gap-requires
 split_len-between_at_len-gap-requires t c =
-    record { node = c.view_at-node.ensures.stands; level = omega (arith, c.requires.known.1.1.1) }
+    record { node = c.view_at-node.ensures.stands; level = omega (arith, c.requires.level) }
 
 pub split_len-inner_place-operand-requires : goal.split_len-inner_place-operand-requires
 split_len-inner_place-operand-requires t c =
-    rw c.with_numberless.ensures (omega (arith, c.requires.known.1.1.1))
+    rw c.with_numberless.ensures (omega (arith, c.requires.level))
 
 pub split_len-split_operands_len-inner-requires : goal.split_len-split_operands_len-inner-requires
 split_len-split_operands_len-inner-requires t c =
     let laid_out = c.view_at-node.ensures.laid_out in (
-      omega (arith, laid_out.low, c.requires.tables),
+      omega (arith, laid_out.low, c.decreases),
       (
-        fewer c.requires.known.0 (omega (arith, laid_out.low)),
+        fewer c.requires.tables (omega (arith, laid_out.low)),
         (
-          c.requires.known.1.0,
+          c.requires.known,
           (
             laid_out.enough,
             (
@@ -67,7 +67,7 @@ split_len-split_operands_len-inner-requires t c =
               omega (
                 arith,
                 laid_out.low,
-                c.requires.known.1.1.1,
+                c.requires.level,
                 rw c.with_numberless.ensures at c.inner_place-operand.ensures.most,
               ),
             ),
@@ -82,7 +82,7 @@ split_len-overflow_sub-left-2 t c =
 
 pub split_len-rear_at_len-rear-requires : goal.split_len-rear_at_len-rear-requires
 split_len-rear_at_len-rear-requires t c =
-    record { node = c.view_at-node.ensures.stands; level = omega (arith, c.requires.known.1.1.1) }
+    record { node = c.view_at-node.ensures.stands; level = omega (arith, c.requires.level) }
 
 pub split_len-overflow_add-result : goal.split_len-overflow_add-result
 split_len-overflow_add-result t c =
@@ -117,22 +117,22 @@ split_len-returns t c =
 pub split_operands_len-returns-then-count-eq0 : goal.split_operands_len-returns-then-count-eq0
 split_operands_len-returns-then-count-eq0 t c =
     len-none (pretty_indented c.args.place.indents c.args.place.level)
-    (pretty_indented true c.args.place.level) c.requires.known.0 _ c.requires.known.1.1.0 _ _
+    (pretty_indented true c.args.place.level) c.requires.tables _ c.requires.operands _ _
     c.if-count-eq0.true
 
 pub split_operands_len-overflow_sub-root : goal.split_operands_len-overflow_sub-root
 split_operands_len-overflow_sub-root t c =
-    (last-operand c.requires.known.0 _ c.requires.known.1.1.0 c.if-count-eq0.false).some
+    (last-operand c.requires.tables _ c.requires.operands c.if-count-eq0.false).some
 
 pub split_operands_len-split_len-requires : goal.split_operands_len-split_len-requires
 split_operands_len-split_len-requires t c =
-    let w = last-operand c.requires.known.0 _ c.requires.known.1.1.0 c.if-count-eq0.false in (
-      omega (arith, w.some, c.requires.tables),
+    let w = last-operand c.requires.tables _ c.requires.operands c.if-count-eq0.false in (
+      omega (arith, w.some, c.decreases),
       (
-        fewer c.requires.known.0 (omega (arith, w.some)),
+        fewer c.requires.tables (omega (arith, w.some)),
         (
-          c.requires.known.1.0,
-          (c.requires.known.1.1.1.0, omega (arith, w.some, c.requires.known.1.1.1.1)),
+          c.requires.known,
+          (c.requires.numberless, omega (arith, w.some, c.requires.level)),
         ),
       ),
     )
@@ -140,19 +140,19 @@ split_operands_len-split_len-requires t c =
 pub split_operands_len-returns-then-count-eq1 : goal.split_operands_len-returns-then-count-eq1
 split_operands_len-returns-then-count-eq1 t c =
     len-one (pretty_indented c.args.place.indents c.args.place.level)
-    (pretty_indented true c.args.place.level) c.requires.known.0 _ c.requires.known.1.1.0 _ _
+    (pretty_indented true c.args.place.level) c.requires.tables _ c.requires.operands _ _
     _ c.if-count-eq1.true c.split_len.ensures
 
 pub split_operands_len-split_len-last-requires : goal.split_operands_len-split_len-last-requires
 split_operands_len-split_len-last-requires t c =
-    let w = last-operand c.requires.known.0 _ c.requires.known.1.1.0 c.if-count-eq0.false in (
-      omega (arith, w.some, c.requires.tables),
+    let w = last-operand c.requires.tables _ c.requires.operands c.if-count-eq0.false in (
+      omega (arith, w.some, c.decreases),
       (
-        fewer c.requires.known.0 (omega (arith, w.some)),
+        fewer c.requires.tables (omega (arith, w.some)),
         (
-          c.requires.known.1.0,
+          c.requires.known,
           rw c.with_indents-others.ensures
-              (c.requires.known.1.1.1.0, omega (arith, w.some, c.requires.known.1.1.1.1)),
+              (c.requires.numberless, omega (arith, w.some, c.requires.level)),
         ),
       ),
     )
@@ -164,7 +164,7 @@ split_operands_len-overflow_sub-left t c =
 pub split_operands_len-returns-then-left-gap : goal.split_operands_len-returns-then-left-gap
 split_operands_len-returns-then-left-gap t c =
     len-full (pretty_indented c.args.place.indents c.args.place.level)
-    (pretty_indented true c.args.place.level) c.requires.known.0 _ c.requires.known.1.1.0
+    (pretty_indented true c.args.place.level) c.requires.tables _ c.requires.operands
     c.if-count-eq0.false c.if-count-eq1.false _ _ _
     (rw c.with_indents-others.ensures at c.split_len-last.ensures) c.if-left-gap.true
 
@@ -172,9 +172,9 @@ pub split_operands_len-bounds-firsts-root : goal.split_operands_len-bounds-first
 split_operands_len-bounds-firsts-root t c =
     omega (
       arith,
-      (last-operand c.requires.known.0 _ c.requires.known.1.1.0 c.if-count-eq0.false).some,
-      c.requires.known.0.firsts-size,
-      c.requires.known.0.few,
+      (last-operand c.requires.tables _ c.requires.operands c.if-count-eq0.false).some,
+      c.requires.tables.firsts-size,
+      c.requires.tables.few,
     )
 
 pub split_operands_len-overflow_cast-end : goal.split_operands_len-overflow_cast-end
@@ -191,15 +191,15 @@ split_operands_len-overflow_sub-room t c =
 
 pub split_operands_len-split_operands_len-rest-requires : goal.split_operands_len-split_operands_len-rest-requires
 split_operands_len-split_operands_len-rest-requires t c =
-    let w = last-operand c.requires.known.0 _ c.requires.known.1.1.0 c.if-count-eq0.false in (
-      omega (arith, w.low, c.requires.tables),
+    let w = last-operand c.requires.tables _ c.requires.operands c.if-count-eq0.false in (
+      omega (arith, w.low, c.decreases),
       (
-        fewer c.requires.known.0 (omega (arith, w.low)),
+        fewer c.requires.tables (omega (arith, w.low)),
         (
-          c.requires.known.1.0,
+          c.requires.known,
           (
-            fewer-operands c.requires.known.0 _ c.requires.known.1.1.0 c.if-count-eq0.false,
-            rw c.with_numberless-before.ensures (unmarked _ _, omega (arith, w.low, c.requires.known.1.1.1.1)),
+            fewer-operands c.requires.tables _ c.requires.operands c.if-count-eq0.false,
+            rw c.with_numberless-before.ensures (unmarked _ _, omega (arith, w.low, c.requires.level)),
           ),
         ),
       ),
@@ -221,7 +221,7 @@ split_operands_len-overflow_add-result-2 t c =
 pub split_operands_len-returns : goal.split_operands_len-returns
 split_operands_len-returns t c =
     len_more (pretty_indented c.args.place.indents c.args.place.level)
-    (pretty_indented true c.args.place.level) c.requires.known.0 _ c.requires.known.1.1.0
+    (pretty_indented true c.args.place.level) c.requires.tables _ c.requires.operands
     c.if-count-eq0.false c.if-count-eq1.false _ _ _
     (rw c.with_indents-others.ensures at c.split_len-last.ensures) _
     c.if-left-gap.false (rw c.with_numberless-before.ensures at c.split_operands_len-rest.ensures)

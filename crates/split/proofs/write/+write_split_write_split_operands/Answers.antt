@@ -16,22 +16,22 @@ use Rattle.split.proofs.write.+write_split_write_split_operands.Goals as goal
 
 pub write_split-width-line-requires : goal.write_split-width-line-requires
 write_split-width-line-requires t c =
-    record { tables = c.requires.known.0; known = c.requires.known.1.0; numberless = c.requires.known.1.1.0 }
+    record { tables = c.requires.tables; known = c.requires.known; numberless = c.requires.numberless }
 
 pub write_split-put_indent-text-requires : goal.write_split-put_indent-text-requires
 write_split-put_indent-text-requires t c =
     fits (run-line c.args.page.now c.args.i _ _
     (fits_line _ _ c.width-line.ensures c.if-line-le-LINE_LIMIT.true) c.args.out.now
-    c.args.at c.requires.known.1.1.1.1)
+    c.args.at c.requires.room)
 
 pub write_split-write_text-requires : goal.write_split-write_text-requires
 write_split-write_text-requires t c =
     record {
-      tables = c.requires.known.0;
-      numberless = c.requires.known.1.1.0;
+      tables = c.requires.tables;
+      numberless = c.requires.numberless;
       room = fits (next (run-line c.args.page.now c.args.i _ _
           (fits_line _ _ c.width-line.ensures c.if-line-le-LINE_LIMIT.true) c.args.out.now
-          c.args.at c.requires.known.1.1.1.1) c.put_indent-text.ensures);
+          c.args.at c.requires.room) c.put_indent-text.ensures);
     }
 
 pub write_split-shape_of-out-then-line-le-LINE_LIMIT : goal.write_split-shape_of-out-then-line-le-LINE_LIMIT
@@ -42,12 +42,12 @@ pub write_split-returns-then-line-le-LINE_LIMIT : goal.write_split-returns-then-
 write_split-returns-then-line-le-LINE_LIMIT t c =
     end (next (next (run-line c.args.page.now c.args.i _ _
     (fits_line _ _ c.width-line.ensures c.if-line-le-LINE_LIMIT.true) c.args.out.now
-    c.args.at c.requires.known.1.1.1.1) c.put_indent-text.ensures)
+    c.args.at c.requires.room) c.put_indent-text.ensures)
     c.write_text.ensures)
 
 pub write_split-view_at-own-requires : goal.write_split-view_at-own-requires
 write_split-view_at-own-requires t c =
-    record { starts = starts-of c.requires.known.0; numberless = c.requires.known.1.1.0 }
+    record { starts = starts-of c.requires.tables; numberless = c.requires.numberless }
 
 pub write_split-put_front_at-at-requires : goal.write_split-put_front_at-at-requires
 write_split-put_front_at-at-requires t c =
@@ -55,7 +55,7 @@ write_split-put_front_at-at-requires t c =
       node = c.view_at-own.ensures.stands;
       room = fits (run-split c.view_at-own.ensures.laid_out _ _
           (over-line _ _ c.width-line.ensures c.if-line-le-LINE_LIMIT.false) c.args.out.now
-          c.args.at c.requires.known.1.1.1.1);
+          c.args.at c.requires.room);
     }
 
 pub write_split-write_split_operands-others-requires : goal.write_split-write_split_operands-others-requires
@@ -64,19 +64,19 @@ write_split-write_split_operands-others-requires t c =
     let run = next
     (run-split laid_out _ _
     (over-line _ _ c.width-line.ensures c.if-line-le-LINE_LIMIT.false) c.args.out.now
-    c.args.at c.requires.known.1.1.1.1) c.put_front_at-at.ensures in (
-      omega (arith, laid_out.low, c.requires.tables),
+    c.args.at c.requires.room) c.put_front_at-at.ensures in (
+      omega (arith, laid_out.low, c.decreases),
       (
-        fewer c.requires.known.0 (omega (arith, laid_out.low)),
+        fewer c.requires.tables (omega (arith, laid_out.low)),
         (
-          c.requires.known.1.0,
+          c.requires.known,
           (
             c.view_at-own.ensures.stands,
             (
               laid_out.enough,
               rw (c.with_numberless-kept.ensures, c.is_minus-minus.ensures) (
                 minus-numberless c.view_at-own.ensures,
-                (omega (arith, laid_out.low, c.requires.known.1.1.1.0), fits run),
+                (omega (arith, laid_out.low, c.requires.level), fits run),
               ),
             ),
           ),
@@ -90,7 +90,7 @@ write_split-put_rear_at-requires t c =
       node = c.view_at-own.ensures.stands;
       room = fits (next (next (run-split c.view_at-own.ensures.laid_out _ _
           (over-line _ _ c.width-line.ensures c.if-line-le-LINE_LIMIT.false) c.args.out.now
-          c.args.at c.requires.known.1.1.1.1) c.put_front_at-at.ensures)
+          c.args.at c.requires.room) c.put_front_at-at.ensures)
           (rw c.with_numberless-kept.ensures at
           c.write_split_operands-others.ensures));
     }
@@ -105,7 +105,7 @@ pub write_split-returns : goal.write_split-returns
 write_split-returns t c =
     end (next (next (next (run-split c.view_at-own.ensures.laid_out _ _
     (over-line _ _ c.width-line.ensures c.if-line-le-LINE_LIMIT.false) c.args.out.now
-    c.args.at c.requires.known.1.1.1.1) c.put_front_at-at.ensures)
+    c.args.at c.requires.room) c.put_front_at-at.ensures)
     (rw c.with_numberless-kept.ensures at
     c.write_split_operands-others.ensures)) c.put_rear_at.ensures)
 
@@ -115,38 +115,38 @@ write_split_operands-returns-then-count-eq0 t c =
     wrote_nothing _ _
     (text-none (pretty_indented (inner_indents c.args.place.indents own)
     (inner_level c.args.place.level own))
-    (pretty_indented true (inner_level c.args.place.level own)) c.requires.known.0 _
-    c.requires.known.1.1.1.0 (between_at c.args.place.level own) c.if-count-eq0.true)
+    (pretty_indented true (inner_level c.args.place.level own)) c.requires.tables _
+    c.requires.operands (between_at c.args.place.level own) c.if-count-eq0.true)
 
 pub write_split_operands-overflow_sub-root : goal.write_split_operands-overflow_sub-root
 write_split_operands-overflow_sub-root t c =
-    (last-operand c.requires.known.0 _ c.requires.known.1.1.1.0 c.if-count-eq0.false).some
+    (last-operand c.requires.tables _ c.requires.operands c.if-count-eq0.false).some
 
 pub write_split_operands-inner_place-inner-requires : goal.write_split_operands-inner_place-inner-requires
 write_split_operands-inner_place-inner-requires t c =
-    omega (arith, c.requires.known.1.1.1.1.1.0)
+    omega (arith, c.requires.level)
 
 pub write_split_operands-write_split-requires : goal.write_split_operands-write_split-requires
 write_split_operands-write_split-requires t c =
-    let w = last-operand c.requires.known.0 _ c.requires.known.1.1.1.0 c.if-count-eq0.false in
+    let w = last-operand c.requires.tables _ c.requires.operands c.if-count-eq0.false in
     let own = layout_at c.args.page.now c.args.own in
     let one = text-one
     (pretty_indented (inner_indents c.args.place.indents own)
     (inner_level c.args.place.level own))
-    (pretty_indented true (inner_level c.args.place.level own)) c.requires.known.0 _
-    c.requires.known.1.1.1.0 (between_at c.args.place.level own) c.if-count-eq1.true in (
-      omega (arith, w.some, c.requires.tables),
+    (pretty_indented true (inner_level c.args.place.level own)) c.requires.tables _
+    c.requires.operands (between_at c.args.place.level own) c.if-count-eq1.true in (
+      omega (arith, w.some, c.decreases),
       (
-        fewer c.requires.known.0 (omega (arith, w.some)),
+        fewer c.requires.tables (omega (arith, w.some)),
         (
-          c.requires.known.1.0,
+          c.requires.known,
           (
-            rw (c.inner_place-inner.ensures.is _ _ c.requires.known.1.1.0)
-                c.requires.known.1.1.1.1.0,
+            rw (c.inner_place-inner.ensures.is _ _ c.requires.node)
+                c.requires.numberless,
             (
-              omega (arith, w.some, c.requires.known.1.1.1.1.1.0, c.inner_place-inner.ensures.most),
-              rw (c.inner_place-inner.ensures.is _ _ c.requires.known.1.1.0)
-                  (omega (arith, ap length one, c.requires.known.1.1.1.1.1.1)),
+              omega (arith, w.some, c.requires.level, c.inner_place-inner.ensures.most),
+              rw (c.inner_place-inner.ensures.is _ _ c.requires.node)
+                  (omega (arith, ap length one, c.requires.room)),
             ),
           ),
         ),
@@ -163,19 +163,19 @@ write_split_operands-returns-then-count-eq1 t c =
     let one = text-one
     (pretty_indented (inner_indents c.args.place.indents own)
     (inner_level c.args.place.level own))
-    (pretty_indented true (inner_level c.args.place.level own)) c.requires.known.0 _
-    c.requires.known.1.1.1.0 (between_at c.args.place.level own) c.if-count-eq1.true in
+    (pretty_indented true (inner_level c.args.place.level own)) c.requires.tables _
+    c.requires.operands (between_at c.args.place.level own) c.if-count-eq1.true in
     wrote_as one
-    (rw (c.inner_place-inner.ensures.is _ _ c.requires.known.1.1.0) at
+    (rw (c.inner_place-inner.ensures.is _ _ c.requires.node) at
     c.write_split.ensures)
 
 pub write_split_operands-bounds-firsts-root : goal.write_split_operands-bounds-firsts-root
 write_split_operands-bounds-firsts-root t c =
     omega (
       arith,
-      (last-operand c.requires.known.0 _ c.requires.known.1.1.1.0 c.if-count-eq0.false).some,
-      c.requires.known.0.firsts-size,
-      c.requires.known.0.few,
+      (last-operand c.requires.tables _ c.requires.operands c.if-count-eq0.false).some,
+      c.requires.tables.firsts-size,
+      c.requires.tables.few,
     )
 
 pub write_split_operands-overflow_cast-end : goal.write_split_operands-overflow_cast-end
@@ -188,26 +188,26 @@ write_split_operands-overflow_sub-fewer t c =
 
 pub write_split_operands-write_split_operands-gap-requires : goal.write_split_operands-write_split_operands-gap-requires
 write_split_operands-write_split_operands-gap-requires t c =
-    let w = last-operand c.requires.known.0 _ c.requires.known.1.1.1.0 c.if-count-eq0.false in
+    let w = last-operand c.requires.tables _ c.requires.operands c.if-count-eq0.false in
     let own = layout_at c.args.page.now c.args.own in
     let run = run_more
     (pretty_indented (inner_indents c.args.place.indents own)
     (inner_level c.args.place.level own))
-    (pretty_indented true (inner_level c.args.place.level own)) c.requires.known.0 _
-    c.requires.known.1.1.1.0 (between_at c.args.place.level own) c.if-count-eq0.false
+    (pretty_indented true (inner_level c.args.place.level own)) c.requires.tables _
+    c.requires.operands (between_at c.args.place.level own) c.if-count-eq0.false
     c.if-count-eq1.false c.args.out.now c.args.at
-    c.requires.known.1.1.1.1.1.1 in (
-      omega (arith, w.low, c.requires.tables),
+    c.requires.room in (
+      omega (arith, w.low, c.decreases),
       (
-        fewer c.requires.known.0 (omega (arith, w.low)),
+        fewer c.requires.tables (omega (arith, w.low)),
         (
-          c.requires.known.1.0,
+          c.requires.known,
           (
-            c.requires.known.1.1.0,
+            c.requires.node,
             (
-              fewer-operands c.requires.known.0 _ c.requires.known.1.1.1.0 c.if-count-eq0.false,
+              fewer-operands c.requires.tables _ c.requires.operands c.if-count-eq0.false,
               rw c.with_numberless-rest.ensures
-                  (unmarked _ _, (omega (arith, w.low, c.requires.known.1.1.1.1.1.0), fits run)),
+                  (unmarked _ _, (omega (arith, w.low, c.requires.level), fits run)),
             ),
           ),
         ),
@@ -220,11 +220,11 @@ write_split_operands-put_between_at-next-requires t c =
     let run = run_more
     (pretty_indented (inner_indents c.args.place.indents own)
     (inner_level c.args.place.level own))
-    (pretty_indented true (inner_level c.args.place.level own)) c.requires.known.0 _
-    c.requires.known.1.1.1.0 (between_at c.args.place.level own) c.if-count-eq0.false
+    (pretty_indented true (inner_level c.args.place.level own)) c.requires.tables _
+    c.requires.operands (between_at c.args.place.level own) c.if-count-eq0.false
     c.if-count-eq1.false c.args.out.now c.args.at
-    c.requires.known.1.1.1.1.1.1 in record {
-      node = c.requires.known.1.1.0;
+    c.requires.room in record {
+      node = c.requires.node;
       room = fits (next run
           (rw c.with_numberless-rest.ensures at
           c.write_split_operands-gap.ensures));
@@ -232,32 +232,32 @@ write_split_operands-put_between_at-next-requires t c =
 
 pub write_split_operands-write_split-requires-2 : goal.write_split_operands-write_split-requires-2
 write_split_operands-write_split-requires-2 t c =
-    let w = last-operand c.requires.known.0 _ c.requires.known.1.1.1.0 c.if-count-eq0.false in
+    let w = last-operand c.requires.tables _ c.requires.operands c.if-count-eq0.false in
     let own = layout_at c.args.page.now c.args.own in
     let run = run_more
     (pretty_indented (inner_indents c.args.place.indents own)
     (inner_level c.args.place.level own))
-    (pretty_indented true (inner_level c.args.place.level own)) c.requires.known.0 _
-    c.requires.known.1.1.1.0 (between_at c.args.place.level own) c.if-count-eq0.false
+    (pretty_indented true (inner_level c.args.place.level own)) c.requires.tables _
+    c.requires.operands (between_at c.args.place.level own) c.if-count-eq0.false
     c.if-count-eq1.false c.args.out.now c.args.at
-    c.requires.known.1.1.1.1.1.1 in (
-      omega (arith, w.some, c.requires.tables),
+    c.requires.room in (
+      omega (arith, w.some, c.decreases),
       (
-        fewer c.requires.known.0 (omega (arith, w.some)),
+        fewer c.requires.tables (omega (arith, w.some)),
         (
-          c.requires.known.1.0,
+          c.requires.known,
           (
             rw (
               c.with_indents-last.ensures,
-              c.inner_place-inner.ensures.is _ _ c.requires.known.1.1.0,
+              c.inner_place-inner.ensures.is _ _ c.requires.node,
             )
-                c.requires.known.1.1.1.1.0,
+                c.requires.numberless,
             (
               rw c.with_indents-last.ensures
-                  (omega (arith, w.some, c.requires.known.1.1.1.1.1.0, c.inner_place-inner.ensures.most)),
+                  (omega (arith, w.some, c.requires.level, c.inner_place-inner.ensures.most)),
               rw (
                 c.with_indents-last.ensures,
-                c.inner_place-inner.ensures.is _ _ c.requires.known.1.1.0,
+                c.inner_place-inner.ensures.is _ _ c.requires.node,
               )
                   (fits (next (next run
                   (rw c.with_numberless-rest.ensures at
@@ -281,15 +281,15 @@ write_split_operands-returns t c =
     let run = run_more
     (pretty_indented (inner_indents c.args.place.indents own)
     (inner_level c.args.place.level own))
-    (pretty_indented true (inner_level c.args.place.level own)) c.requires.known.0 _
-    c.requires.known.1.1.1.0 (between_at c.args.place.level own) c.if-count-eq0.false
+    (pretty_indented true (inner_level c.args.place.level own)) c.requires.tables _
+    c.requires.operands (between_at c.args.place.level own) c.if-count-eq0.false
     c.if-count-eq1.false c.args.out.now c.args.at
-    c.requires.known.1.1.1.1.1.1 in
+    c.requires.room in
     end (next (next (next run
     (rw c.with_numberless-rest.ensures at
     c.write_split_operands-gap.ensures)) c.put_between_at-next.ensures)
     (rw (
       c.with_indents-last.ensures,
-      c.inner_place-inner.ensures.is _ _ c.requires.known.1.1.0,
+      c.inner_place-inner.ensures.is _ _ c.requires.node,
     ) at
     c.write_split-2.ensures))
