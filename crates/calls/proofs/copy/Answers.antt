@@ -12,16 +12,17 @@ use Rattle.copy.specs.Starts.{PageStarts}
 use Rattle.copy.specs.Copy.{copy_page}
 use Rattle.calls.proofs.DoesLaws.{does-refused, does-short, does-write}
 use Rattle.calls.proofs.copy.Goals as goal
+use Rattle.calls.proofs.copy.Goals.{In-Accepted}
 
 -- where the page is accepted: what the walk left in the tables
-known : (c : goal.In-Accepted) →
+known : (c : In-Accepted) →
     Accepts (check_page c.args.page.now) c.args.page.now c.walk-walked.new.1.0
     c.walk-walked.new.1.1.0
     (kind_of c.in-Accepted.kind) c.in-Accepted.n
 known c =
     rw c.in-Accepted.is at c.walk-walked.ensures.says
 
-starts-known : (c : goal.In-Accepted) →
+starts-known : (c : In-Accepted) →
     PageStarts c.args.page.now c.walk-walked.new.1.0 c.in-Accepted.n
 starts-known c =
     accepted-starts (known_bytes c.args.page.now c.type_inv.page)

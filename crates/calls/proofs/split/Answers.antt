@@ -9,9 +9,10 @@ use Rattle.records.specs.Answers.{kind_of}
 use Rattle.calls.proofs.RoomLaws.{accepts-some, accepts_last, room-enough, room-short, room_fits}
 use Rattle.calls.proofs.DoesLaws.{does-refused, does-short, does-write}
 use Rattle.calls.proofs.split.Goals as goal
+use Rattle.calls.proofs.split.Goals.{In-Accepted}
 
 -- where the page is accepted: what the walk left in the tables
-known : (c : goal.In-Accepted) →
+known : (c : In-Accepted) →
     Accepts (check_page c.args.page.now) c.args.page.now c.walk-walked.new.1.0
     c.walk-walked.new.1.1.0
     (kind_of c.in-Accepted.kind) c.in-Accepted.n

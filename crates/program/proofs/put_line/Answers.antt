@@ -8,16 +8,17 @@ use Rattle.records.specs.Answers.{kind_of}
 use Rattle.outcomes.specs.Calls.{split_text, Does}
 use Rattle.program.proofs.SheetLaws.{answer-room, answer-line, refused-room, refused-line}
 use Rattle.program.proofs.put_line.Goals as goal
+use Rattle.program.proofs.put_line.Goals.{After-refusal_number, In-Accepted}
 
 -- what `split` did, where the page is accepted
-accepted : (c : goal.In-Accepted) →
+accepted : (c : In-Accepted) →
     Does (split_text c.args.page.now (take 65536 c.args.out.now))
     (answer (kind_of c.in-Accepted.kind) c.in-Accepted.n) c.split.new.1.0
 accepted c =
     rw c.in-Accepted.is at c.split.ensures
 
 -- where it is refused
-refused : (c : goal.After-refusal_number) →
+refused : (c : After-refusal_number) →
     Does (split_text c.args.page.now (take 65536 c.args.out.now))
     (refusal c.refusal_number.result c.in-Refused.index)
     c.split.new.1.0

@@ -6,9 +6,10 @@ use Rattle.leaves.specs.Decimal.{decimal}
 use Rattle.outcomes.specs.Output.{refused_line}
 use Rattle.program.proofs.SheetLaws.{refused_line-pieces}
 use Rattle.program.proofs.put_refused.Goals as goal
+use Rattle.program.proofs.put_refused.Goals.{Start}
 
 -- before the first write
-begun : (s : goal.Start)
+begun : (s : Start)
     → Run s.args.out.now s.args.out.now s.args.at (refused_line s.args.number s.args.index)
     (bytes "refused " ∷ decimal s.args.number ∷ bytes " at " ∷ decimal s.args.index ∷ bytes "\n" ∷ [])
     s.args.at

@@ -13,20 +13,21 @@ use Rattle.walk.proofs.WalkedSoFar.{NextTurn, walked_start, too-long-refused, un
 use Rattle.walk.proofs.WalkedSoFar.{too_many}
 use Rattle.walk.proofs.WalkedSoFar.{unreadable, ends-refused, ends-accepted}
 use Rattle.walk.proofs.walk_by.Goals as goal
+use Rattle.walk.proofs.walk_by.Goals.{After-bases-1, At-loop-at}
 
 -- in every turn the tables are as long as they were
-starts-stay : (c : goal.At-loop-at) →
+starts-stay : (c : At-loop-at) →
     length c.loop-at.starts ≡ length c.args.starts.now
 starts-stay c =
     omega (arith, c.loop-at.invariant.tables.starts-size, c.requires.0)
 
-firsts-stay : (c : goal.At-loop-at) →
+firsts-stay : (c : At-loop-at) →
     length c.loop-at.firsts ≡ length c.args.firsts.now
 firsts-stay c =
     omega (arith, c.loop-at.invariant.tables.firsts-size, c.requires.1)
 
 -- what the record that was judged leaves
-step : (c : goal.After-bases-1) →
+step : (c : After-bases-1) →
     NextTurn (eqb c.args.rule 42) c.args.page.now c.args.starts.now
     c.args.firsts.now
     c.loop-at.starts c.loop-at.firsts c.loop-at.tags c.loop-at.values

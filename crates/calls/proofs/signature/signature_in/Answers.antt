@@ -11,15 +11,16 @@ use Rattle.functions.proofs.CutLaws.{table-form}
 use Rattle.functions.proofs.TableLaws.{place_of-inside}
 use Rattle.calls.proofs.SignatureLaws.{text-some, signs-unknown, signs-found}
 use Rattle.calls.proofs.signature.signature_in.Goals as goal
+use Rattle.calls.proofs.signature.signature_in.Goals.{In-At}
 
 -- the name stands at the place
-found : (c : goal.In-At) →
+found : (c : In-At) →
     some c.in-At.place
     ≡ place_of c.args.letters.now c.args.starts.now c.args.name.now
 found c = sym (ap place_meant c.in-At.is) ∙ c.find.ensures
 
 -- so its signature is one of the texts
-inside : (c : goal.In-At) →
+inside : (c : In-At) →
     count_of c.args.starts.now + c.in-At.place < length c.args.starts.now - 1
 inside c =
     let letters = c.args.letters.now in

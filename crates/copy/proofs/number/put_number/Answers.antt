@@ -8,13 +8,14 @@ use Rattle.base.proofs.SpliceLaws.{Run, start, fits, next, next-as, end}
 use Rattle.copy.specs.RecordCopy.{form_after, record_copy}
 use Rattle.copy.proofs.NumberCopyLaws.{number-wide, number-copy}
 use Rattle.copy.proofs.number.put_number.Goals as goal
+use Rattle.copy.proofs.number.put_number.Goals.{Start}
 
 -- the number ends after its form
-wide : (c : goal.Start) → c.args.start + 2 ≤ c.args.next
+wide : (c : Start) → c.args.start + 2 ≤ c.args.next
 wide c = number-wide c.requires.0.span c.requires.1
 
 -- the run, before the first write
-begun : (c : goal.Start) → let a = c.args in
+begun : (c : Start) → let a = c.args in
     Run a.out.now a.out.now a.at (record_copy (drop a.start a.page.now))
     ((0 ∷ []) ∷ (form_after (get_or a.page.now (a.start + 1) 0) (drop a.next a.page.now) ∷ [])
     ∷ take (a.next - (a.start + 2)) (drop (a.start + 2) a.page.now) ∷ [])

@@ -8,9 +8,10 @@ use Rattle.base.proofs.SpliceLaws.{Run, start, fits, next, end}
 use Rattle.copy.specs.RecordCopy.{set_modifier, record_copy}
 use Rattle.copy.proofs.OperatorLaws.{operator-wide, absent-copy}
 use Rattle.copy.proofs.operator.put_absent.Goals as goal
+use Rattle.copy.proofs.operator.put_absent.Goals.{Start}
 
 -- the run, before the first write
-begun : (c : goal.Start) → let a = c.args in
+begun : (c : Start) → let a = c.args in
     Run a.out.now a.out.now a.at (record_copy (drop a.start a.page.now))
     (take (a.start + 2 - a.start) (drop a.start a.page.now) ∷ set_modifier ∷ []) a.at
 begun c = start c.requires.placing.room (absent-copy c.requires.operator c.requires.absent)

@@ -7,9 +7,10 @@ use lib.ListN.{take, drop, get_or}
 use Rattle.base.proofs.SpliceLaws.{Run, start, fits, next, next-as, end}
 use Rattle.copy.specs.RecordCopy.{set_cardinality, record_copy}
 use Rattle.copy.proofs.operator.put_present.Goals as goal
+use Rattle.copy.proofs.operator.put_present.Goals.{After-cardinality_at-cut}
 
 -- the run, before the first write
-begun : (c : goal.After-cardinality_at-cut) →
+begun : (c : After-cardinality_at-cut) →
     let a = c.args in let cut = c.cardinality_at-cut.result in
     Run a.out.now a.out.now a.at (record_copy (drop a.start a.page.now))
     (take (cut - a.start) (drop a.start a.page.now) ∷ (set_cardinality (get_or a.page.now cut 0) ∷ [])

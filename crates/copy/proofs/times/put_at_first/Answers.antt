@@ -6,9 +6,10 @@ use Rattle.copy.specs.Span.{second_first}
 use Rattle.copy.proofs.SpanLaws.{span-wide}
 use Rattle.copy.proofs.PairLaws.{second-first}
 use Rattle.copy.proofs.times.put_at_first.Goals as goal
+use Rattle.copy.proofs.times.put_at_first.Goals.{Start}
 
 -- before the first write
-begun : (c : goal.Start) → let a = c.args in
+begun : (c : Start) → let a = c.args in
     let text = second_first a.page.now a.start a.next a.after in
     Writing a.out.now a.out.now a.at text text a.at
 begun c = begin c.args.out.now c.args.at _ c.requires.room

@@ -18,22 +18,23 @@ use Rattle.functions.proofs.CutLaws.{table-form}
 use Rattle.functions.proofs.SignatureLaws.{signed-written}
 use Rattle.functions.proofs.TableLaws.{place_of-inside, compare-unknown, compare-found}
 use Rattle.functions.proofs.carried.compare_signature.Goals as goal
+use Rattle.functions.proofs.carried.compare_signature.Goals.{After-begins_at, In-At}
 
 -- the name stands at the place
-found : (c : goal.In-At) →
+found : (c : In-At) →
     some c.in-At.place
     ≡ place_of c.args.letters.now c.args.starts.now
     (span_on c.args.page.now c.args.name)
 found c =
     sym (ap place_meant c.in-At.is) ∙ rw c.text_at.ensures at c.find.ensures
 
-inside : (c : goal.In-At) →
+inside : (c : In-At) →
     c.in-At.place < count_of c.args.starts.now
 inside c =
     place_of-inside c.args.letters.now c.args.starts.now _ c.in-At.place (found c)
 
 -- the bytes behind the name begin with the signature of that place
-compared : (c : goal.After-begins_at) (b : Bool) → c.begins_at.result ≡ b →
+compared : (c : After-begins_at) (b : Bool) → c.begins_at.result ≡ b →
     (table : List Function) → Formed c.args.letters.now c.args.starts.now table →
     (f : Function) (rest : List ℕ) → f.name ≡ span_on c.args.page.now c.args.name →
     got f rest ≡ read_signature f.name (drop c.args.name.end c.args.page.now) →

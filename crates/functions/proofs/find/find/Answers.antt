@@ -9,12 +9,13 @@ use Rattle.functions.proofs.CutLaws.{length-names_in, table-form, names_in-at}
 use Rattle.functions.proofs.PlaceLaws.{left-all, left-none}
 use Rattle.functions.proofs.PlaceLaws.{Halved, left_behind, left-front, left-found}
 use Rattle.functions.proofs.find.find.Goals as goal
+use Rattle.functions.proofs.find.find.Goals.{After-order_of, In-loop-low}
 
 abbrev middle : ℕ → ℕ → ℕ
 middle low high = low + (high - low) / 2
 
 -- the place is one of those left
-half : (c : goal.In-loop-low) →
+half : (c : In-loop-low) →
     Halved (names_in c.args.letters.now c.args.starts.now) c.args.name.now
     c.loop-low.low c.loop-low.high (middle c.loop-low.low c.loop-low.high)
 half c =
@@ -25,7 +26,7 @@ half c =
       to = omega (arith, c.loop-low-test.true);
     }
 
-inside : (c : goal.In-loop-low) →
+inside : (c : In-loop-low) →
     middle c.loop-low.low c.loop-low.high < count_of c.args.starts.now
 inside c =
     omega (
@@ -36,7 +37,7 @@ inside c =
     )
 
 -- the name there, beside the name that is looked for
-order : (c : goal.After-order_of) →
+order : (c : After-order_of) →
     order_of
     (get_or (names_in c.args.letters.now c.args.starts.now)
     (middle c.loop-low.low c.loop-low.high) [])

@@ -3,9 +3,10 @@ use native.Mathlib.Omega.{arith}
 use mathlib.Core.Path.{sym}
 use Rattle.functions.proofs.CutLaws.{TextPlaced, placed, cut_at}
 use Rattle.functions.proofs.find.text_in.Goals as goal
+use Rattle.functions.proofs.find.text_in.Goals.{After-wide-end}
 
 -- where both ends are read: the text lies within the letters
-here : (c : goal.After-wide-end) →
+here : (c : After-wide-end) →
     TextPlaced c.args.letters.now c.wide-start.result c.wide-end.result
 here c =
     rw (c.wide-start.ensures, c.wide-end.ensures)

@@ -16,7 +16,7 @@ place-requires c = (
 pub loop-i-preserved : goal.loop-i-preserved
 loop-i-preserved c =
     arrange-on c.requires c.loop-i.invariant (omega (arith, c.loop-i-test.true))
-    c.place.ensures c.place.auto.1.1.0
+    c.place.ensures c.place.auto.order
 
 pub returns : goal.returns
 returns c =

@@ -8,24 +8,25 @@ use Rattle.names.specs.Table.{name_at}
 use Rattle.names.proofs.TableLaws.{NamePlaced, table-starts, placed, length-between, name_at-past}
 use Rattle.names.proofs.WrittenLaws.{does-nothing, does-short, does-write}
 use Rattle.names.proofs.table.write_name.Goals as goal
+use Rattle.names.proofs.table.write_name.Goals.{After-wide-end}
 
 -- where both its ends are read: it lies within the letters, and is what stands there
-here : (c : goal.After-wide-end) →
+here : (c : After-wide-end) →
     NamePlaced c.args.letters.now c.wide-start.result c.wide-end.result
 here c =
     rw (c.wide-start.ensures, c.wide-end.ensures)
     (placed c.args.letters.now c.args.starts.now c.args.number
     c.requires c.if-last-number.false)
 
-stands : (c : goal.After-wide-end) →
-    name c {-place at-start-}
+stands : (c : After-wide-end) →
+    name_at c.args.letters.now c.args.starts.now c.args.number
     ≡ take (c.wide-end.result - c.wide-start.result)
     (drop c.wide-start.result c.args.letters.now)
 unfolding name_at
 stands c = rw (c.wide-start.ensures, c.wide-end.ensures)
 
-size : (c : goal.After-wide-end) →
-    length (name c {-place at_name-}) ≡ c.wide-end.result - c.wide-start.result
+size : (c : After-wide-end) →
+    length (name_at c.args.letters.now c.args.starts.now c.args.number) ≡ c.wide-end.result - c.wide-start.result
 size c = ap length (stands c) ∙ length-between (here c)
 
 pub overflow_sub-last : goal.overflow_sub-last
@@ -44,7 +45,7 @@ overflow_sub-size c =
 
 pub returns-then-out-size : goal.returns-then-out-size
 returns-then-out-size c =
-    does-short (name c {-place at-start-}) c.args.out.now (omega (arith, size c, {-place-} c.if-out-size.true))
+    does-short (name_at c.args.letters.now c.args.starts.now c.args.number) c.args.out.now (omega (arith, size c, {-place-} c.if-out-size.true))
 
 pub slice_bounds-put_bytes-count : goal.slice_bounds-put_bytes-count
 slice_bounds-put_bytes-count c =
@@ -64,6 +65,6 @@ overflow_mul-result c =
 
 pub returns : goal.returns
 returns c =
-    let wrote = rw (← stands c {-place at-second-wide-}) at c.put_bytes.ensures in
-    does-write (name c {-place at-start-}) c.args.out.now
-    (omega (arith, size c, {-place at-second-wide-} c.if-out-size.false)) wrote
+    let wrote = rw (← stands (goal.at.returns c).After-wide-end) at c.put_bytes.ensures in
+    does-write (name_at c.args.letters.now c.args.starts.now c.args.number) c.args.out.now
+    (omega (arith, size (goal.at.returns c).After-wide-end, c.if-out-size.false)) wrote

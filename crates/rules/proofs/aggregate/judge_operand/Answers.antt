@@ -15,30 +15,6 @@ use Rattle.rules.specs.Limit.{limit_rows}
 use mathlib.Core.Path.{ap}
 use Rattle.rules.proofs.aggregate.judge_operand.Goals as goal
 
--- behind the fourth test none of document 01's rows applies: the verdict is that of the row of 42, as its test comes out
-rows_left : (c : goal.After-is_limit) (told : Bool) →
-    let code = c.args.code in
-    let parameter = parameter_meant c.args.parameter in
-    let asked = eqb c.args.rule 42 in
-    asked && c.is_limit.result && not c.parameter_is_scalar-scalar.result ≡ told
-    → put (when told 42 ∷ []) (other_operand vector)
-    ≡ put (aggregate_rows code parameter (kind_of c.args.operand) ++ limit_rows asked code parameter) (other_operand vector)
-rows_left c told e =
-    simp (
-      ← c.is_aggregator.ensures,
-      ← c.is_vector.ensures,
-      ← c.parameter_is_scalar-scalar.ensures,
-      ← c.asks_scalar.ensures,
-      ← c.is_count_values.ensures,
-      ← c.parameter_is_string.ensures,
-      ← c.is_limit.ensures,
-      (ap not c.if-not-is_aggregator.false),
-      (ap not c.if-not-is_vector.false),
-      c.if-asks_scalar-scalar.false,
-      c.if-is_count_values-parameter_is_string.false,
-      e,
-    )
-
 pub returns-then-not-is_aggregator : goal.returns-then-not-is_aggregator
 returns-then-not-is_aggregator c =
     simp (← c.is_aggregator.ensures, (ap not c.if-not-is_aggregator.true))
@@ -81,8 +57,34 @@ returns-then-is_count_values-parameter_is_string c =
 
 pub returns-then-rule-is_limit : goal.returns-then-rule-is_limit
 returns-then-rule-is_limit c =
-    rows_left (goal.at.returns-then-rule-is_limit c).After-is_limit true c.if-rule-is_limit.true
+    simp (
+      ← c.is_aggregator.ensures,
+      ← c.is_vector.ensures,
+      ← c.parameter_is_scalar-scalar.ensures,
+      ← c.asks_scalar.ensures,
+      ← c.is_count_values.ensures,
+      ← c.parameter_is_string.ensures,
+      ← c.is_limit.ensures,
+      (ap not c.if-not-is_aggregator.false),
+      (ap not c.if-not-is_vector.false),
+      c.if-asks_scalar-scalar.false,
+      c.if-is_count_values-parameter_is_string.false,
+      c.if-rule-is_limit.true,
+    )
 
 pub returns : goal.returns
 returns c =
-    rows_left (goal.at.returns c).After-is_limit false c.if-rule-is_limit.false
+    simp (
+      ← c.is_aggregator.ensures,
+      ← c.is_vector.ensures,
+      ← c.parameter_is_scalar-scalar.ensures,
+      ← c.asks_scalar.ensures,
+      ← c.is_count_values.ensures,
+      ← c.parameter_is_string.ensures,
+      ← c.is_limit.ensures,
+      (ap not c.if-not-is_aggregator.false),
+      (ap not c.if-not-is_vector.false),
+      c.if-asks_scalar-scalar.false,
+      c.if-is_count_values-parameter_is_string.false,
+      c.if-rule-is_limit.false,
+    )

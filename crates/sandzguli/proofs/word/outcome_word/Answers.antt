@@ -6,9 +6,10 @@ use Rattle.rules.specs.Answers.{refusal_number}
 use Rattle.sandzguli.specs.Words.{FitsWord}
 use Rattle.sandzguli.proofs.WordLaws.{kind_number-small}
 use Rattle.sandzguli.proofs.word.outcome_word.Goals as goal
+use Rattle.sandzguli.proofs.word.outcome_word.Goals.{In-Refused}
 
 -- a refusal's number and its record are small
-inside : (c : goal.In-Refused)
+inside : (c : In-Refused)
     → FitsWord (refusal (refusal_number c.in-Refused.refusal) c.in-Refused.index)
 inside c = rw c.in-Refused.is at c.requires
 

@@ -16,9 +16,10 @@ use Rattle.functions.specs.declared.carried.Carried.TheVariants.{Like, Unlike, U
 use Rattle.table_check.proofs.FaultLaws.{other-fault, record-inside, name-readable, call-fault}
 use borrow.Author.Rules.{rules}
 use Rattle.table_check.proofs.asked.record_fault.Goals as goal
+use Rattle.table_check.proofs.asked.record_fault.Goals.{After-compare_signature}
 
 -- what the table says of the name, and of the bytes behind it, is the fault of the record
-compared : (c : goal.After-compare_signature) (r : Carried) → c.compare_signature.result ≡ r →
+compared : (c : After-compare_signature) (r : Carried) → c.compare_signature.result ≡ r →
     (table : List Function) → Formed c.args.letters.now c.args.names.now table
     → (item : Record) (rest : List ℕ)
     → got item rest ≡ read_record (drop c.args.at c.args.page.now) →

@@ -8,9 +8,10 @@ use Rattle.records.specs.Answers.{literal_of}
 use Rattle.leaves.specs.Numeral.{display_fill}
 use Rattle.tokens.specs.Labelled.{filled_bytes}
 use Rattle.tokens.proofs.fill.put_filled.Goals as goal
+use Rattle.tokens.proofs.fill.put_filled.Goals.{Start}
 
 -- before the first write
-begun : (s : goal.Start)
+begun : (s : Start)
     → Run s.args.out.now s.args.out.now s.args.at
     (filled_bytes s.args.token.now (literal_of s.args.literal))
     (s.args.token.now ∷ bytes " (" ∷ display_fill (literal_of s.args.literal) ∷ bytes ")" ∷ []) s.args.at

@@ -8,9 +8,10 @@ use Rattle.records.specs.Answers.{labels_on}
 use Rattle.label.specs.Label.{display_labels}
 use Rattle.tokens.specs.Labelled.{labelled_bytes}
 use Rattle.tokens.proofs.labelled.put_labelled.Goals as goal
+use Rattle.tokens.proofs.labelled.put_labelled.Goals.{Start}
 
 -- before the first write
-begun : (s : goal.Start)
+begun : (s : Start)
     → Run s.args.out.now s.args.out.now s.args.at
     (labelled_bytes s.args.token.now (labels_on s.args.page.now s.args.start s.args.count))
     (s.args.token.now ∷ bytes " ("

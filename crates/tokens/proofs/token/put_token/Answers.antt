@@ -5,9 +5,10 @@ use native.Mathlib.Omega.{arith}
 use Rattle.base.proofs.SpliceLaws.{begin-as, room, step, finish}
 use Rattle.tokens.proofs.TokenLaws.{placed, token-starts, token-letter, token-ends}
 use Rattle.tokens.proofs.token.put_token.Goals as goal
+use Rattle.tokens.proofs.token.put_token.Goals.{In-loop-i}
 
 -- the letter that a turn writes is one of the table
-letter-inside : (c : goal.In-loop-i) → c.loop-i.i < length letters
+letter-inside : (c : In-loop-i) → c.loop-i.i < length letters
 letter-inside c =
     let p = placed _ c.place_of-place.ensures.0 in
     omega (arith, p.inside, c.loop-i-test.true)
