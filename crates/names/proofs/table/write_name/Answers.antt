@@ -45,7 +45,7 @@ overflow_sub-size c =
 
 pub returns-then-out-size : goal.returns-then-out-size
 returns-then-out-size c =
-    does-short (name_at c.args.letters.now c.args.starts.now c.args.number) c.args.out.now (omega (arith, size c, {-place-} c.if-out-size.true))
+    does-short (name_at c.args.letters.now c.args.starts.now c.args.number) c.args.out.now (omega (arith, size (goal.at.returns-then-out-size c).After-wide-end, c.if-out-size.true))
 
 pub slice_bounds-put_bytes-count : goal.slice_bounds-put_bytes-count
 slice_bounds-put_bytes-count c =
