@@ -34,13 +34,15 @@ inside c =
     place_of-inside c.args.letters.now c.args.starts.now _ c.in-At.place (found c)
 
 -- the bytes behind the name begin with the signature of that place
-compared : (c : After-begins_at) (b : Bool) → c.begins_at.result ≡ b →
+compared : (c : After-begins_at) →
+    some c.in-At.place ≡ place_of c.args.letters.now c.args.starts.now (span_on c.args.page.now c.args.name) →
+    (b : Bool) → c.begins_at.result ≡ b →
     (table : List Function) → Formed c.args.letters.now c.args.starts.now table →
     (f : Function) (rest : List ℕ) → f.name ≡ span_on c.args.page.now c.args.name →
     got f rest ≡ read_signature f.name (drop c.args.name.end c.args.page.now) →
     pick b none (some 38) ≡ unlike f (lookup table f.name)
-compared c b e table formed f rest named signed =
-    compare-found formed f c.in-At.place (rw named (found c {-place at_place-})) _ rest
+compared c stands b e table formed f rest named signed =
+    compare-found formed f c.in-At.place (rw named stands) _ rest
     (signed-written c.args.page.now c.args.name.end f.name
     c.type_inv.page f rest signed) b
     (rw (← c.text_in.ensures) (sym c.begins_at.ensures ∙ e))
@@ -55,11 +57,11 @@ text_in-requires c =
 
 pub returns-then-begins_at : goal.returns-then-begins_at
 returns-then-begins_at c =
-    compared (goal.at.returns-then-begins_at c).After-begins_at _ c.if-begins_at.true
+    compared (goal.at.returns-then-begins_at c).After-begins_at (found (goal.at.returns-then-begins_at c).In-At) _ c.if-begins_at.true
 
 pub returns-else-begins_at : goal.returns-else-begins_at
 returns-else-begins_at c =
-    compared (goal.at.returns-else-begins_at c).After-begins_at _ c.if-begins_at.false
+    compared (goal.at.returns-else-begins_at c).After-begins_at (found (goal.at.returns-else-begins_at c).In-At) _ c.if-begins_at.false
 
 pub returns-in-Nothing : goal.returns-in-Nothing
 returns-in-Nothing c =

@@ -37,15 +37,15 @@ inside c =
     )
 
 -- the name there, beside the name that is looked for
-order : (c : After-order_of) →
+order : (c : After-order_of) → middle c.loop-low.low c.loop-low.high < count_of c.args.starts.now →
     order_of
     (get_or (names_in c.args.letters.now c.args.starts.now)
     (middle c.loop-low.low c.loop-low.high) [])
     c.args.name.now
     ≡ c.order_of.result
-order c =
+order c within =
     rw (
-      names_in-at c.args.letters.now c.args.starts.now _ (inside c {-place-}),
+      names_in-at c.args.letters.now c.args.starts.now _ within,
       ← c.text_in.ensures,
     )
     (sym c.order_of.ensures)
@@ -65,7 +65,7 @@ text_in-requires c =
 pub returns-in-Same : goal.returns-in-Same
 unfolding place_of
 returns-in-Same c =
-    left-found (half c {-place at-loop-test-}) (order c {-place-} ∙ c.in-Same.is)
+    left-found (half (goal.at.returns-in-Same c).In-loop-low) (order (goal.at.returns-in-Same c).After-order_of (inside (goal.at.returns-in-Same c).In-loop-low) ∙ c.in-Same.is)
 
 pub overflow_add-low : goal.overflow_add-low
 overflow_add-low c =
@@ -73,11 +73,11 @@ overflow_add-low c =
 
 pub loop-low-preserved-in-Before : goal.loop-low-preserved-in-Before
 loop-low-preserved-in-Before c =
-    left_behind (half c {-place at-loop-test-}) (order c {-place-} ∙ c.in-Before.is)
+    left_behind (half (goal.at.loop-low-preserved-in-Before c).In-loop-low) (order (goal.at.loop-low-preserved-in-Before c).After-order_of (inside (goal.at.loop-low-preserved-in-Before c).In-loop-low) ∙ c.in-Before.is)
 
 pub loop-low-preserved : goal.loop-low-preserved
 loop-low-preserved c =
-    left-front (half c {-place at-loop-test-}) (order c {-place-} ∙ c.in-Behind.is)
+    left-front (half (goal.at.loop-low-preserved c).In-loop-low) (order (goal.at.loop-low-preserved c).After-order_of (inside (goal.at.loop-low-preserved c).In-loop-low) ∙ c.in-Behind.is)
 
 pub returns : goal.returns
 unfolding place_of

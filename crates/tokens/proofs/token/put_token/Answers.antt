@@ -25,6 +25,10 @@ pub loop-i-init : goal.loop-i-init
 loop-i-init c =
     begin-as c.requires (token-starts c.args.code _ c.place_of-place.ensures.1)
 
+pub bounds-i : goal.bounds-i
+bounds-i c =
+    omega (arith, letter-inside (goal.at.bounds-i c).In-loop-i)
+
 pub put_byte-pos-requires : goal.put_byte-pos-requires
 put_byte-pos-requires c =
     room c.loop-i.invariant (token-letter _ _ c.loop-i-test.true (letter-inside (goal.at.put_byte-pos-requires c).In-loop-i))
