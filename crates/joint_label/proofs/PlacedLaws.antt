@@ -60,12 +60,12 @@ part-refused page at e = rw (← e)
 abbrev placed_part : ℕ → Labels → List Placed → Part
 placed_part size on placed = part_in size (got (first_in on placed) [])
 
-first_part : (size : ℕ) (on : Labels) (n : ℕ) (s : List ℕ) (m : Read Text) → m ≡ read_any_text s
+first-part : (size : ℕ) (on : Labels) (n : ℕ) (s : List ℕ) (m : Read Text) → m ≡ read_any_text s
     → ((t : List ℕ) → placed_part size on (listed read_placed n t) ≡ part_at size (from_joint on n t))
     → placed_part size on (before (and_then m (λ t u. got (placed_as t u) u)) (λ t. listed read_placed n t))
     ≡ part_at size (from_label on s m (λ t. from_joint on n t))
-first_part size on n s (refused f) e more = refl
-first_part size on n s (got a t) e more = by (has_label on a)
+first-part size on n s (refused f) e more = refl
+first-part size on n s (got a t) e more = by (has_label on a)
   where
     by : (has : Bool) → part_in size (got (pick has (placed_as a t ∷ []) (first_in on (listed read_placed n t))) []) ≡ part_at size (pick has s (from_joint on n t))
     by true = rw (← e)
@@ -75,7 +75,7 @@ first_part size on n s (got a t) e more = by (has_label on a)
 pub part-from : (size : ℕ) (on : Labels) (n : ℕ) (s : List ℕ) → placed_part size on (listed read_placed n s) ≡ part_at size (from_joint on n s)
 unfolding listed from_joint
 part-from size on zero s = refl
-part-from size on (suc n) s = first_part size on n s (read_any_text s) refl (part-from size on n)
+part-from size on (suc n) s = first-part size on n s (read_any_text s) refl (part-from size on n)
 
 -- ## A list that was read
 
