@@ -187,12 +187,12 @@ swapped o a s u v h k =
     let below = both.below in
     let t = both.times in
     let of = timed e t both.is_times in
-    let with_at = with_times (with_at a t) e ∷ below in
+    let with-at = with_times (with_at a t) e ∷ below in
     let at_first = at-passes a e below t both.is_times both.second_free both.is_sound in
     let then-offset = offset-passes o (with_times (with_at a t) e) below (with_at a t) (of.is_timed (with_at a t)) both.first_free
     (of.is_fault (with_at a t) ∙ both.is_sound) in (
-      with_at,
-      subst (λ (y : List Expr). apply (wrapper (at a)) y ≡ ok with_at) (sym both.is_stack) at_first,
+      with-at,
+      subst (λ (y : List Expr). apply (wrapper (at a)) y ≡ ok with-at) (sym both.is_stack) at_first,
       then-offset
           ∙ ap ok (ap (λ (y : Expr). y ∷ below) (of.is_last (with_offset o (with_at a t)) (with_at a t)) ∙ sym both.is_next),
     )
