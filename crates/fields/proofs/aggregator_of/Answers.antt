@@ -6,16 +6,16 @@ use Rattle.fields.proofs.aggregator_of.Goals as goal
 
 pub code_of-own-requires : goal.code_of-own-requires
 code_of-own-requires c =
-    let p = c.requires in record { node = p.0; foot = subst HasCode (sym p.1) tt }
+    let p = c.requires in record { node = p.node; foot = subst HasCode (sym p.foot) tt }
 
 pub returns-in-Got : goal.returns-in-Got
 returns-in-Got c =
     let p = c.requires in
-    let reads = aggregator-reads p.0 p.1 c.code_of-own.ensures.is
+    let reads = aggregator-reads p.node p.foot c.code_of-own.ensures.is
     (rw c.in-Got.is at c.read_label_modifier.ensures.reads) in record { reads = reads; stored = rw c.in-Got.is at c.read_label_modifier.ensures.stored }
 
 pub returns-in-Bad : goal.returns-in-Bad
 returns-in-Bad c =
     let p = c.requires in
-    absurd (grouping-there p.0 p.1 c.code_of-own.ensures.is
+    absurd (grouping-there p.node p.foot c.code_of-own.ensures.is
     (rw c.in-Bad.is at c.read_label_modifier.ensures.reads))

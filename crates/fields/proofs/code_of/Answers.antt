@@ -16,6 +16,6 @@ returns-in-Got c =
 pub returns-in-Bad : goal.returns-in-Bad
 returns-in-Bad c =
     let p = c.requires in
-    absurd (code-there p.0 p.1
+    absurd (code-there p.node p.foot
     (rw (c.in-Bad.is, c.fields_start-start.ensures) at
     c.read_code.ensures))

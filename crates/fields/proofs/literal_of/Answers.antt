@@ -13,4 +13,4 @@ returns-in-Number c =
 pub returns-in-Other : goal.returns-in-Other
 returns-in-Other c =
     let p = c.requires in
-    absurd (literal-there p.0 p.1 (rw c.in-Other.is at c.signed_literal.ensures))
+    absurd (literal-there p.node p.foot (rw c.in-Other.is at c.signed_literal.ensures))

@@ -15,7 +15,7 @@ returns-in-Got-read_count c =
     let p = c.requires in
     let name = rw (c.in-Got.is, c.fields_start-start.ensures) at
     c.read_text.ensures.reads in
-    let r = selector-reads p.0 p.1 name
+    let r = selector-reads p.node p.foot name
     (rw c.in-Got-read_count.is at c.read_count.ensures) in
     let lies = rw c.in-Got.is at c.read_text.ensures.lies in
     rw c.selector.ensures record {
@@ -24,7 +24,7 @@ returns-in-Got-read_count c =
         name = lies;
         stored = r.1;
         few = (allowed _ r.0.reads).1.0;
-        short = page-short p.0.known.tables;
+        short = page-short p.node.known.tables;
       };
       unasked = (refl, refl);
     }
@@ -34,12 +34,12 @@ returns-in-Bad-read_count c =
     let p = c.requires in
     let name = rw (c.in-Got.is, c.fields_start-start.ensures) at
     c.read_text.ensures.reads in
-    absurd (matchers-there p.0 p.1 name
+    absurd (matchers-there p.node p.foot name
     (rw c.in-Bad-read_count.is at c.read_count.ensures))
 
 pub returns-in-Bad : goal.returns-in-Bad
 returns-in-Bad c =
     let p = c.requires in
-    absurd (name-there p.0 p.1
+    absurd (name-there p.node p.foot
     (rw (c.in-Bad.is, c.fields_start-start.ensures) at
     c.read_text.ensures.reads))

@@ -11,7 +11,7 @@ returns-in-Got-read_optional_duration c =
     let p = c.requires in
     let range = rw (c.in-Got.is, c.fields_start-start.ensures) at
     c.read_number.ensures.reads in
-    spacing-reads p.0 p.1 range
+    spacing-reads p.node p.foot range
     (rw c.in-Got-read_optional_duration.is at c.read_optional_duration.ensures)
 
 pub returns-in-Bad-read_optional_duration : goal.returns-in-Bad-read_optional_duration
@@ -19,12 +19,12 @@ returns-in-Bad-read_optional_duration c =
     let p = c.requires in
     let range = rw (c.in-Got.is, c.fields_start-start.ensures) at
     c.read_number.ensures.reads in
-    absurd (step-there p.0 p.1 range
+    absurd (step-there p.node p.foot range
     (rw c.in-Bad-read_optional_duration.is at c.read_optional_duration.ensures))
 
 pub returns-in-Bad : goal.returns-in-Bad
 returns-in-Bad c =
     let p = c.requires in
-    absurd (range-there p.0 p.1
+    absurd (range-there p.node p.foot
     (rw (c.in-Bad.is, c.fields_start-start.ensures) at
     c.read_number.ensures.reads))

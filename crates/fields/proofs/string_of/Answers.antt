@@ -10,11 +10,11 @@ pub returns-in-Got : goal.returns-in-Got
 returns-in-Got c =
     let p = c.requires in
     let got = rw (c.in-Got.is, c.fields_start-start.ensures) at
-    c.read_text.ensures.reads in record { reads = string-reads p.0 p.1 got; lies = rw c.in-Got.is at c.read_text.ensures.lies }
+    c.read_text.ensures.reads in record { reads = string-reads p.node p.foot got; lies = rw c.in-Got.is at c.read_text.ensures.lies }
 
 pub returns-in-Bad : goal.returns-in-Bad
 returns-in-Bad c =
     let p = c.requires in
-    absurd (string-there p.0 p.1
+    absurd (string-there p.node p.foot
     (rw (c.in-Bad.is, c.fields_start-start.ensures) at
     c.read_text.ensures.reads))

@@ -10,51 +10,51 @@ use Rattle.pieces.proofs.put_head.Goals as goal
 pub put_literal-requires : goal.put_literal-requires
 put_literal-requires c =
     let p = c.requires in
-    rw (number-layout p.0 c.literal_of.ensures) at p.1
+    rw (number-layout p.node c.literal_of.ensures) at p.room
 
 pub put_quoted-requires : goal.put_quoted-requires
 put_quoted-requires c =
     let p = c.requires in
     rw c.text_at-text.ensures
-    (rw (layout-read p.0 p.0.chain.sets c.string_of.ensures.reads refl) at p.1)
+    (rw (layout-read p.node p.node.chain.sets c.string_of.ensures.reads refl) at p.room)
 
 pub put_selector-requires : goal.put_selector-requires
 put_selector-requires c =
     let p = c.requires in
-    let own = c.selector_of-selector.ensures in record { lies = own.1.0; room = rw (layout-read p.0 c.attached_of.ensures own.0 refl) at p.1 }
+    let own = c.selector_of-selector.ensures in record { lies = own.lies; room = rw (layout-read p.node c.attached_of.ensures own.reads refl) at p.room }
 
 pub put_byte-requires : goal.put_byte-requires
 put_byte-requires c =
     let p = c.requires in
-    rw (minus-head p.0 c.in-Unary.is) at p.1
+    rw (minus-head p.node c.in-Unary.is) at p.room
 
 pub put_aggregator-requires : goal.put_aggregator-requires
 put_aggregator-requires c =
     let p = c.requires in
-    let own = c.aggregator_of-own.ensures in record { stored = own.1; room = rw (layout-read p.0 p.0.chain.sets own.0.reads refl) at p.1 }
+    let own = c.aggregator_of-own.ensures in record { stored = own.stored; room = rw (layout-read p.node p.node.chain.sets own.reads.reads refl) at p.room }
 
 pub put_bytes-requires : goal.put_bytes-requires
 put_bytes-requires c =
     let p = c.requires in
     let own = c.function_of.ensures.reads in
     rw c.text_at-name.ensures
-    (rw (layout-read p.0 p.0.chain.sets own.reads refl ∙ ap enclosed own.named) at p.1)
+    (rw (layout-read p.node p.node.chain.sets own.reads refl ∙ ap enclosed own.named) at p.room)
 
 pub returns-in-Number : goal.returns-in-Number
 returns-in-Number c =
     let p = c.requires in
-    rw (number-layout p.0 c.literal_of.ensures) c.put_literal.ensures
+    rw (number-layout p.node c.literal_of.ensures) c.put_literal.ensures
 
 pub returns-in-String : goal.returns-in-String
 returns-in-String c =
     let p = c.requires in
-    rw (layout-read p.0 p.0.chain.sets c.string_of.ensures.reads refl)
+    rw (layout-read p.node p.node.chain.sets c.string_of.ensures.reads refl)
     (wrote_as (ap quote (sym c.text_at-text.ensures)) c.put_quoted.ensures)
 
 pub returns-in-Selector : goal.returns-in-Selector
 returns-in-Selector c =
     let p = c.requires in
-    rw (layout-read p.0 c.attached_of.ensures c.selector_of-selector.ensures.reads refl)
+    rw (layout-read p.node c.attached_of.ensures c.selector_of-selector.ensures.reads refl)
     c.put_selector.ensures
 
 pub returns-in-Subquery : goal.returns-in-Subquery
@@ -64,7 +64,7 @@ returns-in-Subquery c =
 pub returns-in-Unary : goal.returns-in-Unary
 returns-in-Unary c =
     let p = c.requires in
-    rw (minus-head p.0 c.in-Unary.is) c.put_byte.ensures
+    rw (minus-head p.node c.in-Unary.is) c.put_byte.ensures
 
 pub returns-in-Paren : goal.returns-in-Paren
 returns-in-Paren c =
@@ -77,12 +77,12 @@ returns-in-Binary c =
 pub returns-in-Aggregate : goal.returns-in-Aggregate
 returns-in-Aggregate c =
     let p = c.requires in
-    rw (layout-read p.0 p.0.chain.sets c.aggregator_of-own.ensures.reads.reads refl)
+    rw (layout-read p.node p.node.chain.sets c.aggregator_of-own.ensures.reads.reads refl)
     c.put_aggregator.ensures
 
 pub returns-in-Call : goal.returns-in-Call
 returns-in-Call c =
     let p = c.requires in
     let own = c.function_of.ensures.reads in
-    rw (layout-read p.0 p.0.chain.sets own.reads refl ∙ ap enclosed own.named)
+    rw (layout-read p.node p.node.chain.sets own.reads refl ∙ ap enclosed own.named)
     (wrote_as (sym c.text_at-name.ensures) c.put_bytes.ensures)

@@ -12,10 +12,10 @@ returns-in_default c =
 pub put_operator-requires : goal.put_operator-requires
 put_operator-requires c =
     let p = c.requires in
-    let own = c.operator_of-own.ensures in record { stored = own.1.0; exact = own.1.1; room = rw (layout-read p.0 p.0.chain.sets own.0 refl) at p.1 }
+    let own = c.operator_of-own.ensures in record { stored = own.stored; exact = own.exact; room = rw (layout-read p.node p.node.chain.sets own.reads refl) at p.room }
 
 pub returns : goal.returns
 returns c =
     let p = c.requires in
-    rw (layout-read p.0 p.0.chain.sets c.operator_of-own.ensures.reads refl)
+    rw (layout-read p.node p.node.chain.sets c.operator_of-own.ensures.reads refl)
     c.put_operator.ensures

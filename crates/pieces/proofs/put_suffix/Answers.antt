@@ -12,11 +12,11 @@ returns-in_default c =
 pub put_subquery-requires : goal.put_subquery-requires
 put_subquery-requires c =
     let p = c.requires in
-    rw (layout-read p.0 c.attached_of-attached.ensures c.spacing_of-own.ensures refl) at
-    p.1
+    rw (layout-read p.node c.attached_of-attached.ensures c.spacing_of-own.ensures refl) at
+    p.room
 
 pub returns : goal.returns
 returns c =
     let p = c.requires in
-    rw (layout-read p.0 c.attached_of-attached.ensures c.spacing_of-own.ensures refl)
+    rw (layout-read p.node c.attached_of-attached.ensures c.spacing_of-own.ensures refl)
     c.put_subquery.ensures

@@ -7,21 +7,21 @@ use Rattle.view.proofs.unary_view.Goals as goal
 pub returns-then-numberless : goal.returns-then-numberless
 returns-then-numberless c =
     let p = c.requires in
-    let numberless = numberless-below p.0 p.1.0.chain (rw c.if-numberless.true at p.1.1.1) in
-    rw c.node_of.ensures (view-unary p.0 p.1.0.chain p.1.1.0 numberless)
+    let numberless = numberless-below p.starts p.foot.chain (rw c.if-numberless.true at p.numberless) in
+    rw c.node_of.ensures (view-unary p.starts p.foot.chain p.kind numberless)
 
 pub signed_literal-requires : goal.signed_literal-requires
 signed_literal-requires c =
-    let p = c.requires in chained-here p.0 p.1.0.chain
+    let p = c.requires in chained-here p.starts p.foot.chain
 
 pub returns-in-Number : goal.returns-in-Number
 returns-in-Number c =
     let p = c.requires in
     let number = rw c.in-Number.is at c.signed_literal.ensures in
-    rw c.node_of-in-Number.ensures (view-valued p.0 p.1.0.chain (record { value = _; is = number }))
+    rw c.node_of-in-Number.ensures (view-valued p.starts p.foot.chain (record { value = _; is = number }))
 
 pub returns-in-Other : goal.returns-in-Other
 returns-in-Other c =
     let p = c.requires in
     let numberless = rw c.in-Other.is at c.signed_literal.ensures in
-    rw c.node_of-in-Other.ensures (view-unary p.0 p.1.0.chain p.1.1.0 numberless)
+    rw c.node_of-in-Other.ensures (view-unary p.starts p.foot.chain p.kind numberless)
