@@ -2,12 +2,13 @@
 use mathlib.Core.Path.{refl}
 use Rattle.text.proofs.WriteLaws.{wrote_nothing}
 use Rattle.view.proofs.NodeLaws.{layout-read}
+use borrow.Enum.Refused.{opened}
 use Rattle.pieces.proofs.ShapeLaws.{no-operator}
 use Rattle.pieces.proofs.put_operator.Goals as goal
 
 pub returns-in_default : goal.returns-in_default
 returns-in_default c =
-    wrote_nothing _ _ (no-operator c.requires.node _ c.in_default.in_default-own.keys2 refl)
+    wrote_nothing _ _ (no-operator c.requires.node _ (opened c.in_default.in_default-own.keys2) refl)
 
 pub put_operator-requires : goal.put_operator-requires
 put_operator-requires c =

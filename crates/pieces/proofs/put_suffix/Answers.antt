@@ -2,12 +2,13 @@
 use mathlib.Core.Path.{refl}
 use Rattle.text.proofs.WriteLaws.{wrote_nothing}
 use Rattle.view.proofs.NodeLaws.{layout-read}
+use borrow.Enum.Refused.{opened}
 use Rattle.pieces.proofs.ShapeLaws.{no-suffix}
 use Rattle.pieces.proofs.put_suffix.Goals as goal
 
 pub returns-in_default : goal.returns-in_default
 returns-in_default c =
-    wrote_nothing _ _ (no-suffix c.requires.node _ c.in_default.in_default-own.keys2 refl)
+    wrote_nothing _ _ (no-suffix c.requires.node _ (opened c.in_default.in_default-own.keys2) refl)
 
 pub put_subquery-requires : goal.put_subquery-requires
 put_subquery-requires c =
