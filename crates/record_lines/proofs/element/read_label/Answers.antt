@@ -4,8 +4,8 @@ use Rattle.record_lines.proofs.element.read_label.Goals as goal
 
 pub returns-in-Got : goal.returns-in-Got
 returns-in-Got c =
-    label-read _ _ c.in-Got.is c.read_text.ensures
+    label-read _ _ c.in-Got.is (c.read_text.ensures.reads, c.read_text.ensures.lies)
 
 pub returns-in-Bad : goal.returns-in-Bad
 returns-in-Bad c =
-    label-refused _ _ c.in-Bad.is c.read_text.ensures
+    label-refused _ _ c.in-Bad.is (c.read_text.ensures.reads, c.read_text.ensures.lies)

@@ -4,5 +4,5 @@ use Rattle.record_lines.proofs.number.put_span.Goals as goal
 
 pub returns : goal.returns
 returns c =
-    let size = rw c.type_size.ensures {-?-} at c.put_spaced.ensures in
+    let size = rw c.size_of.ensures at c.put_spaced.ensures in
     shows_then c.put_spaced-next.ensures size
