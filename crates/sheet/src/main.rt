@@ -3,6 +3,8 @@
 //
 // At most one byte more than a page may have is read: what is written depends on no more (`output-first`, crate
 // program).
+#![tactic(auto)]
+
 use input::read_full;
 use program::put_sheet;
 use std::io::{Read, Stdin};

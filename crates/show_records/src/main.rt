@@ -14,6 +14,8 @@
 //
 // Input that is no such stream, as a page without its length, is answered on standard error by a sentence that says
 // what is wanted.
+#![tactic(auto)]
+
 use input::{Block, read_block};
 use reader::{RecordField, read_record};
 use record_lines::{end_line, fault_line, record_line};

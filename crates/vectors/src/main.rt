@@ -4,6 +4,8 @@
 // copied and printed into a buffer of exactly the entry's size, and then into one a byte shorter, which is refused with
 // 5 and keeps its first byte. Written is `N pages equal`, or `entry N differs` at the first one that is not equal,
 // counted from 0.
+#![tactic(auto)]
+
 mod compare;
 mod word;
 
