@@ -1,8 +1,39 @@
 // Blocks of standard input and the numbers in front of them, for programs that read kept pages. What is read no
 // contract can say: only where it is put.
-ghost use Rattle.std.specs.Prelude.{◌<◌, ◌≡◌, [], ◌∷◌};
+#![tactic(auto)]
+
+ghost use Rattle.std.specs.Prelude.{◌<◌, ◌≤◌, ◌≡◌, [], ◌∷◌, length};
 ghost use Rattle.input.specs.Number.{lowest_first};
 ghost use Rattle.input.specs.Block.{BlockRead};
+
+use std::io::{Read, Stdin};
+
+// One read of standard input into the start of the buffer, and how many bytes it gave: none where the input has ended
+// or the read fails.
+fn read_some(mut stdin: Stdin, buffer: &mut [u8]) -> usize
+    ensures { result ≤ length buffer.new }
+{
+    match stdin.read(buffer) {
+        Ok(n) => n,
+        Err(_) => 0,
+    }
+}
+
+// Reads standard input into the buffer until it is full, the input ends or a read fails, and answers how many bytes it
+// put at the start.
+pub fn read_full(stdin: Stdin, buffer: &mut [u8]) -> usize
+    ensures { result ≤ length buffer.new }
+{
+    let mut done = 0;
+    while done < buffer.len() {
+        let n = read_some(stdin, &mut buffer[done..]);
+        if n == 0 {
+            break;
+        }
+        done += n;
+    }
+    done
+}
 
 fn wide(b: u8) -> u64
     ensures { (result ≡ b) × (result < 256) }
@@ -27,11 +58,11 @@ pub enum Block {
 }
 
 // A length of four bytes, and so many bytes into the buffer.
-pub fn read_block(buffer: &mut [u8]) -> Block
+pub fn read_block(stdin: Stdin, buffer: &mut [u8]) -> Block
     ensures { BlockRead buffer.old buffer.new result }
 {
     let mut bytes = [0u8; 4];
-    let got = io::read_full(0, &mut bytes);
+    let got = read_full(stdin, &mut bytes);
     if got == 0 {
         return Block::End;
     }
@@ -42,7 +73,7 @@ pub fn read_block(buffer: &mut [u8]) -> Block
     if buffer.len() < size {
         return Block::Bad;
     }
-    let read = io::read_full(0, &mut buffer[..size]);
+    let read = read_full(stdin, &mut buffer[..size]);
     if read < size {
         return Block::Bad;
     }

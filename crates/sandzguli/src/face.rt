@@ -1,4 +1,4 @@
-// The library's face for C: a slice passes as pointer and length, an outcome as one word.
+// The library's face: an outcome is one word. Crate sandzguli_c gives each function to C.
 ghost use Rattle.std.specs.Prelude.{◌≡◌};
 ghost use Rattle.ast.specs.CheckPage.{check};
 ghost use Rattle.ast.specs.Limits.{check_operators};
@@ -32,15 +32,13 @@ const MINOR: u64 = 6;
 
 const PATCH: u64 = 0;
 
-#[unsafe(no_mangle)]
-pub extern "C" fn sandzguli_check(page: &[u8]) -> u64
+pub fn sandzguli_check(page: &[u8]) -> u64
     ensures { result ≡ outcome_word (check page.now) }
 {
     outcome_word(check(page))
 }
 
-#[unsafe(no_mangle)]
-pub extern "C" fn sandzguli_copy(page: &[u8], out: &mut [u8]) -> u64
+pub fn sandzguli_copy(page: &[u8], out: &mut [u8]) -> u64
     ensures { DoesWord (copy page.now out.old) result out.new }
 {
     outcome_word(copy(page, out))
@@ -48,8 +46,7 @@ pub extern "C" fn sandzguli_copy(page: &[u8], out: &mut [u8]) -> u64
 
 // The start and the size of the label of 19; 0 where there is none. A page above the limit is refused with 3, so the
 // word fits.
-#[unsafe(no_mangle)]
-pub extern "C" fn sandzguli_joint_label(page: &[u8]) -> u64
+pub fn sandzguli_joint_label(page: &[u8]) -> u64
     ensures { result ≡ label_word (label_part page.now (check page.now)) }
 {
     if page::PAGE_LIMIT < page.len() {
@@ -61,71 +58,62 @@ pub extern "C" fn sandzguli_joint_label(page: &[u8]) -> u64
     start as u64 * 256 + (end - start) as u64
 }
 
-#[unsafe(no_mangle)]
-pub extern "C" fn sandzguli_canonical(page: &[u8], out: &mut [u8]) -> u64
+pub fn sandzguli_canonical(page: &[u8], out: &mut [u8]) -> u64
     ensures { DoesWord (canonical_text page.now out.old) result out.new }
 {
     outcome_word(canonical(page, out))
 }
 
-#[unsafe(no_mangle)]
-pub extern "C" fn sandzguli_split(page: &[u8], out: &mut [u8]) -> u64
+pub fn sandzguli_split(page: &[u8], out: &mut [u8]) -> u64
     ensures { DoesWord (split_text page.now out.old) result out.new }
 {
     outcome_word(split(page, out))
 }
 
 // The check with the function table too.
-#[unsafe(no_mangle)]
-pub extern "C" fn sandzguli_check_table(page: &[u8]) -> u64
+pub fn sandzguli_check_table(page: &[u8]) -> u64
     ensures { result ≡ outcome_word (check_table functions page.now) }
 {
     outcome_word(check_table(page))
 }
 
 // The check with the functions of Prometheus 2.55.
-#[unsafe(no_mangle)]
-pub extern "C" fn sandzguli_check_older(page: &[u8]) -> u64
+pub fn sandzguli_check_older(page: &[u8]) -> u64
     ensures { result ≡ outcome_word (check_table older_functions page.now) }
 {
     outcome_word(check_older(page))
 }
 
 // The check with the functions of Prometheus 3.0.
-#[unsafe(no_mangle)]
-pub extern "C" fn sandzguli_check_newer(page: &[u8]) -> u64
+pub fn sandzguli_check_newer(page: &[u8]) -> u64
     ensures { result ≡ outcome_word (check_table newer_functions page.now) }
 {
     outcome_word(check_newer(page))
 }
 
 // Which of the two accept the page.
-#[unsafe(no_mangle)]
-pub extern "C" fn sandzguli_generations(page: &[u8]) -> u64
+pub fn sandzguli_generations(page: &[u8]) -> u64
     ensures { result ≡ generations_number (generations page.now) }
 {
     generations_word(generations_of(page))
 }
 
 // The check that follows the operators document too.
-#[unsafe(no_mangle)]
-pub extern "C" fn sandzguli_check_operators(page: &[u8]) -> u64
+pub fn sandzguli_check_operators(page: &[u8]) -> u64
     ensures { result ≡ outcome_word (check_operators page.now) }
 {
     outcome_word(check_operators(page))
 }
 
 // The signature of a function as it stands in a call behind the name.
-#[unsafe(no_mangle)]
-pub extern "C" fn sandzguli_signature(name: &[u8], out: &mut [u8]) -> u64
+pub fn sandzguli_signature(name: &[u8], out: &mut [u8]) -> u64
     ensures { DoesWord (signature name.now out.old) result out.new }
 {
     outcome_word(signature(name, out))
 }
 
 // Whether a pattern is covered and matches empty text. No matcher holds one that is longer than a text may be.
-#[unsafe(no_mangle)]
-pub extern "C" fn sandzguli_pattern(pattern: &[u8]) -> u64
+pub fn sandzguli_pattern(pattern: &[u8]) -> u64
     ensures { result ≡ pattern_word pattern.now }
 {
     if page::TEXT_LIMIT < pattern.len() {
@@ -134,22 +122,19 @@ pub extern "C" fn sandzguli_pattern(pattern: &[u8]) -> u64
     empty_text_word(matches_empty_text(pattern))
 }
 
-#[unsafe(no_mangle)]
-pub extern "C" fn sandzguli_version() -> u64
+pub fn sandzguli_version() -> u64
     ensures { result ≡ version }
 {
     MAJOR * 65536 + MINOR * 256 + PATCH
 }
 
-#[unsafe(no_mangle)]
-pub extern "C" fn sandzguli_kind_name(kind: u64, out: &mut [u8]) -> u64
+pub fn sandzguli_kind_name(kind: u64, out: &mut [u8]) -> u64
     ensures { DoesName (name_written (kind_name kind) out.old) result out.new }
 {
     kind_name(kind, out)
 }
 
-#[unsafe(no_mangle)]
-pub extern "C" fn sandzguli_refusal_name(number: u64, out: &mut [u8]) -> u64
+pub fn sandzguli_refusal_name(number: u64, out: &mut [u8]) -> u64
     ensures { DoesName (name_written (refusal_name number) out.old) result out.new }
 {
     refusal_name(number, out)

@@ -14,37 +14,45 @@
 //
 // Input that is no such stream, as a page without its length, is answered on standard error by a sentence that says
 // what is wanted.
+#![tactic(auto)]
+
 use input::{Block, read_block};
 use reader::{RecordField, read_record};
 use record_lines::{end_line, fault_line, record_line};
+use std::io::{Stderr, Stdout};
 
-fn write_line(line: &[u8], end: usize) {
+const PAGE_SIZE: usize = 65536;
+
+const LINE_SIZE: usize = 4096;
+
+// A line that cannot be written changes nothing: the next one is tried.
+fn write_line(stdout: Stdout, line: &[u8], end: usize) {
     if line.len() < end {
         return;
     }
-    io::write_all(1, &line[..end]);
+    let _ = stdout.write_all(&line[..end]);
 }
 
 // The records of a page. A record has at least one byte, so that the turns do not run out.
-fn show_page(page: &[u8], line: &mut [u8]) {
+fn show_page(stdout: Stdout, page: &[u8], line: &mut [u8]) {
     let mut left = page.len();
     let mut at = 0;
     let mut index: u64 = 0;
     while 0 < left {
         if page.len() <= at {
             let end = end_line(index, line);
-            write_line(line, end);
+            write_line(stdout, line, end);
             return;
         }
         match read_record(page, at) {
             RecordField::Got { item: r, next } => {
                 let end = record_line(page, r, next, line);
-                write_line(line, end);
+                write_line(stdout, line, end);
                 at = next;
             }
             RecordField::Bad(f) => {
                 let end = fault_line(f, index, line);
-                write_line(line, end);
+                write_line(stdout, line, end);
                 return;
             }
         }
@@ -52,45 +60,41 @@ fn show_page(page: &[u8], line: &mut [u8]) {
         left = left - 1;
     }
     let end = end_line(index, line);
-    write_line(line, end);
+    write_line(stdout, line, end);
 }
 
-fn say_what_is_wanted() {
-    io::write_all(
-        2,
-        b"show_records: standard input must be a stream of pages, ",
-    );
-    io::write_all(
-        2,
+fn say_what_is_wanted(stderr: Stderr) {
+    let _ = stderr.write_all(b"show_records: standard input must be a stream of pages, ");
+    let _ = stderr.write_all(
         b"each a length of four bytes, lowest first, and so many bytes, at most 65536\n",
     );
 }
 
 // Shows the next page, and answers whether there was one.
-fn show_next(buffer: &mut [u8], line: &mut [u8]) -> bool {
-    match read_block(buffer) {
+fn show_next(rt: HostRuntime, buffer: &mut [u8], line: &mut [u8]) -> bool {
+    match read_block(rt.stdin(), buffer) {
         Block::Got(size) => {
-            show_page(&buffer[..size], line);
+            show_page(rt.stdout(), &buffer[..size], line);
             true
         }
         Block::End => false,
         Block::Bad => {
-            say_what_is_wanted();
+            say_what_is_wanted(rt.stderr());
             false
         }
     }
 }
 
 // Nothing says that the input ends, so the loop counts its turns down from a number that no run uses up.
-fn show_all(buffer: &mut [u8], line: &mut [u8]) {
+fn show_all(rt: HostRuntime, buffer: &mut [u8], line: &mut [u8]) {
     let mut turns = u64::MAX;
-    while turns > 0 && show_next(buffer, line) {
+    while turns > 0 && show_next(rt, buffer, line) {
         turns -= 1;
     }
 }
 
-fn main() {
-    let mut buffer = io::large_buffer();
-    let mut line = io::buffer();
-    show_all(&mut buffer, &mut line);
+fn main(rt: HostRuntime) {
+    let mut buffer = [0u8; PAGE_SIZE];
+    let mut line = [0u8; LINE_SIZE];
+    show_all(rt, &mut buffer, &mut line);
 }

@@ -1,5 +1,7 @@
 // The test of texts for a program that runs it by itself, at every start and length, and times it. No part of the
-// library: `rt staticlib text_test` makes an archive of its own.
+// library: `rt lib` here makes an archive of its own, out/libtext_test.a.
+#![tactic(auto)]
+
 ghost use Rattle.std.specs.Prelude.{◌≡◌, drop};
 ghost use Rattle.page.specs.Text.{is_ascii, is_text};
 

@@ -4,11 +4,14 @@
 // copied and printed into a buffer of exactly the entry's size, and then into one a byte shorter, which is refused with
 // 5 and keeps its first byte. Written is `N pages equal`, or `entry N differs` at the first one that is not equal,
 // counted from 0.
+#![tactic(auto)]
+
 mod compare;
 mod word;
 
 use compare::{Call, check_equal, writes_equal};
 use input::{Block, read_block};
+use std::io::{Stdin, Stdout};
 use word::{Word, read_word};
 
 #[derive(Clone, Copy)]
@@ -19,22 +22,29 @@ enum Replayed {
 }
 
 // The next text of the entry, and whether the call writes it.
-fn replay_text(call: Call, page: &[u8], outcome: u64, text: &mut [u8], out: &mut [u8]) -> bool {
-    match read_block(text) {
+fn replay_text(
+    stdin: Stdin,
+    call: Call,
+    page: &[u8],
+    outcome: u64,
+    text: &mut [u8],
+    out: &mut [u8],
+) -> bool {
+    match read_block(stdin, text) {
         Block::Got(size) => writes_equal(call, page, outcome, &text[..size], out),
         Block::End => false,
         Block::Bad => false,
     }
 }
 
-fn replay_entry(page: &[u8], text: &mut [u8], out: &mut [u8]) -> Replayed {
-    match read_word() {
-        Word::Got(outcome) => match read_word() {
+fn replay_entry(stdin: Stdin, page: &[u8], text: &mut [u8], out: &mut [u8]) -> Replayed {
+    match read_word(stdin) {
+        Word::Got(outcome) => match read_word(stdin) {
             Word::Got(label) => {
                 let checked = check_equal(page, outcome, label);
-                let copied = replay_text(Call::Copy, page, outcome, text, out);
-                let canonical = replay_text(Call::Canonical, page, outcome, text, out);
-                let split = replay_text(Call::Split, page, outcome, text, out);
+                let copied = replay_text(stdin, Call::Copy, page, outcome, text, out);
+                let canonical = replay_text(stdin, Call::Canonical, page, outcome, text, out);
+                let split = replay_text(stdin, Call::Split, page, outcome, text, out);
                 if checked & copied & canonical & split {
                     return Replayed::Equal;
                 }
@@ -46,50 +56,49 @@ fn replay_entry(page: &[u8], text: &mut [u8], out: &mut [u8]) -> Replayed {
     }
 }
 
-fn replay_next(page: &mut [u8], text: &mut [u8], out: &mut [u8]) -> Replayed {
-    match read_block(page) {
-        Block::Got(size) => replay_entry(&page[..size], text, out),
+fn replay_next(stdin: Stdin, page: &mut [u8], text: &mut [u8], out: &mut [u8]) -> Replayed {
+    match read_block(stdin, page) {
+        Block::Got(size) => replay_entry(stdin, &page[..size], text, out),
         Block::End => Replayed::End,
         Block::Bad => Replayed::Different,
     }
 }
 
-fn report_equal(count: u64) {
-    io::print_decimal(1, count);
-    io::write_all(1, b" pages equal\n");
+fn report_equal(stdout: Stdout, count: u64) {
+    let _ = println!(stdout; "{count} pages equal");
 }
 
-fn report_different(entry: u64) {
-    io::write_all(1, b"entry ");
-    io::print_decimal(1, entry);
-    io::write_all(1, b" differs\n");
+fn report_different(stdout: Stdout, entry: u64) {
+    let _ = println!(stdout; "entry {entry} differs");
 }
 
 // Nothing says that the input ends, so the loop counts its turns down from a number that no run uses up.
 const TURNS: u64 = 4294967296;
 
-fn replay_all(page: &mut [u8], text: &mut [u8], out: &mut [u8]) {
+fn replay_all(rt: HostRuntime, page: &mut [u8], text: &mut [u8], out: &mut [u8]) {
     let mut turns = TURNS;
     while turns > 0 {
-        match replay_next(page, text, out) {
+        match replay_next(rt.stdin(), page, text, out) {
             Replayed::Equal => {
                 turns -= 1;
             }
             Replayed::Different => {
-                report_different(TURNS - turns);
+                report_different(rt.stdout(), TURNS - turns);
                 return;
             }
             Replayed::End => {
-                report_equal(TURNS - turns);
+                report_equal(rt.stdout(), TURNS - turns);
                 return;
             }
         }
     }
 }
 
-fn main() {
-    let mut page = io::large_buffer();
-    let mut text = io::large_buffer();
-    let mut out = io::large_buffer();
-    replay_all(&mut page, &mut text, &mut out);
+const BUFFER_SIZE: usize = 65536;
+
+fn main(rt: HostRuntime) {
+    let mut page = [0u8; BUFFER_SIZE];
+    let mut text = [0u8; BUFFER_SIZE];
+    let mut out = [0u8; BUFFER_SIZE];
+    replay_all(rt, &mut page, &mut text, &mut out);
 }

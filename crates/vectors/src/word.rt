@@ -1,5 +1,6 @@
 // A number of eight bytes of standard input, the lowest first, or the end of the input.
-use input::number_of;
+use input::{number_of, read_full};
+use std::io::Stdin;
 
 #[derive(Clone, Copy)]
 pub enum Word {
@@ -7,9 +8,9 @@ pub enum Word {
     End,
 }
 
-pub fn read_word() -> Word {
+pub fn read_word(stdin: Stdin) -> Word {
     let mut bytes = [0u8; 8];
-    let got = io::read_full(0, &mut bytes);
+    let got = read_full(stdin, &mut bytes);
     if got < 8 {
         return Word::End;
     }
