@@ -43,7 +43,7 @@ write_operands-write_text-requires t c =
 
 pub write_operands-shape_of-out-then-count-eq1 : goal.write_operands-shape_of-out-then-count-eq1
 write_operands-shape_of-out-then-count-eq1 t c =
-    c.write_text.auto.1.1.1.1.1.0
+    c.write_text.auto.out
 
 pub write_operands-returns-then-count-eq1 : goal.write_operands-returns-then-count-eq1
 write_operands-returns-then-count-eq1 t c =
@@ -112,8 +112,8 @@ write_operands-write_text-requires-2 t c =
 
 pub write_operands-shape_of-out : goal.write_operands-shape_of-out
 write_operands-shape_of-out t c =
-    c.write_text-2.auto.1.1.1.1.1.0 ∙ c.put_between-next.auto.1.1.1.0
-    ∙ c.write_operands-gap.auto.1.1.1.1.1.1.1.0
+    c.write_text-2.auto.out ∙ c.put_between-next.auto.out
+    ∙ c.write_operands-gap.auto.out
 
 pub write_operands-returns : goal.write_operands-returns
 write_operands-returns t c =
@@ -164,8 +164,8 @@ write_text-put_rear-requires t c =
 
 pub write_text-shape_of-out : goal.write_text-shape_of-out
 write_text-shape_of-out t c =
-    c.put_rear.auto.1.1.1.0 ∙ c.write_operands-others.auto.1.1.1.1.1.1.1.0
-    ∙ c.put_front-inner.auto.1.1.1.0
+    c.put_rear.auto.out ∙ c.write_operands-others.auto.out
+    ∙ c.put_front-inner.auto.out
 
 pub write_text-returns : goal.write_text-returns
 write_text-returns t c =

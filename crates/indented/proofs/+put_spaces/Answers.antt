@@ -31,7 +31,7 @@ put_spaces-requires t c = (
 
 pub shape_of-out : goal.shape_of-out
 shape_of-out t c =
-    c.put_spaces.auto.1.0 ∙ c.put_bytes-next.auto.1.0
+    c.put_spaces.auto.out ∙ c.put_bytes-next.auto.out
 
 pub returns : goal.returns
 returns t c =

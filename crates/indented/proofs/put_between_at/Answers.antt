@@ -72,7 +72,7 @@ returns-in-Suffixed c =
 
 pub shape_of-out-in-Enclosed : goal.shape_of-out-in-Enclosed
 shape_of-out-in-Enclosed c =
-    c.put_bytes.auto.1.0
+    c.put_bytes.auto.out
 
 pub returns-in-Enclosed : goal.returns-in-Enclosed
 returns-in-Enclosed c =
@@ -82,8 +82,8 @@ returns-in-Enclosed c =
 
 pub shape_of-out-in-Infixed : goal.shape_of-out-in-Infixed
 shape_of-out-in-Infixed c =
-    c.put_byte.auto.1.0 ∙ c.put_operator-behind.auto.1.1.1.0
-    ∙ c.put_spaces-token.auto.1.0 ∙ c.put_byte-lead.auto.1.0
+    c.put_byte.auto.out ∙ c.put_operator-behind.auto.out
+    ∙ c.put_spaces-token.auto.out ∙ c.put_byte-lead.auto.out
 
 pub returns-in-Infixed : goal.returns-in-Infixed
 returns-in-Infixed c =

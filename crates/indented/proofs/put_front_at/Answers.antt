@@ -29,8 +29,7 @@ put_led-next-requires c =
     (sym c.in-Enclosed.is ∙ c.shape_of.ensures) in record { node = c.requires.node; room = fits (run-two (indent_if c.args.indents c.args.level
           ++ head (layout_at c.args.page.now c.args.node)) (bytes "(\n")
           c.args.out.now c.args.at
-          (ap (front_at c.args.indents c.args.level) e) c.requires.room),
-    ) }
+          (ap (front_at c.args.indents c.args.level) e) c.requires.room) }
 
 pub put_bytes-requires : goal.put_bytes-requires
 put_bytes-requires c =
@@ -44,7 +43,7 @@ put_bytes-requires c =
 
 pub shape_of-out-in-Whole : goal.shape_of-out-in-Whole
 shape_of-out-in-Whole c =
-    c.put_led.auto.1.1.1.1.1.0
+    c.put_led.auto.out
 
 pub returns-in-Whole : goal.returns-in-Whole
 returns-in-Whole c =
@@ -55,7 +54,7 @@ returns-in-Whole c =
 
 pub shape_of-out-in-Minus : goal.shape_of-out-in-Minus
 shape_of-out-in-Minus c =
-    c.put_led-in-Minus.auto.1.1.1.1.1.0
+    c.put_led-in-Minus.auto.out
 
 pub returns-in-Minus : goal.returns-in-Minus
 returns-in-Minus c =
@@ -73,7 +72,7 @@ returns-in-Suffixed c =
 
 pub shape_of-out-in-Enclosed : goal.shape_of-out-in-Enclosed
 shape_of-out-in-Enclosed c =
-    c.put_bytes.auto.1.0 ∙ c.put_led-next.auto.1.1.1.1.1.0
+    c.put_bytes.auto.out ∙ c.put_led-next.auto.out
 
 pub returns-in-Enclosed : goal.returns-in-Enclosed
 returns-in-Enclosed c =

@@ -9,7 +9,7 @@ put_spaces-requires c =
 
 pub shape_of-out-then-indents : goal.shape_of-out-then-indents
 shape_of-out-then-indents c =
-    c.put_spaces.auto.1.0
+    c.put_spaces.auto.out
 
 pub returns-then-indents : goal.returns-then-indents
 returns-then-indents c =

@@ -23,7 +23,7 @@ put_head-requires c =
 
 pub shape_of-out : goal.shape_of-out
 shape_of-out c =
-    c.put_head.auto.1.1.1.0 ∙ c.put_indent-next.auto.1.1.0
+    c.put_head.auto.out ∙ c.put_indent-next.auto.out
 
 pub returns : goal.returns
 returns c =

@@ -22,8 +22,7 @@ pub put_head-next-requires : goal.put_head-next-requires
 put_head-next-requires c =
     let e = layout-shaped c.requires.node
     (sym c.in-Enclosed.is ∙ c.shape_of.ensures) in record { node = c.requires.node; room = fits (run-two (head (layout_at c.args.page.now c.args.node)) (bytes "(")
-          c.args.out.now c.args.at (ap front e) c.requires.room),
-    ) }
+          c.args.out.now c.args.at (ap front e) c.requires.room) }
 
 pub put_byte-requires : goal.put_byte-requires
 put_byte-requires c =
@@ -35,7 +34,7 @@ put_byte-requires c =
 
 pub shape_of-out-in-Whole : goal.shape_of-out-in-Whole
 shape_of-out-in-Whole c =
-    c.put_head.auto.1.1.1.0
+    c.put_head.auto.out
 
 pub returns-in-Whole : goal.returns-in-Whole
 returns-in-Whole c =
@@ -45,7 +44,7 @@ returns-in-Whole c =
 
 pub shape_of-out-in-Minus : goal.shape_of-out-in-Minus
 shape_of-out-in-Minus c =
-    c.put_head-in-Minus.auto.1.1.1.0
+    c.put_head-in-Minus.auto.out
 
 pub returns-in-Minus : goal.returns-in-Minus
 returns-in-Minus c =
@@ -61,7 +60,7 @@ returns-in-Suffixed c =
 
 pub shape_of-out-in-Enclosed : goal.shape_of-out-in-Enclosed
 shape_of-out-in-Enclosed c =
-    c.put_byte.auto.1.0 ∙ c.put_head-next.auto.1.1.1.0
+    c.put_byte.auto.out ∙ c.put_head-next.auto.out
 
 pub returns-in-Enclosed : goal.returns-in-Enclosed
 returns-in-Enclosed c =

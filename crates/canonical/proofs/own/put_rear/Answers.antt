@@ -30,7 +30,7 @@ returns-in-Minus c =
 
 pub shape_of-out-in-Suffixed : goal.shape_of-out-in-Suffixed
 shape_of-out-in-Suffixed c =
-    c.put_suffix.auto.1.1.1.0
+    c.put_suffix.auto.out
 
 pub returns-in-Suffixed : goal.returns-in-Suffixed
 returns-in-Suffixed c =
@@ -40,7 +40,7 @@ returns-in-Suffixed c =
 
 pub shape_of-out-in-Enclosed : goal.shape_of-out-in-Enclosed
 shape_of-out-in-Enclosed c =
-    c.put_byte.auto.1.0
+    c.put_byte.auto.out
 
 pub returns-in-Enclosed : goal.returns-in-Enclosed
 returns-in-Enclosed c =

@@ -36,7 +36,7 @@ write_split-write_text-requires t c =
 
 pub write_split-shape_of-out-then-line-le-LINE_LIMIT : goal.write_split-shape_of-out-then-line-le-LINE_LIMIT
 write_split-shape_of-out-then-line-le-LINE_LIMIT t c =
-    c.write_text.auto.1.1.1.1.1.0 ∙ c.put_indent-text.auto.1.1.0
+    c.write_text.auto.out ∙ c.put_indent-text.auto.out
 
 pub write_split-returns-then-line-le-LINE_LIMIT : goal.write_split-returns-then-line-le-LINE_LIMIT
 write_split-returns-then-line-le-LINE_LIMIT t c =
@@ -97,9 +97,9 @@ write_split-put_rear_at-requires t c =
 
 pub write_split-shape_of-out : goal.write_split-shape_of-out
 write_split-shape_of-out t c =
-    c.put_rear_at.auto.1.1.1.1.0
-    ∙ c.write_split_operands-others.auto.1.1.1.1.1.1.1.1.0
-    ∙ c.put_front_at-at.auto.1.1.1.1.1.0
+    c.put_rear_at.auto.out
+    ∙ c.write_split_operands-others.auto.out
+    ∙ c.put_front_at-at.auto.out
 
 pub write_split-returns : goal.write_split-returns
 write_split-returns t c =
@@ -155,7 +155,7 @@ write_split_operands-write_split-requires t c =
 
 pub write_split_operands-shape_of-out-then-count-eq1 : goal.write_split_operands-shape_of-out-then-count-eq1
 write_split_operands-shape_of-out-then-count-eq1 t c =
-    c.write_split.auto.1.1.1.1.1.1.0
+    c.write_split.auto.out
 
 pub write_split_operands-returns-then-count-eq1 : goal.write_split_operands-returns-then-count-eq1
 write_split_operands-returns-then-count-eq1 t c =
@@ -271,9 +271,9 @@ write_split_operands-write_split-requires-2 t c =
 
 pub write_split_operands-shape_of-out : goal.write_split_operands-shape_of-out
 write_split_operands-shape_of-out t c =
-    c.write_split-2.auto.1.1.1.1.1.1.0
-    ∙ c.put_between_at-next.auto.1.1.1.1.0
-    ∙ c.write_split_operands-gap.auto.1.1.1.1.1.1.1.1.0
+    c.write_split-2.auto.out
+    ∙ c.put_between_at-next.auto.out
+    ∙ c.write_split_operands-gap.auto.out
 
 pub write_split_operands-returns : goal.write_split_operands-returns
 write_split_operands-returns t c =
