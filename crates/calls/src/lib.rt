@@ -1,5 +1,7 @@
 // The calls that write into a lent buffer. The length is known before a byte is written: a refusal leaves the buffer as
 // it was.
+#![tactic(auto)]
+
 pub mod signature;
 
 ghost use Rattle.walk.specs.Answers.{outcome_meant};

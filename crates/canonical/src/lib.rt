@@ -1,5 +1,7 @@
 // Canonical text (ast.rs, `Display`): each node's text is put together from its operands' texts, by functions over
 // record positions that fall. What a node writes of its own is written by functions that do not recurse.
+#![tactic(auto)]
+
 pub mod fits;
 pub mod own;
 

@@ -1,5 +1,7 @@
 // What a node's text shows of its records, read where they stand: the fields of the record at its foot, and what is
 // attached above it.
+#![tactic(auto)]
+
 pub mod attached;
 
 ghost use Rattle.std.specs.Prelude.{◌≡◌, false};

@@ -1,5 +1,7 @@
 // Literals as 64-bit floats (document 01, 'Checking'): the float of exactly that value, its tests, and the two fills
 // held together. A fraction is held as digits and places.
+#![tactic(auto)]
+
 ghost use Rattle.std.specs.Prelude.{◌≡◌, false, ◌≤◌};
 ghost use Rattle.std.specs.Float.Ieee as Ieee;
 ghost use Rattle.std.specs.Float.{nan, inf};

@@ -1,5 +1,7 @@
 // Which server generations accept a page (document 02, No. 13): Prometheus 2.55, the older, and 3.0, the newer, each by
 // the check with its own table of functions.
+#![tactic(auto)]
+
 pub mod newer;
 pub mod older;
 

@@ -1,5 +1,7 @@
 // What a node longer than a line writes of its own, by its shape: before its operands' texts, between each two and
 // after them, with line feeds and two spaces a level. Lengths are capped.
+#![tactic(auto)]
+
 ghost use Rattle.std.specs.Prelude.{◌≡◌, ◌++◌, ◌+◌, ◌≤◌, min, length};
 ghost use Rattle.base.specs.Splice.{Wrote};
 ghost use Rattle.text.specs.Pretty.{indent};

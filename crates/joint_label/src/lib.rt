@@ -1,4 +1,6 @@
 // The label of refusal 19: where the first group label that is also in the on list stands on the page.
+#![tactic(auto)]
+
 pub mod group;
 pub mod place;
 

@@ -1,4 +1,6 @@
 // The refusal table on records: judges that read the page again, for labels, matchers and declared kinds.
+#![tactic(auto)]
+
 pub mod call;
 pub mod declared;
 pub mod exempt;

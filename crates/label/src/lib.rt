@@ -1,4 +1,6 @@
 // Texts of labels and matchers (label/mod.rs, label/matcher.rs): the definitions stand in specs/.
+#![tactic(auto)]
+
 pub mod key;
 pub mod label;
 pub mod matcher;

@@ -1,5 +1,7 @@
 // Texts of numbers, durations and escaped strings (util/string.rs, util/duration.rs; ast.rs for numbers).
 // Each text has a length and a writer into a lent buffer; the definitions stand in specs/.
+#![tactic(auto)]
+
 pub mod capped;
 pub mod decimal;
 pub mod duration;

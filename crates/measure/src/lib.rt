@@ -1,5 +1,7 @@
 // How wide the nodes of a page are: the lengths of their texts up to one byte more than a line, measured once for every
 // node, each from its operands' lengths, and kept in a table.
+#![tactic(auto)]
+
 ghost use Rattle.std.specs.Prelude.{◌≡◌, suc, ◌-◌, ◌≤◌, min, length};
 ghost use Rattle.records.specs.Stack.{operands_of};
 ghost use Rattle.ast.specs.Tables.{Tables, stack_at, tree_at};

@@ -1,5 +1,7 @@
 // The fields of a page (document 01, 'The page', house format): numbers, counts and texts, read at a position; bytes
 // written into a buffer.
+#![tactic(auto)]
+
 pub mod ascii;
 pub mod fault;
 pub mod limit;

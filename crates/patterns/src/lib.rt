@@ -1,6 +1,8 @@
 // Patterns that match empty text (document 02, No. 7): "a choice is made of sequences, a sequence of items, and an item
 // may hold a choice". Three functions call each other over the pattern: the bytes that are left fall, and at one byte the
 // level: choice, sequence, item. No byte is gone over twice.
+#![tactic(auto)]
+
 ghost use Rattle.std.specs.Prelude.{◌≤◌, ◌≡◌, length};
 ghost use Rattle.patterns.specs.Pattern.{is_single};
 ghost use Rattle.patterns.specs.Search.{matches_empty_text};

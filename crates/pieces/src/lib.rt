@@ -1,5 +1,7 @@
 // What a node has of its own, as text: a leaf's text or what stands before a bracket, an operator, a suffix.
 // Each has a length up to a cap and a writer.
+#![tactic(auto)]
+
 pub mod times;
 
 ghost use Rattle.std.specs.Prelude.{◌≡◌, ◌++◌, ◌+◌, ◌≤◌, min, length};

@@ -1,4 +1,6 @@
 // What the program `sheet` writes for a page (document 01, 'Text'): split text, or `refused N at R`, and a line feed.
+#![tactic(auto)]
+
 ghost use Rattle.std.specs.Prelude.{◌≡◌, ◌+◌, ◌≤◌, length};
 ghost use Rattle.base.specs.Splice.{Wrote};
 ghost use Rattle.outcomes.specs.Output.{refused_line, program_output};

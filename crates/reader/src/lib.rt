@@ -1,4 +1,6 @@
 // The twelve records (document 01, 'The page', kinds 0 to 11), read at a position.
+#![tactic(auto)]
+
 ghost use Rattle.std.specs.Prelude.{ℕ, List, ◌≡◌, drop};
 ghost use Rattle.page.specs.Read.{reader_at};
 ghost use Rattle.page.specs.Answers.{number_at};

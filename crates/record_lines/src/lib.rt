@@ -1,5 +1,7 @@
 // The lines of the program show_records, which has their format: what stands in a record as numbers, for comparison
 // with the Rust.
+#![tactic(auto)]
+
 mod element;
 mod line;
 mod list;

@@ -1,5 +1,7 @@
 // The parts of records (document 01, 'The page'), read at a position. Texts and lists stay on the page and are given by
 // positions.
+#![tactic(auto)]
+
 pub mod fraction;
 pub mod kind;
 pub mod label;

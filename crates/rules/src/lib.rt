@@ -1,5 +1,7 @@
 // The refusal table on operands: what a record asks of its operands, and what it puts back (ast.rs, constructors and
 // `check_ast`).
+#![tactic(auto)]
+
 pub mod aggregate;
 pub mod binary;
 pub mod code;

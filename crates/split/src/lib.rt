@@ -1,5 +1,7 @@
 // Split text (parser/mod.rs, `Prettier`): a node longer than a line is written on several lines, its operands a level
 // deeper. `indents` says whether the first line is indented: it is not, after the minus of a unary expression.
+#![tactic(auto)]
+
 pub mod length;
 pub mod place;
 pub mod whole;

@@ -2,6 +2,8 @@
 // the records that the walk came to, in their order. It is asked before the operands of a record are counted, so its
 // first fault decides over what the walk says of that record and of all behind it; and the walk itself pays nothing for
 // it.
+#![tactic(auto)]
+
 pub mod asked;
 pub mod reached;
 

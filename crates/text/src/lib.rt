@@ -1,5 +1,7 @@
 // @ and offset of a selector, a range or a subquery, as the functions that print them take them (ast.rs, `at` and
 // `offset`).
+#![tactic(auto)]
+
 #[derive(Clone, Copy)]
 pub enum At {
     None,

@@ -1,5 +1,7 @@
 // The tokens of operators and aggregators (ast.rs, `Display`): those of the codes, and those with labels or a fill in
 // brackets. Each has a length and a writer; the definitions stand in crate text, specs/Display.
+#![tactic(auto)]
+
 pub mod fill;
 pub mod labelled;
 pub mod modifier;

@@ -1,6 +1,8 @@
 // The node that a record ends: where its records stand. A selector or a subquery with its range, @ and offset is one
 // node of up to four records, a negated number one of several. What a node writes of its own is read where it stands,
 // when it is written.
+#![tactic(auto)]
+
 pub mod literal;
 pub mod shape;
 

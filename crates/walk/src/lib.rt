@@ -1,6 +1,8 @@
 // The walk over a page's records (`check_ast` over a page), which all calls share. The stack of operands lies in two
 // arrays, filled from the end downwards, and beside them the first record of each entry's expression. In two tables it
 // leaves where each record starts, and the first record of the expression that the record ends.
+#![tactic(auto)]
+
 pub mod answer;
 
 ghost use Rattle.std.specs.Prelude.{◌+◌, ◌≤◌, ◌<◌, ◌≡◌, eqb, length, drop};

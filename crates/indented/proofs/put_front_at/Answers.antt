@@ -12,24 +12,33 @@ use Rattle.indented.proofs.put_front_at.Goals as goal
 pub put_led-requires : goal.put_led-requires
 put_led-requires c =
     let e = layout-shaped c.requires.node
-    (sym c.in-Whole.is ∙ c.shape_of.ensures) in record { node = c.requires.node; room = room_as _ _ c.args.at _ (ap (front_at c.args.indents c.args.level) e)
-          c.requires.room }
+    (sym c.in-Whole.is ∙ c.shape_of.ensures) in record {
+      node = c.requires.node;
+      room = room_as _ _ c.args.at _ (ap (front_at c.args.indents c.args.level) e)
+          c.requires.room;
+    }
 
 pub put_led-requires-in-Minus : goal.put_led-requires-in-Minus
 put_led-requires-in-Minus c =
     let e = layout-shaped c.requires.node
-    (sym c.in-Minus.is ∙ c.shape_of.ensures) in record { node = c.requires.node; room = room_as _ _ c.args.at _
+    (sym c.in-Minus.is ∙ c.shape_of.ensures) in record {
+      node = c.requires.node;
+      room = room_as _ _ c.args.at _
           (ap (front_at c.args.indents c.args.level) e
           ∙ sym (ap (λ (l : Layout). indent_if c.args.indents c.args.level ++ head l) e))
-          c.requires.room }
+          c.requires.room;
+    }
 
 pub put_led-next-requires : goal.put_led-next-requires
 put_led-next-requires c =
     let e = layout-shaped c.requires.node
-    (sym c.in-Enclosed.is ∙ c.shape_of.ensures) in record { node = c.requires.node; room = fits (run-two (indent_if c.args.indents c.args.level
+    (sym c.in-Enclosed.is ∙ c.shape_of.ensures) in record {
+      node = c.requires.node;
+      room = fits (run-two (indent_if c.args.indents c.args.level
           ++ head (layout_at c.args.page.now c.args.node)) (bytes "(\n")
           c.args.out.now c.args.at
-          (ap (front_at c.args.indents c.args.level) e) c.requires.room) }
+          (ap (front_at c.args.indents c.args.level) e) c.requires.room);
+    }
 
 pub put_bytes-requires : goal.put_bytes-requires
 put_bytes-requires c =

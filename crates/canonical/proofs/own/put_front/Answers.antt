@@ -21,8 +21,11 @@ put_head-requires-in-Minus c =
 pub put_head-next-requires : goal.put_head-next-requires
 put_head-next-requires c =
     let e = layout-shaped c.requires.node
-    (sym c.in-Enclosed.is ∙ c.shape_of.ensures) in record { node = c.requires.node; room = fits (run-two (head (layout_at c.args.page.now c.args.node)) (bytes "(")
-          c.args.out.now c.args.at (ap front e) c.requires.room) }
+    (sym c.in-Enclosed.is ∙ c.shape_of.ensures) in record {
+      node = c.requires.node;
+      room = fits (run-two (head (layout_at c.args.page.now c.args.node)) (bytes "(")
+          c.args.out.now c.args.at (ap front e) c.requires.room);
+    }
 
 pub put_byte-requires : goal.put_byte-requires
 put_byte-requires c =

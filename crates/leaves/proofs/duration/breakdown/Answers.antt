@@ -18,7 +18,7 @@ count_of-count-requires c =
 pub overflow_mul-rest : goal.overflow_mul-rest
 overflow_mul-rest c =
     let fits : c.count_of-count.result * get_or lengths c.loop-i.i 0 ≤ c.loop-i.rest =
-        rw c.count_of-count.ensures (count_of-within _ _ _) in
+    rw c.count_of-count.ensures (count_of-within _ _ _) in
     omega (arith, fits)
 
 pub overflow_sub-rest : goal.overflow_sub-rest

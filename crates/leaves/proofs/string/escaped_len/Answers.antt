@@ -10,11 +10,11 @@ pub loop-i-preserved : goal.loop-i-preserved
 loop-i-preserved c =
     let l = c.args.text.now in
     elim c.if-escape_letter-eq0.branch [
-      then-escape_letter-eq0 w ↦ omega (
+      | then-escape_letter-eq0 w ↦ omega (
         arith,
         escape-adds-one l _ _ c.loop-i-test.true c.escape_letter.ensures w.if-escape_letter-eq0.true,
       )
-    | else-escape_letter-eq0 w ↦ omega (
+      | else-escape_letter-eq0 w ↦ omega (
         arith,
         escape-adds-two l _ _ c.loop-i-test.true c.escape_letter.ensures w.if-escape_letter-eq0.false,
       )
