@@ -10,6 +10,7 @@ use Rattle.records.specs.Record.{Record, leaf, wrapper, binary, aggregate, call,
 use Rattle.records.specs.Outcome.{Outcome}
 use Rattle.ast.specs.Table.{is_of_check}
 use Rattle.ast.specs.Rules.{Rules, check_by}
+use Rattle.functions.specs.Functions.{functions}
 
 -- `get_function` (function.rs): names are compared exactly
 unfoldable pub lookup : List Function → Text → Option Function
@@ -45,11 +46,15 @@ signature_fault table (call f n) = unlike f (lookup table f.name)
 abbrev pub with_table : List Function → Rules
 with_table table = record { before = signature_fault table; after = λ r ks. none }
 
--- "A page may now be checked with the table too": with any table; document 02's No. 13 asks for it with two more
-abbrev pub check_table : List Function → List ℕ → Outcome
-check_table table = check_by (with_table table)
+-- "A page may now be checked with the table too"
+abbrev pub check_table : List ℕ → Outcome
+check_table = check_by (with_table functions)
 
--- the refusals of the check with a table: those of document 01's check, but no 29, and 37 and 38
+-- with any table: document 02's No. 13 asks for it with two more
+abbrev pub check_table_of : List Function → List ℕ → Outcome
+check_table_of table = check_by (with_table table)
+
+-- the refusals of the check with the table: those of document 01's check, but no 29, and 37 and 38
 abbrev pub is_of_table : ℕ → Bool
 is_of_table n = (is_of_check n && not (eqb n 29)) || eqb n 37 || eqb n 38
 

@@ -71,19 +71,19 @@ examples =
     ∷ row "02027570000b0361627a01000000010a1b0001010161090100" (refusal 22 4) (refusal 37 1)
     ∷ []
 
-pages : T (all (holds (check_table functions)) examples)
+pages : T (all (holds check_table) examples)
 unfolding read_record read_page check_ast apply check_page check_page_by functions lookup
 pages = tt
 
 -- `up` in 255 brackets, then an unknown call: the 257th record is not read, and refused with 3
-unread : T (is_same (refusal 3 256) (check_table functions (hex "0202757000" ++ replicate 255 0x08 ++ hex "0b0361627a0100000001")))
+unread : T (is_same (refusal 3 256) (check_table (hex "0202757000" ++ replicate 255 0x08 ++ hex "0b0361627a0100000001")))
 unfolding read_record read_page check_ast apply check_page_by functions lookup
 unread = tt
 
 -- a refusal's number, the record of its example, the example. Those of document 01's check have theirs in
 -- ast/specs/RefusalTable; these two are refused by the check with the table alone
 abbrev is_refused : ℕ → ℕ → List ℕ → Bool
-is_refused = is_added (check_table functions)
+is_refused = is_added check_table
 
 every_added : T (
     -- 37: a name that the table does not have: `Abs(up)` (`unlike`)
@@ -98,13 +98,13 @@ every_added = tt
 -- the table asked of the last call alone; 29 for an unlimited call without kinds; a call accepted by a beginning of its
 -- name
 wrong : T (
-    is_other (check_table functions) (refusal 2 0) "0b0361627a0100000001"
-    && is_other (check_table functions) (refusal 37 0) "02027570000b034162730100000001"
-    && is_other (check_table functions) (refusal 38 1) "02027570000b034162730100000001"
-    && is_other (check_table functions) (refusal 37 1) "02027570000b036162730100010001"
-    && is_other (check_table functions) (answer vector 0) "02027570000b034162730100000001 0b036162730100000001"
-    && is_other (check_table functions) (refusal 29 1) "02027570000b016600010001"
-    && is_other (check_table functions) (answer vector 0) "02027570000b056162736573010000 0001"
+    is_other check_table (refusal 2 0) "0b0361627a0100000001"
+    && is_other check_table (refusal 37 0) "02027570000b034162730100000001"
+    && is_other check_table (refusal 38 1) "02027570000b034162730100000001"
+    && is_other check_table (refusal 37 1) "02027570000b036162730100010001"
+    && is_other check_table (answer vector 0) "02027570000b034162730100000001 0b036162730100000001"
+    && is_other check_table (refusal 29 1) "02027570000b016600010001"
+    && is_other check_table (answer vector 0) "02027570000b056162736573010000 0001"
     )
 unfolding read_record read_page check_ast apply check_page check_page_by functions lookup
 wrong = tt

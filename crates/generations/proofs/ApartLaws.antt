@@ -20,7 +20,7 @@ use Rattle.ast.specs.CheckPage.{apply, outcome_of}
 use Rattle.ast.specs.Rules.{guarded, apply_by}
 use Rattle.ast.proofs.EachLaws.{each-places, each_take, each_last}
 use Rattle.ast.proofs.RulesLaws.{check_page_by-same}
-use Rattle.functions.specs.Lookup.{lookup, equal_signature, unlike, signature_fault, with_table, check_table}
+use Rattle.functions.specs.Lookup.{lookup, equal_signature, unlike, signature_fault, with_table, check_table_of}
 use Rattle.functions.proofs.OrderLaws.{equal-texts}
 use Rattle.functions.proofs.SignedLaws.{like-passes}
 use Rattle.functions.proofs.CheckTableLaws.{Faultless, Refuser, call-refused, own-refusal}
@@ -57,7 +57,7 @@ pub record Calls (page : List ℕ) (name : Text) : Type 0 where
   pub stands : drop place (read_page page).records ≡ call function count ∷ later
   pub named : function.name ≡ name
 
-module _ (table : List Function) (page : List ℕ) (passes : Accepts (check_table table page)) where
+module _ (table : List Function) (page : List ℕ) (passes : Accepts (check_table_of table page)) where
   faultless : Faultless table (read_page page).records
   faultless = (table-accepted table page passes.kind passes.written passes.is).faultless
 
@@ -99,7 +99,7 @@ module _ (one other : List Function) (x y : Text) (apart : Apart one other x y) 
 
   -- a page that calls neither they judge alike
   pub uncalled-alike : (page : List ℕ) → (Calls page x → ⊥) → (Calls page y → ⊥)
-      → check_table one page ≡ check_table other page
+      → check_table_of one page ≡ check_table_of other page
   uncalled-alike page no-x no-y =
       ap outcome_of (check_page_by-same (with_table one) (with_table other) page
       (each-places (λ r. (s : List Expr) → apply_by (with_table one) r s ≡ apply_by (with_table other) r s)
@@ -122,7 +122,7 @@ module _ (one other : List Function) (x y : Text) (apart : Apart one other x y) 
           ap (λ (b : Option ℕ). guarded b (and_then (apply (call f n) s) (λ t. unless none t))) (ap (unlike f) same)
 
   -- what the one accepts and the other refuses has a call of x
-  pub apart-calls : (page : List ℕ) → Accepts (check_table one page) → Refuses (check_table other page) → Calls page x
+  pub apart-calls : (page : List ℕ) → Accepts (check_table_of one page) → Refuses (check_table_of other page) → Calls page x
   apart-calls page passes fails = by (table-refused other page fails.number fails.index fails.is).refuser
     where
       found : (f : Function) (n : ℕ) (later : List Record) → CallAt (read_page page).records fails.index f n later
@@ -178,8 +178,8 @@ module _ (one other : List Function) (x : Text) (rows : T (all (is_row_of other)
       row-like other f (like-passes (is_row_of other) (without x one) rows f (ap (unlike f) others ∙ e))
 
   -- what the one accepts without a call of x, the other accepts with the same kind
-  pub rows-accept : (page : List ℕ) → Accepts (check_table one page) → (Calls page x → ⊥)
-      → check_table other page ≡ check_table one page
+  pub rows-accept : (page : List ℕ) → Accepts (check_table_of one page) → (Calls page x → ⊥)
+      → check_table_of other page ≡ check_table_of one page
   rows-accept page passes no-x =
       table-accepts other page (each-places (λ r. signature_fault other r ≡ none) (read_page page).records by)
       ∙ accepts-check one page passes

@@ -11,9 +11,9 @@ use Rattle.records.specs.Kind.{Kind}
 use Rattle.records.specs.Signature.{Function}
 use Rattle.records.specs.Outcome.{Outcome, answer, refusal}
 use Rattle.ast.specs.CheckPage.{check_page, outcome_of, check}
-use Rattle.functions.specs.Lookup.{check_table}
-use Rattle.functions.specs.TableContract.{TableDemand3, TableContract}
-use Rattle.functions.proofs.CheckTableLaws.{none_bare, table-accepted, table-demand3}
+use Rattle.functions.specs.Lookup.{check_table_of}
+use Rattle.functions.specs.TableContract.{TableDemand3Of, TableContractOf}
+use Rattle.functions.proofs.CheckTableLaws.{none_bare, table-accepted, table_of-demand3}
 use Rattle.walk.specs.Answers as walked
 use Rattle.generations.specs.Older.{older_functions}
 use Rattle.generations.specs.Newer.{newer_functions}
@@ -51,18 +51,18 @@ refused o r = ap accepts r.is
 -- ## What an answer says of a page
 
 abbrev pub Tells : List ℕ → Generations → Type 0
-Tells page Neither = Refuses (check_table older_functions page) × Refuses (check_table newer_functions page)
-Tells page Older = Accepts (check_table older_functions page) × Refuses (check_table newer_functions page)
-Tells page Newer = Refuses (check_table older_functions page) × Accepts (check_table newer_functions page)
-Tells page Both = Accepts (check_table older_functions page) × Accepts (check_table newer_functions page)
+Tells page Neither = Refuses (check_table_of older_functions page) × Refuses (check_table_of newer_functions page)
+Tells page Older = Accepts (check_table_of older_functions page) × Refuses (check_table_of newer_functions page)
+Tells page Newer = Refuses (check_table_of older_functions page) × Accepts (check_table_of newer_functions page)
+Tells page Both = Accepts (check_table_of older_functions page) × Accepts (check_table_of newer_functions page)
 
 module _ (page : List ℕ) where
   pub generations-tells : Tells page (generations page)
   generations-tells =
-      by (accepts (check_table older_functions page)) (accepts (check_table newer_functions page))
-      (decided (check_table older_functions page)) (decided (check_table newer_functions page))
+      by (accepts (check_table_of older_functions page)) (accepts (check_table_of newer_functions page))
+      (decided (check_table_of older_functions page)) (decided (check_table_of newer_functions page))
     where
-      by : (a b : Bool) → Decided (check_table older_functions page) a → Decided (check_table newer_functions page) b
+      by : (a b : Bool) → Decided (check_table_of older_functions page) a → Decided (check_table_of newer_functions page) b
           → Tells page (accepted_by a b)
       by true true older newer = (older, newer)
       by true false older newer = (older, newer)
@@ -79,18 +79,18 @@ module _ (page : List ℕ) where
 
 module _ (table : List Function) (page : List ℕ) where
   -- document 01's check gives the same answer
-  pub accepts-check : Accepts (check_table table page) → check page ≡ check_table table page
+  pub accepts-check : Accepts (check_table_of table page) → check page ≡ check_table_of table page
   accepts-check a = (table-accepted table page a.kind a.written a.is).passes ∙ sym a.is
 
   -- and demand 3 holds of it with the table's signatures
-  pub accepts-demand3 : Accepts (check_table table page) → TableDemand3 table page (check page)
-  accepts-demand3 a = subst (TableDemand3 table page) (sym (accepts-check a)) (table-demand3 table page)
+  pub accepts-demand3 : Accepts (check_table_of table page) → TableDemand3Of table page (check page)
+  accepts-demand3 a = subst (TableDemand3Of table page) (sym (accepts-check a)) (table_of-demand3 table page)
 
 -- an answer other than neither: document 01's check accepts the page
 pub generations-check : (page : List ℕ) → (generations page ≡ Neither → ⊥) → Accepts (check page)
 generations-check page other = by (generations page) (generations-tells page) other
   where
-    own : (table : List Function) → Accepts (check_table table page) → Accepts (check page)
+    own : (table : List Function) → Accepts (check_table_of table page) → Accepts (check page)
     own table a = subst Accepts (sym (accepts-check table page a)) a
 
     by : (g : Generations) → Tells page g → (g ≡ Neither → ⊥) → Accepts (check page)
@@ -118,19 +118,19 @@ pub refused-neither : {page starts firsts : List ℕ} {n i : ℕ} → walked.Ref
 refused-neither {page} {starts} {firsts} {n} {i} says =
     sym (tells-generations page Neither (refuses older_functions, refuses newer_functions))
   where
-    by : (table : List Function) (o : Outcome) → check_table table page ≡ o → Refuses o
+    by : (table : List Function) (o : Outcome) → check_table_of table page ≡ o → Refuses o
     by table (answer k m) q =
         let own = accepts-check table page (record { kind = k; written = m; is = q }) in
         let both : ◌≡◌ {A = Outcome} (refusal n i) (answer k m) = sym (ap outcome_of says.refuses) ∙ own ∙ q in
         absurd (let z : ◌≡◌ {A = ℕ} 0 1 = cc in omega arith)
     by table (refusal m j) q = record { number = m; index = j; is = refl }
 
-    refuses : (table : List Function) → Refuses (check_table table page)
-    refuses table = by table (check_table table page) refl
+    refuses : (table : List Function) → Refuses (check_table_of table page)
+    refuses table = by table (check_table_of table page) refl
 
 -- from the outcomes of both checks
 pub outcomes-generations : {page : List ℕ} {older newer : Outcome} {a b : Bool} {r : Generations}
-    → TableContract older_functions page older → TableContract newer_functions page newer
+    → TableContractOf older_functions page older → TableContractOf newer_functions page newer
     → a ≡ accepts older → b ≡ accepts newer → r ≡ accepted_by a b → r ≡ generations page
 outcomes-generations older newer a b r =
     r ∙ ap₂ accepted_by (a ∙ ap accepts older.is_check_table) (b ∙ ap accepts newer.is_check_table)

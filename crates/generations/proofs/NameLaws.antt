@@ -6,7 +6,7 @@ use Prim.Native.Nat.{ℕ}
 use mathlib.Core.Path.{◌≡◌, sym, subst}
 use mathlib.Core.List.{List}
 use Rattle.functions.specs.Functions.{functions}
-use Rattle.functions.specs.Lookup.{check_table}
+use Rattle.functions.specs.Lookup.{check_table_of}
 use Rattle.generations.specs.Older.{older_functions}
 use Rattle.generations.specs.Newer.{newer_functions}
 use Rattle.generations.specs.Generations.{generations}
@@ -29,7 +29,7 @@ module _ (page : List ℕ) where
 
   -- of a page that calls neither name both checks say the same, also why it is refused
   pub uncalled-same : (Calls page holt_winters → ⊥) → (Calls page double_exponential_smoothing → ⊥)
-      → check_table older_functions page ≡ check_table newer_functions page
+      → check_table_of older_functions page ≡ check_table_of newer_functions page
   uncalled-same =
       uncalled-alike older_functions newer_functions holt_winters double_exponential_smoothing older-apart page
 
@@ -53,13 +53,13 @@ module _ (page : List ℕ) where
   )
 
   -- what the newer accepts, the check with the repository's table accepts
-  pub newer-table : Accepts (check_table newer_functions page)
-      → check_table functions page ≡ check_table newer_functions page
+  pub newer-table : Accepts (check_table_of newer_functions page)
+      → check_table_of functions page ≡ check_table_of newer_functions page
   newer-table passes =
       rows-accept newer_functions functions holt_winters newer-rows page passes
       (accepts-known newer_functions page passes holt_winters newer-lacks)
 
   -- and what the older accepts, where no holt_winters is called
-  pub older-table : Accepts (check_table older_functions page) → (Calls page holt_winters → ⊥)
-      → check_table functions page ≡ check_table older_functions page
+  pub older-table : Accepts (check_table_of older_functions page) → (Calls page holt_winters → ⊥)
+      → check_table_of functions page ≡ check_table_of older_functions page
   older-table passes apart = rows-accept older_functions functions holt_winters older-rows page passes apart

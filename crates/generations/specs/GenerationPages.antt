@@ -10,7 +10,7 @@ use Rattle.ast.specs.CheckAst.{check_ast}
 use Rattle.ast.specs.CheckPage.{apply}
 use Rattle.ast.specs.Rules.{check_page_by}
 use Rattle.ast.specs.Beside.{is_same}
-use Rattle.functions.specs.Lookup.{lookup, check_table}
+use Rattle.functions.specs.Lookup.{lookup, check_table_of}
 use Rattle.generations.specs.Older.{older_functions}
 use Rattle.generations.specs.Newer.{newer_functions}
 use Rattle.generations.specs.Generations.{generations, generations_number}
@@ -32,7 +32,7 @@ is_answer g page = eqb (generations_number g) (generations_number (generations p
 
 abbrev holds : Example → Bool
 holds e =
-    is_same e.older (check_table older_functions e.page) && is_same e.newer (check_table newer_functions e.page)
+    is_same e.older (check_table_of older_functions e.page) && is_same e.newer (check_table_of newer_functions e.page)
     && is_answer e.accepting e.page
 
 abbrev examples : List Example

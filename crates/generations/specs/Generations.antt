@@ -2,7 +2,7 @@
 -- each by No. 2's check with its own table: neither, one (and which) or both").
 use Rattle.std.specs.Prelude.{ℕ, Bool, true, false, List}
 use Rattle.records.specs.Outcome.{Outcome, answer, refusal}
-use Rattle.functions.specs.Lookup.{check_table}
+use Rattle.functions.specs.Lookup.{check_table_of}
 use Rattle.generations.specs.Newer.{newer_functions}
 use Rattle.generations.specs.Older.{older_functions}
 use Rattle.generations.specs.declared.Generations.{Generations}
@@ -21,7 +21,7 @@ accepted_by false true = Newer
 accepted_by false false = Neither
 
 abbrev pub generations : List ℕ → Generations
-generations page = accepted_by (accepts (check_table older_functions page)) (accepts (check_table newer_functions page))
+generations page = accepted_by (accepts (check_table_of older_functions page)) (accepts (check_table_of newer_functions page))
 
 -- as a number, for C (house format)
 abbrev pub generations_number : Generations → ℕ

@@ -6,7 +6,7 @@ pub mod newer;
 pub mod older;
 
 ghost use Rattle.std.specs.Prelude.{◌≡◌};
-ghost use Rattle.functions.specs.TableContract.{TableContract};
+ghost use Rattle.functions.specs.TableContract.{TableContractOf};
 ghost use Rattle.walk.specs.Answers.{outcome_meant};
 ghost use Rattle.generations.specs.Newer.{newer_functions};
 ghost use Rattle.generations.specs.Older.{older_functions};
@@ -25,7 +25,7 @@ pub enum Generations {
 
 // The check with the older generation's table.
 pub fn check_older(page: &[u8]) -> Outcome
-    ensures { TableContract older_functions page.now (outcome_meant result) }
+    ensures { TableContractOf older_functions page.now (outcome_meant result) }
 {
     let letters = older::LETTERS;
     let names = older::STARTS;
@@ -34,7 +34,7 @@ pub fn check_older(page: &[u8]) -> Outcome
 
 // The check with the newer generation's table.
 pub fn check_newer(page: &[u8]) -> Outcome
-    ensures { TableContract newer_functions page.now (outcome_meant result) }
+    ensures { TableContractOf newer_functions page.now (outcome_meant result) }
 {
     let letters = newer::LETTERS;
     let names = newer::STARTS;

@@ -1,7 +1,6 @@
 -- The words of outcomes fit 64 bits. Assumes nothing.
 use Prim.Native.Nat.{ℕ, ◌≤◌}
 use native.Mathlib.Omega.{arith}
-use mathlib.Core.Path.{sym, subst}
 use mathlib.Core.Bool.{Bool, true, false, ◌&&◌, ◌||◌, not}
 use mathlib.Core.List.{List}
 use lib.Dec.{T, eqb, eqb→eq}
@@ -17,9 +16,8 @@ use Rattle.ast.specs.Limits.{check_operators, is_of_operators}
 use Rattle.ast.proofs.CheckLaws.{check-in}
 use Rattle.ast.proofs.LimitLaws.{limit-in}
 use Rattle.functions.specs.Functions.{functions}
-use Rattle.functions.specs.Lookup.{is_of_table}
-use Rattle.functions.specs.TableContract.{TableContract}
-use Rattle.functions.proofs.CheckTableLaws.{none_bare, table-in}
+use Rattle.functions.specs.Lookup.{check_table, check_table_of, is_of_table}
+use Rattle.functions.proofs.CheckTableLaws.{none_bare, functions-kinded, table_of-in}
 use Rattle.outcomes.specs.Calls.{Called}
 use Rattle.outcomes.specs.Demand1.{Demand1}
 use Rattle.outcomes.specs.Signature.{signature, signature_numbers, OfSignature}
@@ -58,17 +56,19 @@ or-small n m true small h t = small tt
 or-small n m false small h t = omega (arith, eqb→eq n m t)
 
 -- and what the check with a table answers
-pub check_table-fits : {table : List Function} {page : List ℕ} {o : Outcome} → T (none_bare table)
-    → TableContract table page o → FitsWord o
-check_table-fits {table} {page} {o} kinded contract =
-    fits is_of_table small page o
-    (subst (InTable is_of_table page) (sym contract.is_check_table) (table-in table kinded page))
+pub check_table_of-fits : (table : List Function) → T (none_bare table) → (page : List ℕ) → FitsWord (check_table_of table page)
+check_table_of-fits table kinded page =
+    fits is_of_table small page (check_table_of table page) (table_of-in table kinded page)
   where
     small : (n : ℕ) → T (is_of_table n) → n ≤ 255
     small n =
         or-small n 38 ((is_of_check n && not (eqb n 29)) || eqb n 37)
         (or-small n 37 (is_of_check n && not (eqb n 29)) (λ t. of_check-small n (left-of (is_of_check n) (not (eqb n 29)) t)) (omega arith))
         (omega arith)
+
+-- and what the check with the function table answers
+pub check_table-fits : (page : List ℕ) → FitsWord (check_table page)
+check_table-fits = check_table_of-fits functions functions-kinded
 
 -- and what the check that follows the operators document answers
 pub check_operators-fits : (page : List ℕ) → FitsWord (check_operators page)

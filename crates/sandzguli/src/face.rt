@@ -3,8 +3,7 @@ ghost use Rattle.std.specs.Prelude.{◌≡◌};
 ghost use Rattle.ast.specs.CheckPage.{check};
 ghost use Rattle.ast.specs.Limits.{check_operators};
 ghost use Rattle.ast.specs.Part.{label_part};
-ghost use Rattle.functions.specs.Functions.{functions};
-ghost use Rattle.functions.specs.Lookup.{check_table};
+ghost use Rattle.functions.specs.Lookup.{check_table, check_table_of};
 ghost use Rattle.generations.specs.Generations.{generations, generations_number};
 ghost use Rattle.generations.specs.Newer.{newer_functions};
 ghost use Rattle.generations.specs.Older.{older_functions};
@@ -28,7 +27,7 @@ use walk::{check, check_operators};
 
 const MAJOR: u64 = 0;
 
-const MINOR: u64 = 6;
+const MINOR: u64 = 5;
 
 const PATCH: u64 = 0;
 
@@ -72,21 +71,21 @@ pub fn sandzguli_split(page: &[u8], out: &mut [u8]) -> u64
 
 // The check with the function table too.
 pub fn sandzguli_check_table(page: &[u8]) -> u64
-    ensures { result ≡ outcome_word (check_table functions page.now) }
+    ensures { result ≡ outcome_word (check_table page.now) }
 {
     outcome_word(check_table(page))
 }
 
 // The check with the functions of Prometheus 2.55.
 pub fn sandzguli_check_older(page: &[u8]) -> u64
-    ensures { result ≡ outcome_word (check_table older_functions page.now) }
+    ensures { result ≡ outcome_word (check_table_of older_functions page.now) }
 {
     outcome_word(check_older(page))
 }
 
 // The check with the functions of Prometheus 3.0.
 pub fn sandzguli_check_newer(page: &[u8]) -> u64
-    ensures { result ≡ outcome_word (check_table newer_functions page.now) }
+    ensures { result ≡ outcome_word (check_table_of newer_functions page.now) }
 {
     outcome_word(check_newer(page))
 }

@@ -16,11 +16,11 @@ use Rattle.ast.specs.Expr.{Expr}
 use Rattle.ast.specs.Walk.{Checked, refused_at}
 use Rattle.ast.specs.CheckPage.{check_page, outcome_of, check}
 use Rattle.ast.specs.Table.{record_count}
+use Rattle.ast.specs.Rules.{check_by}
 use Rattle.ast.specs.Reached.{reached_count, FirstAsked}
 use Rattle.ast.proofs.CheckLaws.{CheckedIn, check_page-in}
 use Rattle.ast.proofs.RulesLaws.{check_page_by-none, check_page_by-first}
-use Rattle.functions.specs.Lookup.{signature_fault, with_table, check_table}
-use Rattle.functions.proofs.CheckTableLaws.{table-contract}
+use Rattle.functions.specs.Lookup.{signature_fault, with_table}
 use Rattle.rules.specs.Answers.{refusal_number}
 use Rattle.walk.specs.Answers.{Accepts, Refuses}
 use Rattle.walk.proofs.ProgressLaws.{too_long}
@@ -59,7 +59,7 @@ module _ {page starts firsts : List ℕ} where
 
 module _ {page letters names : List ℕ} {count : ℕ} {own outcome : Outcome} (faults : FaultFirst page count letters names own outcome)
     (reached : count ≡ reached_count page (check_page page)) (is-own : own ≡ check page) where
-  by-fault : (table : List Function) (found : FirstFault) → Finds table page count found → fault_or found own ≡ check_table table page
+  by-fault : (table : List Function) (found : FirstFault) → Finds table page count found → fault_or found own ≡ check_by (with_table table) page
   by-fault table first.None finds =
       is-own ∙ ap outcome_of (sym (check_page_by-none (with_table table) (λ r ks. refl) page
       (subst (λ (n : ℕ). Each (λ r. signature_fault table r ≡ none) (take n (read_page page).records)) reached finds)))
@@ -68,8 +68,7 @@ module _ {page letters names : List ℕ} {count : ℕ} {own outcome : Outcome} (
       (subst (λ (n : ℕ). FirstAsked (signature_fault table) (read_page page).records n (refusal_number r) i) reached finds)))
 
   checks-with : ChecksWith page letters names outcome
-  checks-with table formed =
-      table-contract table page outcome (faults.is ∙ by-fault table faults.found (faults.finds table formed))
+  checks-with table formed = faults.is ∙ by-fault table faults.found (faults.finds table formed)
 
 module _ {page starts firsts letters names : List ℕ} {outcome : Outcome} where
   pub accepted-with : {k : Kind} {n : ℕ} → Accepts (check_page page) page starts firsts k n → FaultFirst page n letters names (answer k 0) outcome

@@ -6,10 +6,10 @@ use Rattle.page.specs.Read.{got}
 use Rattle.records.specs.Record.{Record, read_record, read_page}
 use Rattle.records.specs.Signature.{Function}
 use Rattle.records.specs.Outcome.{Outcome, refusal}
+use Rattle.ast.specs.Rules.{check_by}
 use Rattle.ast.specs.Reached.{FirstAsked}
 use Rattle.functions.specs.Table.{Formed}
-use Rattle.functions.specs.Lookup.{signature_fault}
-use Rattle.functions.specs.TableContract.{TableContract}
+use Rattle.functions.specs.Lookup.{signature_fault, with_table}
 use Rattle.rules.specs.Answers.{refusal_number}
 use Rattle.judge.specs.declared.call.Finding.{Finding}
 use Rattle.judge.specs.Call.{finding_meant}
@@ -42,4 +42,4 @@ pub record FaultFirst (page : List ℕ) (count : ℕ) (letters names : List ℕ)
 
 -- the check with the table
 abbrev pub ChecksWith : List ℕ → List ℕ → List ℕ → Outcome → Type 0
-ChecksWith page letters names outcome = (table : List Function) → Formed letters names table → TableContract table page outcome
+ChecksWith page letters names outcome = (table : List Function) → Formed letters names table → outcome ≡ check_by (with_table table) page

@@ -8,7 +8,6 @@ pub mod asked;
 pub mod reached;
 
 ghost use Rattle.std.specs.Prelude.{◌≡◌, T};
-ghost use Rattle.functions.specs.Functions.{functions};
 ghost use Rattle.functions.specs.Table.{is_table};
 ghost use Rattle.functions.specs.TableContract.{TableContract};
 ghost use Rattle.walk.specs.Answers.{outcome_meant};
@@ -68,7 +67,7 @@ pub fn check_with(page: &[u8], letters: &[u8], names: &[u16]) -> Outcome
 
 // The check with the repository's function table.
 pub fn check_table(page: &[u8]) -> Outcome
-    ensures { TableContract functions page.now (outcome_meant result) }
+    ensures { TableContract page.now (outcome_meant result) }
 {
     let letters = table::LETTERS;
     let names = table::STARTS;

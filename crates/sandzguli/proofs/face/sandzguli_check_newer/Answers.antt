@@ -1,14 +1,15 @@
 -- `sandzguli::face::sandzguli_check_newer` meets its contract: the numbers of the check with a table are known, so that
 -- its word fits. Assumes nothing.
-use mathlib.Core.Path.{ap, ◌∙◌}
+use mathlib.Core.Path.{ap, ◌∙◌, subst, sym}
 use Rattle.generations.proofs.GenerationsLaws.{newer-kinded}
-use Rattle.sandzguli.specs.Words.{outcome_word}
-use Rattle.sandzguli.proofs.WordLaws.{check_table-fits}
+use Rattle.generations.specs.Newer.{newer_functions}
+use Rattle.sandzguli.specs.Words.{outcome_word, FitsWord}
+use Rattle.sandzguli.proofs.WordLaws.{check_table_of-fits}
 use Rattle.sandzguli.proofs.face.sandzguli_check_newer.Goals as goal
 
 pub outcome_word-requires : goal.outcome_word-requires
 outcome_word-requires c =
-    check_table-fits newer-kinded c.check_newer.ensures
+    subst FitsWord (sym c.check_newer.ensures.is_check_table) (check_table_of-fits newer_functions newer-kinded c.args.page.now)
 
 pub returns : goal.returns
 returns c =
