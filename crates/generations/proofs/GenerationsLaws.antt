@@ -12,7 +12,7 @@ use Rattle.records.specs.Signature.{Function}
 use Rattle.records.specs.Outcome.{Outcome, answer, refusal}
 use Rattle.ast.specs.CheckPage.{check_page, outcome_of, check}
 use Rattle.functions.specs.Lookup.{check_table_of}
-use Rattle.functions.specs.TableContract.{TableDemand3Of, TableContractOf}
+use Rattle.functions.specs.TableContract.{TableDemand3Of}
 use Rattle.functions.proofs.CheckTableLaws.{none_bare, table-accepted, table_of-demand3}
 use Rattle.walk.specs.Answers as walked
 use Rattle.generations.specs.Older.{older_functions}
@@ -129,8 +129,8 @@ refused-neither {page} {starts} {firsts} {n} {i} says =
     refuses table = by table (check_table_of table page) refl
 
 -- from the outcomes of both checks
-pub outcomes-generations : {page : List ℕ} {older newer : Outcome} {a b : Bool} {r : Generations}
-    → TableContractOf older_functions page older → TableContractOf newer_functions page newer
+pub outcomes-generations : (page : List ℕ) {older newer : Outcome} {a b : Bool} {r : Generations}
+    → older ≡ check_table_of older_functions page → newer ≡ check_table_of newer_functions page
     → a ≡ accepts older → b ≡ accepts newer → r ≡ accepted_by a b → r ≡ generations page
-outcomes-generations older newer a b r =
-    r ∙ ap₂ accepted_by (a ∙ ap accepts older.is_check_table) (b ∙ ap accepts newer.is_check_table)
+outcomes-generations page older newer a b r =
+    r ∙ ap₂ accepted_by (a ∙ ap accepts older) (b ∙ ap accepts newer)

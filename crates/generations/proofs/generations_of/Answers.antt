@@ -19,7 +19,7 @@ pub returns-in-Accepted : goal.returns-in-Accepted
 unfolding older_functions newer_functions
 returns-in-Accepted c =
     let says = rw c.in-Accepted.is at c.walk.ensures.says in
-    outcomes-generations
+    outcomes-generations c.args.page.now
     (accepted-with says c.outcome_with-older.ensures older_functions (record { is-table = tt; holds = refl }))
     (accepted-with says c.outcome_with-newer.ensures newer_functions (record { is-table = tt; holds = refl }))
     c.is_accepted.ensures
