@@ -16,14 +16,14 @@ use Rattle.calls.proofs.copy.Goals.{In-Accepted}
 
 -- where the page is accepted: what the walk left in the tables
 known : (c : In-Accepted) →
-    Accepts (check_page c.args.page.now) c.args.page.now c.walk-walked.new.1.0
-    c.walk-walked.new.1.1.0
+    Accepts (check_page c.args.page.now) c.args.page.now c.walk-walked.new.starts
+    c.walk-walked.new.firsts
     (kind_of c.in-Accepted.kind) c.in-Accepted.n
 known c =
     rw c.in-Accepted.is at c.walk-walked.ensures.says
 
 starts-known : (c : In-Accepted) →
-    PageStarts c.args.page.now c.walk-walked.new.1.0 c.in-Accepted.n
+    PageStarts c.args.page.now c.walk-walked.new.starts c.in-Accepted.n
 starts-known c =
     accepted-starts (known_bytes c.args.page.now c.type_inv.page)
     (known c).tables (known c).tree

@@ -13,8 +13,8 @@ use Rattle.calls.proofs.split.Goals.{In-Accepted}
 
 -- where the page is accepted: what the walk left in the tables
 known : (c : In-Accepted) →
-    Accepts (check_page c.args.page.now) c.args.page.now c.walk-walked.new.1.0
-    c.walk-walked.new.1.1.0
+    Accepts (check_page c.args.page.now) c.args.page.now c.walk-walked.new.starts
+    c.walk-walked.new.firsts
     (kind_of c.in-Accepted.kind) c.in-Accepted.n
 known c =
     rw c.in-Accepted.is at c.walk-walked.ensures.says
