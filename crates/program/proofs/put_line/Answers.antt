@@ -13,7 +13,7 @@ use Rattle.program.proofs.put_line.Goals.{After-refusal_number, In-Accepted}
 -- what `split` did, where the page is accepted
 accepted : (c : In-Accepted) →
     Does (split_text c.args.page.now (take 65536 c.args.out.now))
-    (answer (kind_of c.in-Accepted.kind) c.in-Accepted.n) c.split.new.1.0
+    (answer (kind_of c.in-Accepted.kind) c.in-Accepted.n) c.split.new.out
 accepted c =
     rw c.in-Accepted.is at c.split.ensures
 
@@ -21,7 +21,7 @@ accepted c =
 refused : (c : After-refusal_number) →
     Does (split_text c.args.page.now (take 65536 c.args.out.now))
     (refusal c.refusal_number.result c.in-Refused.index)
-    c.split.new.1.0
+    c.split.new.out
 refused c =
     rw c.refusal_number.ensures (rw c.in-Refused.is at c.split.ensures)
 
