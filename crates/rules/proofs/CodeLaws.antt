@@ -12,7 +12,7 @@ use Rattle.base.proofs.Cases.{by-lt}
 use Rattle.base.proofs.Table.{every, at}
 use Rattle.page.specs.Bytes.{bytes, any, equal}
 use Rattle.records.specs.Code.{tokens, is_one_of}
-use Rattle.rules.proofs.StackLaws.{get_d_past}
+use Rattle.rules.proofs.StackLaws.{get_or-past}
 
 same : (a b : Bool) → T (beq a b) → a ≡ b
 same true true h = refl
@@ -29,7 +29,7 @@ pub is_one_of-test : (ws : List String) (test : ℕ → Bool) → T (every (λ c
     → (c : ℕ) → (31 ≤ c → test c ≡ false) → test c ≡ is_one_of ws c
 is_one_of-test ws test table full c beyond =
     by-lt c 31 (λ h. same (test c) (is_one_of ws c) (at (λ c x. beq (test c) (is_one_of ws c)) codes table c h))
-    (λ h. beyond h ∙ sym (rw (get_d_past tokens (c - 1) "" (omega arith)) full))
+    (λ h. beyond h ∙ sym (rw (get_or-past tokens (c - 1) "" (omega arith)) full))
 
 -- a code from 31 on is none below
 pub is-not : (c n : ℕ) → 31 ≤ c → n < 31 → eqb c n ≡ false

@@ -38,13 +38,13 @@ operand_from-tag_of (other_operand scalar) = refl
 operand_from-tag_of (other_operand matrix) = refl
 operand_from-tag_of (other_operand string) = refl
 
-pub get_d_past : {A : Type 0} (l : List A) (i : ℕ) (d : A) → length l ≤ i → get_or l i d ≡ d
-get_d_past [] i d h = refl
-get_d_past (x ∷ xs) zero d h = absurd (let z : ⊥ = omega arith in z)
-get_d_past (x ∷ xs) (suc i) d h = get_d_past xs i d (omega arith)
+pub get_or-past : {A : Type 0} (l : List A) (i : ℕ) (d : A) → length l ≤ i → get_or l i d ≡ d
+get_or-past [] i d h = refl
+get_or-past (x ∷ xs) zero d h = absurd (let z : ⊥ = omega arith in z)
+get_or-past (x ∷ xs) (suc i) d h = get_or-past xs i d (omega arith)
 
 pub operand_from-last : (f : ℕ) (x : Float) → 20 ≤ f → operand_from f x ≡ other_operand string
-operand_from-last f x h = get_d_past (tag_table x) f (other_operand string) h
+operand_from-last f x h = get_or-past (tag_table x) f (other_operand string) h
 
 -- ## operands
 
