@@ -1,7 +1,7 @@
 -- Literals as operands: what holds of every float and of every sign holds of the operand of a literal. Its negation and
 -- the literal exception are those of the literal: of a fraction the sign decides. Assumes nothing.
 use mathlib.Core.Path.{◌≡◌, refl, sym, ap}
-use mathlib.Core.Bool.{Bool, true, false, ◌&&◌, ◌||◌, not}
+use mathlib.Core.Bool.{Bool, true, false, ◌&&◌, ◌||◌}
 use lib.Ieee.{Float}
 use Rattle.page.specs.Text.{Text}
 use Rattle.records.specs.Literal.{whole, fraction, infinite, Literal, plus, minus, nan, negate}

@@ -2,12 +2,12 @@
 -- floats decide, of fractions sign, digits and places. Assumes nothing.
 use Prim.Native.Nat.{ℕ}
 use native.Mathlib.Omega.{arith}
-use mathlib.Core.Bool.{Bool, true, false, ◌&&◌, ◌||◌, not}
-use mathlib.Core.Path.{◌≡◌, refl, sym, ◌∙◌}
+use mathlib.Core.Bool.{Bool, true, false, ◌||◌}
+use mathlib.Core.Path.{◌≡◌, refl, ◌∙◌}
 use borrow.Author.Tests.{ne_eqb}
 use lib.Dec.{eqb}
 use lib.Ieee as Ieee
-use Rattle.records.specs.Literal.{Magnitude, whole, fraction, infinite, Literal, plus, minus, nan, signed, equal_by_value}
+use Rattle.records.specs.Literal.{whole, fraction, infinite, Literal, plus, minus, nan, signed, equal_by_value}
 use Rattle.records.specs.Float.{float, HasFloat, IsExact, IsExactMagnitude}
 use Rattle.records.proofs.FloatLaws.{float_equal, nan_left}
 use Rattle.records.proofs.FractionLaws.{digits-bounds, places-bounds}

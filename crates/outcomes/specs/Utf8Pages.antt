@@ -1,6 +1,6 @@
 -- Pages with texts beyond ASCII (document 02, No. 10), computed together: what the calls answer and print. Texts that
 -- print characters of more than one byte are given in hexadecimal.
-use Rattle.std.specs.Prelude.{ℕ, ◌+◌, Bool, ◌&&◌, replicate, T, eqb}
+use Rattle.std.specs.Prelude.{ℕ, Bool, ◌&&◌, replicate, T, eqb}
 use Prim.Native.String.{String}
 use mathlib.Core.List.{List, [], ◌∷◌, ◌++◌, flatten}
 use Rattle.page.specs.Bytes.{bytes, hex, all}

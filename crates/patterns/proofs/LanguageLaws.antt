@@ -1,7 +1,7 @@
 -- What `accepts_choice` computes is the language, on every text and both ways, by induction over the tree. Of the texts
 -- that `*` joins the empty ones can be left out, so that they are at most as many as the characters. On empty text it is
 -- what the check computes, `empty_choice`. Assumes nothing.
-use Prim.Native.Nat.{ℕ, zero, suc, ◌+◌, ◌≤◌}
+use Prim.Native.Nat.{ℕ, zero, suc, ◌≤◌}
 use mathlib.Core.Path.{◌≡◌, refl, sym, ap, ap₂, subst, ◌∙◌}
 use mathlib.Core.Bool.{Bool, true, false, ◌||◌, ◌&&◌, or-false, and-true}
 use mathlib.Core.Logic.{◌↔◌, ◌⊎◌, inl, inr, ⊎_elim}

@@ -1,6 +1,6 @@
 -- What `sequence` finds. The loop over its items: what is found from here on is found from the start on, with the items
 -- that were passed; and where nothing is found from here on, nothing is from the start on. Assumes nothing.
-use Prim.Native.Nat.{ℕ, ◌+◌, ◌≤◌, ◌<◌}
+use Prim.Native.Nat.{ℕ, ◌≤◌, ◌<◌}
 use mathlib.Core.Path.{◌≡◌, refl, sym, ap, ap₂, subst, ◌∙◌}
 use mathlib.Core.Bool.{Bool, true, false, ◌||◌, ◌&&◌, and_assoc, and-true}
 use mathlib.Core.List.{List, ◌++◌, append_assoc}

@@ -2,7 +2,7 @@
 -- facts: what was seen so far, and what is left of the list, decide together. Assumes nothing.
 use Prim.Native.Nat.{ℕ, zero, suc, ◌-◌, ◌≤◌, ◌<◌}
 use mathlib.Core.Path.{◌≡◌, refl, sym, ap, ◌∙◌}
-use mathlib.Core.Bool.{Bool, true, false, ◌&&◌, ◌||◌, and_assoc, or_assoc, and-true, or-false}
+use mathlib.Core.Bool.{Bool, ◌&&◌, ◌||◌, and_assoc, or_assoc, and-true, or-false}
 use mathlib.Core.List.{List, ◌∷◌}
 use native.Mathlib.Omega.{arith}
 use Rattle.page.specs.Bytes.{all, any}

@@ -13,7 +13,7 @@ use Rattle.ast.specs.Construct.{new_matrix_selector, at_expr, offset_expr, no_ti
 use Rattle.ast.specs.CheckPage.{wrap}
 use Rattle.ast.specs.Tables.{tree_at, Tables}
 use Rattle.ast.proofs.ConstructLaws.{new_matrix_selector-by, at_expr-by, offset_expr-by, times_of-by}
-use Rattle.text.specs.Chain.{or_else, overlaid, with_at, with_offset, ranged, settled}
+use Rattle.text.specs.Chain.{overlaid, with_at, with_offset, ranged, settled}
 use Rattle.text.specs.LaidOut.{Reads}
 use Rattle.text.proofs.TreeLaws.{checked_expr}
 use Rattle.text.proofs.EntryLaws.{tree_of, wrapped}

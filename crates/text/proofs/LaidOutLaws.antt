@@ -15,7 +15,7 @@ use Rattle.records.specs.Matcher.{Selector}
 use Rattle.records.specs.Modifier.{LabelModifier, BinModifier}
 use Rattle.records.specs.Time.{Times}
 use Rattle.records.specs.Signature.{Function}
-use Rattle.records.specs.Record.{number, string, selector, Wrapper, subquery, unary, paren, leaf, wrapper, binary, aggregate, call, operands}
+use Rattle.records.specs.Record.{number, string, selector, Wrapper, subquery, unary, paren, leaf, wrapper, binary, aggregate, call}
 use Rattle.leaves.specs.Numeral.{display_literal}
 use Rattle.leaves.specs.Escape.{quote}
 use Rattle.ast.specs.Refusal.{ok}

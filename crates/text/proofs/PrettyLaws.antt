@@ -1,7 +1,7 @@
 -- Split text by pieces, with a bool that says whether the first line is indented. A node that fits a line prints as its
 -- canonical text, unary expressions and subqueries too, since their operands are shorter still; a longer one by the
 -- pieces of its layout.
-use Prim.Native.Nat.{ℕ, suc, ◌+◌, ◌≤◌, ◌<◌}
+use Prim.Native.Nat.{ℕ, suc, ◌≤◌, ◌<◌}
 use native.Mathlib.Omega.{arith}
 use mathlib.Core.Path.{◌≡◌, refl, sym, ap, subst, ◌∙◌}
 use mathlib.Core.Bool.{Bool, true, false}

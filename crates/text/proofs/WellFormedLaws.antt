@@ -1,6 +1,6 @@
 -- Every printed text is well-formed UTF-8: the trees of a page hold only texts that a page may hold, what a node writes
 -- of its own is well-formed then, and all else is put together. Assumes nothing.
-use Prim.Native.Nat.{ℕ, zero, suc, ◌-◌, ◌<◌}
+use Prim.Native.Nat.{ℕ, zero, suc, ◌<◌}
 use native.Mathlib.Omega.{arith}
 use mathlib.Core.Path.{◌≡◌, subst}
 use mathlib.Core.Bool.{Bool, true, false, ◌||◌}

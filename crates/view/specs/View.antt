@@ -4,8 +4,8 @@ use Rattle.std.proofs.Math.Option.{Option, none, some}
 use Rattle.records.specs.Literal as literal
 use Rattle.records.specs.Time.{Times, AtModifier, Offset}
 use Rattle.records.specs.Answers.{literal_of}
-use Rattle.records.specs.Record.{number, string, selector, range, subquery, at, offset, unary, paren, Record, leaf}
-use Rattle.records.specs.Record.{wrapper, binary, aggregate, call, operands, record_kind}
+use Rattle.records.specs.Record.{number, range, at, offset, unary, Record, leaf}
+use Rattle.records.specs.Record.{wrapper, operands, record_kind}
 use Rattle.ast.specs.Expr.{scalar_value}
 use Rattle.ast.specs.Construct.{no_times}
 use Rattle.ast.specs.Tables.{Tables, tree_at}

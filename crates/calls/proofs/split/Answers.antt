@@ -1,6 +1,5 @@
 -- `calls::split` meets its contract: what the walk leaves is enough for the text, and each of the three ends has its
 -- law. Assumes nothing.
-use Prim.Native.Nat.{◌-◌}
 use native.Mathlib.Omega.{arith}
 use Rattle.text.specs.Pretty.{prettify}
 use Rattle.ast.specs.CheckPage.{check_page}

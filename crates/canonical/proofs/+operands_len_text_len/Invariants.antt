@@ -1,7 +1,7 @@
 -- The proof of the cycle {operands_len, text_len}: lengths up to a cap.
 -- The measures: 2 e for the operands after e records, 2 i + 1 for the tree that record i ends. The laws stand in
 -- `TextLaws`. Assumes nothing.
-use Prim.Native.Nat.{◌+◌, ◌-◌}
+use Prim.Native.Nat.{◌+◌}
 use Rattle.canonical.proofs.+operands_len_text_len.Given as goal
 
 abbrev pub decreases-operands_len : goal.decreases-operands_len

@@ -1,6 +1,6 @@
 -- The proof of the cycle {write_operands, write_text}: each text is a run of pieces (`WriteLaws`), written one after
 -- the other. The measures are those of the lengths. Assumes nothing.
-use Prim.Native.Nat.{◌+◌, ◌-◌}
+use Prim.Native.Nat.{◌+◌}
 use Rattle.canonical.proofs.+write_operands_write_text.Given as goal
 
 abbrev pub decreases-write_operands : goal.decreases-write_operands

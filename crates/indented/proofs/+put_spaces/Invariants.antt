@@ -1,6 +1,5 @@
 -- `indented::put_spaces` meets its contract: two spaces, then those of the levels left. The measure is the level.
 -- Assumes nothing.
-use Prim.Native.Nat.{◌-◌}
 use Rattle.indented.proofs.+put_spaces.Given as goal
 
 abbrev pub decreases-put_spaces : goal.decreases-put_spaces

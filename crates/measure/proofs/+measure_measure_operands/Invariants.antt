@@ -1,6 +1,6 @@
 -- The proof of the cycle {measure, measure_operands}: widths as lengths up to a cap, with the laws of `LengthLaws`; the
 -- table stays right at each width put into it. The measures are those of the lengths. Assumes nothing.
-use Prim.Native.Nat.{◌+◌, ◌-◌}
+use Prim.Native.Nat.{◌+◌}
 use Rattle.measure.proofs.+measure_measure_operands.Given as goal
 
 abbrev pub decreases-measure : goal.decreases-measure

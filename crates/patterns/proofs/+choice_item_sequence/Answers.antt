@@ -1,4 +1,3 @@
-use Prim.Native.Nat.{◌-◌}
 use native.Mathlib.Omega.{arith}
 use Rattle.patterns.proofs.ItemLaws.{item-none, item-no-group, item-unclosed, item-group, item-any, item-single}
 use Rattle.patterns.proofs.ItemLaws.{item-other}

@@ -1,4 +1,3 @@
-use Prim.Native.Nat.{◌-◌}
 use mathlib.Core.Path.{◌≡◌, refl, ap, ◌∙◌}
 use Rattle.float.specs.Exact.{RecordExact}
 use Rattle.float.proofs.ExactLaws.{of-got, read_record-exact}

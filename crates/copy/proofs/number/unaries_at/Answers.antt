@@ -1,4 +1,3 @@
-use Prim.Native.Nat.{◌-◌}
 use native.Mathlib.Omega.{arith}
 use Rattle.copy.proofs.UnaryLaws.{unaries-more, unaries-stop, unaries-end}
 use Rattle.copy.proofs.number.unaries_at.Goals as goal

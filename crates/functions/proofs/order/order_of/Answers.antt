@@ -1,4 +1,3 @@
-use Prim.Native.Nat.{◌-◌}
 use native.Mathlib.Omega.{arith}
 use mathlib.Core.Path.{refl}
 use Rattle.functions.proofs.OrderLaws.{order-longer, order_below, order-above, order-next, order-shorter}

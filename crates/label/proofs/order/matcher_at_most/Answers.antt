@@ -1,4 +1,3 @@
-use Prim.Native.Nat.{◌-◌}
 use native.Mathlib.Omega.{arith}
 use Rattle.label.proofs.MatcherLaws.{matcher-order}
 use Rattle.label.proofs.WalkLaws.{ahead-longer, ahead-differs, ahead-on, ahead-ends}

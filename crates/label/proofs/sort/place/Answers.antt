@@ -1,4 +1,3 @@
-use Prim.Native.Nat.{◌-◌}
 use native.Mathlib.Omega.{arith}
 use Rattle.label.proofs.SortLaws.{place-start, next-key, place-on, place_here, place-last}
 use Rattle.label.proofs.sort.place.Goals as goal

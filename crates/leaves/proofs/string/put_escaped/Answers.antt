@@ -1,4 +1,3 @@
-use Prim.Native.Nat.{◌-◌}
 use Rattle.base.proofs.SpliceLaws.{begin, room, step, finish}
 use Rattle.leaves.proofs.EscapeLaws.{escape-next, escape_end}
 use Rattle.leaves.proofs.string.put_escaped.Goals as goal

@@ -1,6 +1,5 @@
 use Rattle.page.proofs.AsciiLaws.{word-stop, word-go}
 use mathlib.Core.Path.{refl, sym, ◌∙◌}
-use Prim.Native.Nat.{◌-◌}
 use native.Mathlib.Omega.{arith}
 use mathlib.Core.Path.{ap}
 use mathlib.Core.Bool.{not}

@@ -1,6 +1,5 @@
 use Rattle.page.proofs.TextLaws.{lengths_differ, equal-stop, equal-go, equal-end}
 use mathlib.Core.Path.{refl}
-use Prim.Native.Nat.{◌-◌}
 use Rattle.page.proofs.text.same_text.Goals as goal
 
 pub returns-then-a-b : goal.returns-then-a-b

@@ -1,6 +1,5 @@
 use Rattle.page.proofs.Utf8Laws.{ends-stop, ends-go, ends-less, ends-all}
 use mathlib.Core.Path.{refl}
-use Prim.Native.Nat.{◌-◌}
 use native.Mathlib.Omega.{arith}
 use Rattle.page.proofs.utf8.is_utf8.Goals as goal
 

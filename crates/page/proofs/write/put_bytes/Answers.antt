@@ -1,4 +1,3 @@
-use Prim.Native.Nat.{◌-◌}
 use lib.ListN.{drop_of_length-le}
 use Rattle.base.proofs.SpliceLaws.{begin, room, step, finish, drop-next}
 use Rattle.page.proofs.write.put_bytes.Goals as goal

@@ -1,17 +1,6 @@
 -- `rules::aggregate::judge_operand` meets its contract: at each return the tests before it say which row of the table
 -- is the first that applies. Assumes nothing.
-use mathlib.Core.Path.{◌≡◌}
-use mathlib.Core.Bool.{Bool, true, false, ◌&&◌, not}
-use mathlib.Core.List.{[], ◌∷◌, ◌++◌}
-use lib.Dec.{eqb}
-use Rattle.records.specs.Kind.{vector}
-use Rattle.records.specs.Answers.{kind_of}
-use Rattle.ast.specs.Refusal.{when}
-use Rattle.ast.specs.CheckAst.{aggregate_rows}
-use Rattle.ast.specs.Operand.{other_operand}
-use Rattle.ast.specs.Judge.{put}
-use Rattle.rules.specs.Answers.{parameter_meant}
-use Rattle.rules.specs.Limit.{limit_rows}
+use mathlib.Core.Bool.{not}
 use mathlib.Core.Path.{ap}
 use Rattle.rules.proofs.aggregate.judge_operand.Goals as goal
 

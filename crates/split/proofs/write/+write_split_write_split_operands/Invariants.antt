@@ -1,6 +1,6 @@
 -- The proof of the cycle {write_split, write_split_operands}: each text is a run of pieces, written one after the
 -- other. The measures are those of the lengths. Assumes nothing.
-use Prim.Native.Nat.{◌+◌, ◌-◌}
+use Prim.Native.Nat.{◌+◌}
 use Rattle.split.proofs.write.+write_split_write_split_operands.Given as goal
 
 abbrev pub decreases-write_split : goal.decreases-write_split

@@ -1,4 +1,3 @@
-use Prim.Native.Nat.{◌-◌}
 use native.Mathlib.Omega.{arith}
 use Rattle.table_check.proofs.AskedLaws.{faultless-next, fault-first, faultless-all}
 use Rattle.table_check.proofs.asked.first_fault.Goals as goal
