@@ -81,7 +81,7 @@ extern "C" {
 
 /* The version of this header. sandzguli_version tells that of the archive, as one number of the same form. */
 #define SANDZGULI_VERSION_MAJOR 0
-#define SANDZGULI_VERSION_MINOR 6
+#define SANDZGULI_VERSION_MINOR 5
 #define SANDZGULI_VERSION_PATCH 0
 #define SANDZGULI_VERSION \
     (SANDZGULI_VERSION_MAJOR * 65536 + SANDZGULI_VERSION_MINOR * 256 + SANDZGULI_VERSION_PATCH)

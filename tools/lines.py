@@ -1,11 +1,11 @@
 #!/usr/bin/env python3
 """lines.py [--check] [FILE..]: breaks the wide lines of antt files (default: all of crates/).
 
-A line of a proof that is wider than 120 characters, and one of any other antt file that is wider than 160, is broken at
-its outermost place: after `in` and `=`, before an arrow or an operator, between arguments, and inside a bracket only
-where the bracket alone is too wide. A tuple or a record that is broken gets a line for each of its parts. Nothing else
-changes. Run `rt fmt` afterwards: it sets the indentation. With --check the files that would change are printed, and
-the exit status is 1."""
+A line of Answers.antt or Invariants.antt that is wider than 120 characters, and one of any other antt file that is
+wider than 160, is broken at its outermost place: after `in` and `=`, before an arrow or an operator, between arguments,
+and inside a bracket only where the bracket alone is too wide. A tuple or a record that is broken gets a line for each of
+its parts. Nothing else changes. Run `rt fmt` in the crate's folder afterwards: it sets the indentation. With --check the
+files that would change are printed, and the exit status is 1."""
 import re
 import sys
 from pathlib import Path
@@ -16,7 +16,6 @@ WIDE_IN_PROOFS, WIDE_ELSEWHERE = 120, 160
 WIDTH = 116  # a little below the limit: `rt fmt` may put ` (` at the end of a line
 LEAST = 24  # what is broken does not begin in the last columns of a line
 TOKEN = re.compile(r'"(?:\\.|[^"\\])*"|--(?=\s|$).*|[(){},;]|[^\s(){},;"]+')
-PLACE = re.compile(r"\s*let at-\S+ = \S+( \.before)+ in( \()?$")  # a place that gets a name (places.py) is one line
 OPERATORS = [{"→", "↔"}, {"×"}, {"≡", "≤", "<", "↦"}, {"∙", "++", "∷", "+", "-", "*", "&&", "||"}]
 SIGNS = set().union(*OPERATORS)
 
@@ -54,7 +53,7 @@ def shown(tokens):
 def lead(tokens):
     """What stands before the first place where these tokens can be broken."""
     for place, token in enumerate(tokens):
-        if place and (token.breakable or token.text == ".before"):
+        if place and token.breakable:
             return shown(tokens[:place])
     return shown(tokens)
 
@@ -74,7 +73,6 @@ def arguments(tokens):
     """The outermost parts of an expression: by its lowest operator, else by its arguments."""
     rules = [lambda before, token, signs=signs: token.text in signs and token.breakable for signs in OPERATORS]
     rules.append(lambda before, token: token.breakable)
-    rules.append(lambda before, token: before.text == token.text == ".before")
     for rule in rules:
         found = groups(tokens, rule)
         if len(found) > 1:
@@ -227,7 +225,7 @@ def rewritten(text, proof):
     limit = WIDE_IN_PROOFS if proof else WIDE_ELSEWHERE
     lines = []
     for line in text.split("\n"):
-        lines += broken(line) if len(line) > limit and not PLACE.match(line) else [line]
+        lines += broken(line) if len(line) > limit else [line]
     return "\n".join(lines)
 
 
@@ -236,7 +234,7 @@ def main():
     changes = {}
     for path in antt_files(names):
         text = Path(path).read_text(encoding="utf-8")
-        new = rewritten(text, path.endswith("Proof.antt"))
+        new = rewritten(text, path.endswith(("Answers.antt", "Invariants.antt")))
         if new != text:
             changes[path] = new
     report(changes, "--check" in sys.argv[1:])

@@ -2,7 +2,7 @@
 """repeats.py [--base REVISION] [--least N] [--most N]: places in .rt and .antt files that share N lines (default 8).
 
 Lines are alike if they differ in names and numbers only. Imports, comments, blank lines and what a check prints by
-itself (signatures of needs, `search needs`, `omega arith`, names of places) do not count. With --base only pairs are
+itself (signatures of goals, `search rules`, `omega arith`) do not count. With --base only pairs are
 shown of which one side was changed since that revision; --most says how many pairs. A row is a place to look at: where
 the argument is the same, one law serves."""
 import argparse
@@ -14,9 +14,9 @@ from repository import root
 
 WORD = re.compile(r"[^\s(){}.;,]+")
 KEYWORDS = set("≡ → λ × = : ∷ ++ + - * / % ≤ < let in where module data record pub abbrev unfoldable unfolding rw simp "
-               "omega arith cc search needs fn if else while match return requires ensures enum struct self".split())
-SKIPPED = ("--", "//", "use ", "ghost use", "pub mod", "mod ", "unfolding ", "let at-")
-PRINTED = re.compile(r"\.Need-|\.Inv|\.Measure|search needs$|omega arith$|: \{M : Type 1\}|tie\.(close|spec)")
+               "omega grind arith cc search rules fn if else while match return requires ensures enum struct self".split())
+SKIPPED = ("--", "//", "use ", "ghost use", "pub mod", "mod ", "unfolding ")
+PRINTED = re.compile(r" : goal\.\S+$|search rules$|omega arith$")
 
 
 def git(*words):

@@ -1,5 +1,5 @@
 //! Links the library's archive: the file that `SANDZGULI_ARCHIVE` names, whatever its name, or the one that
-//! `rt staticlib sandzguli` writes in this repository. A relative path counts from this folder.
+//! `tools/build` makes in this repository. A relative path counts from this folder.
 
 use std::path::{Path, PathBuf};
 use std::{env, fs, process};

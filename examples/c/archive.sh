@@ -1,6 +1,6 @@
 # Sourced by the scripts beside it: `built` is a folder that is removed at the end, `archive` a copy of the library's
 # archive in it. SANDZGULI_ARCHIVE is the archive's path, whatever its name (without it: the one that
-# `rt staticlib sandzguli` writes).
+# `tools/build` makes).
 root=$(dirname "${BASH_SOURCE[0]}")/../..
 archive=${SANDZGULI_ARCHIVE:-$root/target/staticlib/libsandzguli.a}
 if [[ ! -f $archive ]]; then

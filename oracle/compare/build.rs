@@ -1,6 +1,6 @@
 //! Links the archives that features ask for: `library` the library, `before` the library of an earlier landing under
-//! other names, `text_test` the test of texts by itself. Each is the file that its variable names, or the one that `rt
-//! staticlib` writes in this repository.
+//! other names, `text_test` the test of texts by itself. Each is the file that its variable names, or the one that
+//! `tools/build` makes in this repository.
 
 use std::path::{self, Path, PathBuf};
 use std::process::{self, Command};

@@ -11,20 +11,23 @@ use crate::generate::{
 use crate::random::Random;
 use std::collections::HashSet;
 
-/// Where the list lies: it is the input of the program that replays it.
-pub const PATH: &str = concat!(env!("CARGO_MANIFEST_DIR"), "/../crates/vectors/stdin");
+/// Where a list lies, and the folder that has the words of the added checks for its entries.
+pub struct Place {
+    pub list: &'static str,
+    pub beside: &'static str,
+}
 
-/// Where the words of the check with the function table lie, in the list's order.
-pub const TABLE_PATH: &str = concat!(env!("CARGO_MANIFEST_DIR"), "/kept/table");
-
-/// Where the words of the check that follows the operators document lie, in the list's order.
-pub const OPERATORS_PATH: &str = concat!(env!("CARGO_MANIFEST_DIR"), "/kept/operators");
-
-/// Where the words of the checks with the tables of the two generations lie, and which of these accept, in the list's
-/// order.
-pub const OLDER_PATH: &str = concat!(env!("CARGO_MANIFEST_DIR"), "/kept/older");
-pub const NEWER_PATH: &str = concat!(env!("CARGO_MANIFEST_DIR"), "/kept/newer");
-pub const GENERATIONS_PATH: &str = concat!(env!("CARGO_MANIFEST_DIR"), "/kept/generations");
+/// The list is the input of the program that replays it; the pages for the two generations have a list of their own.
+pub const PLACES: [Place; 2] = [
+    Place {
+        list: concat!(env!("CARGO_MANIFEST_DIR"), "/../crates/vectors/stdin"),
+        beside: concat!(env!("CARGO_MANIFEST_DIR"), "/kept"),
+    },
+    Place {
+        list: concat!(env!("CARGO_MANIFEST_DIR"), "/kept/later/pages"),
+        beside: concat!(env!("CARGO_MANIFEST_DIR"), "/kept/later"),
+    },
+];
 
 /// Where names lie with the answers of the call for signatures.
 pub const SIGNATURES_PATH: &str = concat!(env!("CARGO_MANIFEST_DIR"), "/kept/signatures");
@@ -37,11 +40,14 @@ const MAX_SPLIT: usize = 65_536;
 /// The longest signature of the table, in bytes.
 const MAX_SIGNATURE: usize = 8;
 
+/// A page, and whether it may be outside document 01's domain.
+type Listed = (Vec<u8>, bool);
+
 /// The pages in order: chosen ones first, then generated ones, those about flags, those with @ and offset, those with
-/// calls of the function table, those with limitk and limit_ratio, those for the two generations, chosen and generated;
-/// each with whether it may be outside document 01's domain. Of those about flags some are: No. 7 of document 02 says
-/// that they are believed.
-fn pages() -> impl Iterator<Item = (Vec<u8>, bool)> {
+/// calls of the function table, those with limitk and limit_ratio; then, for the other list, those for the two
+/// generations, chosen and generated. Of those about flags some are outside document 01's domain: No. 7 of document 02
+/// says that they are believed.
+fn pages() -> [Vec<Listed>; 2] {
     let mut random = Random::new(SEED);
     let inside = stream::before_generations()
         .map(|sample: Sample| sample.page)
@@ -56,7 +62,7 @@ fn pages() -> impl Iterator<Item = (Vec<u8>, bool)> {
     let added = tabled.into_iter().chain(limited);
     let judged = judged(&mut random).into_iter().map(|page| (page, false));
     let earlier = inside.chain(flagged).chain(timed).chain(added);
-    earlier.chain(judged)
+    [earlier.collect(), judged.collect()]
 }
 
 /// Pages of ASCII first, then pages with characters beyond it, then with fractions too, then with covered patterns.
@@ -163,12 +169,17 @@ fn broken(random: &mut Random, pages: &[Vec<u8>]) -> Vec<Vec<u8>> {
 /// A page of the list and its answer.
 pub type Entry = (Vec<u8>, Answer);
 
-/// The pages of the list with their answers, each page once: inside the domain unless they are about flags, and of
+/// The pages of both lists with their answers, each page once: inside the domain unless they are about flags, and of
 /// moderate length.
-pub fn entries() -> Result<Vec<Entry>, Failure> {
-    let mut entries = Vec::new();
+pub fn lists() -> Result<[Vec<Entry>; 2], Failure> {
     let mut seen = HashSet::new();
-    for (page, may_be_outside) in pages() {
+    let [first, later] = pages();
+    Ok([listed(first, &mut seen)?, listed(later, &mut seen)?])
+}
+
+fn listed(pages: Vec<Listed>, seen: &mut HashSet<Vec<u8>>) -> Result<Vec<Entry>, Failure> {
+    let mut entries = Vec::new();
+    for (page, may_be_outside) in pages {
         let answer = answer::answer(&page)?;
         let is_listed = may_be_outside || answer.domain == Domain::Inside;
         if is_listed && answer.split.len() <= MAX_SPLIT && seen.insert(page.clone()) {
@@ -178,8 +189,13 @@ pub fn entries() -> Result<Vec<Entry>, Failure> {
     Ok(entries)
 }
 
-/// The bytes of the list.
-pub fn list(entries: &[Entry]) -> Vec<u8> {
+/// The entries of both lists, one behind the other.
+pub fn entries() -> Result<Vec<Entry>, Failure> {
+    Ok(lists()?.into_iter().flatten().collect())
+}
+
+/// The bytes of a list.
+fn list(entries: &[Entry]) -> Vec<u8> {
     let mut list = Vec::new();
     for (page, answer) in entries {
         put_bytes(&mut list, page);
@@ -195,19 +211,30 @@ pub fn list(entries: &[Entry]) -> Vec<u8> {
 /// The word of an added check for an answer.
 type Word = fn(&Answer) -> u64;
 
-/// The files beside the list that have a word for each of its entries, each with its word.
-pub const ADDED: [(&str, Word); 5] = [
-    (TABLE_PATH, |answer| answer.table.word(0)),
-    (OPERATORS_PATH, |answer| answer.operators.word(0)),
-    (OLDER_PATH, |answer| answer.older.word(0)),
-    (NEWER_PATH, |answer| answer.newer.word(0)),
-    (GENERATIONS_PATH, |answer| answer.generations().word()),
+/// The files beside a list that have a word for each of its entries, each with its word.
+const ADDED: [(&str, Word); 5] = [
+    ("table", |answer| answer.table.word(0)),
+    ("operators", |answer| answer.operators.word(0)),
+    ("older", |answer| answer.older.word(0)),
+    ("newer", |answer| answer.newer.word(0)),
+    ("generations", |answer| answer.generations().word()),
 ];
 
 /// A word for each entry.
-pub fn words(entries: &[Entry], word: Word) -> Vec<u8> {
+fn words(entries: &[Entry], word: Word) -> Vec<u8> {
     let words = entries.iter().map(|(_, answer)| word(answer));
     words.flat_map(u64::to_le_bytes).collect()
+}
+
+/// A file by its path, with its bytes.
+pub type File = (String, Vec<u8>);
+
+/// A list and the words beside it.
+pub fn files(place: &Place, entries: &[Entry]) -> Vec<File> {
+    let beside =
+        ADDED.map(|(name, word)| (format!("{}/{name}", place.beside), words(entries, word)));
+    let list = (place.list.to_string(), list(entries));
+    [list].into_iter().chain(beside).collect()
 }
 
 /// Every name of the table, many that are near one, and others that are none: each once.

@@ -1,4 +1,4 @@
-//! The kept list is the one that the oracle writes, and it reaches every class by itself.
+//! The kept lists are those that the oracle writes, and they reach every class by themselves.
 
 use oracle::answer::{self, Answer};
 use oracle::coverage::Coverage;
@@ -10,15 +10,14 @@ use oracle::{chosen, functions, hex, kept};
 use std::collections::HashSet;
 
 #[test]
-fn the_list_is_the_oracles() {
-    let kept = std::fs::read(kept::PATH).expect("the list is there");
-    let made = kept::entries().expect("the Rust is foreseen");
-    assert!(kept == kept::list(&made), "write it again: oracle keep");
-    for (path, word) in kept::ADDED {
-        let kept = std::fs::read(path).expect("the words are there");
-        let words = kept::words(&made, word);
-        assert!(kept == words, "write it again: oracle keep");
-        assert_eq!(kept.len(), 8 * made.len());
+fn the_lists_are_the_oracles() {
+    let made = kept::lists().expect("the Rust is foreseen");
+    for (place, entries) in kept::PLACES.iter().zip(&made) {
+        for (path, bytes) in kept::files(place, entries) {
+            let kept = std::fs::read(&path).expect("the list and its words are there");
+            assert!(kept == bytes, "{path}: write it again: oracle keep");
+            assert!(path == place.list || kept.len() == 8 * entries.len());
+        }
     }
 }
 
@@ -30,27 +29,40 @@ fn grouped(number: usize) -> String {
     }
 }
 
-/// What KEPT.md counts of the list and of the answers of both generations.
+/// What KEPT.md counts of the lists and of the answers of both generations.
 #[test]
 fn the_document_has_the_lists_counts() {
     let document = include_str!("../KEPT.md").replace('\n', " ");
-    let entries = kept::entries().expect("the Rust is foreseen");
-    let (pages, accepted) = kept::counts(&entries);
-    let [pages, accepted] = [pages, accepted].map(grouped);
+    let lists = kept::lists().expect("the Rust is foreseen");
+    for entries in &lists {
+        let (pages, accepted) = kept::counts(entries);
+        let [pages, accepted] = [pages, accepted].map(grouped);
+        let words = format!("{pages} pages, of which check accepts {accepted}");
+        assert!(document.contains(&words), "{words}");
+    }
     let count = |is_meant: &dyn Fn(&Answer) -> bool| {
-        let meant = entries.iter().filter(|(_, answer)| is_meant(answer));
-        grouped(meant.count())
+        lists.each_ref().map(|entries| {
+            let meant = entries.iter().filter(|(_, answer)| is_meant(answer));
+            grouped(meant.count())
+        })
     };
     let [neither, older, newer, both] =
         Generations::ALL.map(|answer| count(&|found: &Answer| found.generations() == answer));
     let unlike = count(&|answer: &Answer| answer.older != answer.newer);
     let limited = count(&|answer: &Answer| answer.operators != answer.outcome);
     for words in [
-        format!("{pages} pages, of which check accepts {accepted}"),
-        format!("refused with 42, as on {limited} pages"),
-        format!("the two are different on {unlike} pages"),
-        format!("0 neither, on {neither} pages, 1 the older, on {older},"),
-        format!("2 the newer, on {newer}, 3 both, on {both}."),
+        format!(
+            "with 42, as on {} pages and {} of the later",
+            limited[0], limited[1]
+        ),
+        format!(
+            "the two are different on {} pages and {} of the later",
+            unlike[0], unlike[1]
+        ),
+        format!("| 0 neither | {} | {} |", neither[0], neither[1]),
+        format!("| 1 the older | {} | {} |", older[0], older[1]),
+        format!("| 2 the newer | {} | {} |", newer[0], newer[1]),
+        format!("| 3 both | {} | {} |", both[0], both[1]),
     ] {
         assert!(document.contains(&words), "{words}");
     }
@@ -67,7 +79,7 @@ fn the_signatures_are_the_oracles() {
 }
 
 #[test]
-fn the_list_reaches_every_class() {
+fn the_lists_reach_every_class() {
     let mut coverage = Coverage::default();
     let entries = kept::entries().expect("the Rust is foreseen");
     assert!(entries.len() >= 2000);
@@ -78,7 +90,7 @@ fn the_list_reaches_every_class() {
     assert_eq!(coverage.missing(), Vec::<&str>::new());
 }
 
-/// So many pages at least are on the list, and so among those that fuzzing starts from.
+/// So many pages at least are on the lists, and so among those that fuzzing starts from.
 fn assert_kept(made: impl Iterator<Item = Made>, least: usize) {
     assert_pages_kept(made.map(|made| made.page), least);
 }
@@ -144,7 +156,7 @@ fn the_list_has_the_limits() {
 
 /// Calls that two server generations judge differently, and the functions that they have and lack.
 #[test]
-fn the_list_has_the_generations() {
+fn the_lists_have_the_generations() {
     let pages = generate::generations::fixed().map(|judged| judged.page);
     assert_pages_kept(pages, 700);
     let chosen = chosen::of_generations().iter().map(|row| row.bytes());

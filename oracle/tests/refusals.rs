@@ -47,12 +47,12 @@ fn told() -> Vec<Row> {
     DOCUMENT.lines().filter_map(row).collect()
 }
 
-/// The rows of the definitions' tables: `row 6 1 (text ++ hex "07")`, and `isRefused 37 1 (hex "..")` of the added
+/// The rows of the definitions' tables: `row 6 1 (text ++ hex "07")`, and `is_refused 37 1 (hex "..")` of the added
 /// checks.
 fn defined() -> Vec<Row> {
     let mut rows = rows_of(DEFINITIONS, "∷ ", "row ");
     for added in [OF_TABLE_DEFINED, OF_OPERATORS_DEFINED] {
-        rows.extend(rows_of(added, "&& ", "isRefused "));
+        rows.extend(rows_of(added, "&& ", "is_refused "));
     }
     rows.sort_by_key(|row| row.number);
     rows

@@ -99,7 +99,7 @@ impl fmt::Display for Generations {
 /// [`check_table`](crate::check_table) if no call of `holt_winters` stands on it (`older-table`). A page that is
 /// refused with another rule than [`Rule::UnknownFunction`](crate::Rule::UnknownFunction) and
 /// [`Rule::UnlikeSignature`](crate::Rule::UnlikeSignature), [`check`](crate::check) refuses with it at the same record
-/// (`table-refused`). That rule never is [`Rule::NoDeclaredKinds`](crate::Rule::NoDeclaredKinds) (`table-no-29`).
+/// (`table-refused`). That rule never is [`Rule::NoDeclaredKinds`](crate::Rule::NoDeclaredKinds) (`table_of-no-29`).
 ///
 /// ```
 /// use sandzguli::page::{Function, Page, Record};
@@ -131,7 +131,7 @@ pub fn check_older(page: &[u8]) -> Result<Kind, Refusal> {
 /// [`check_table`](crate::check_table) (`newer-table`). A page that is refused with another rule than
 /// [`Rule::UnknownFunction`](crate::Rule::UnknownFunction) and [`Rule::UnlikeSignature`](crate::Rule::UnlikeSignature),
 /// [`check`](crate::check) refuses with it at the same record (`table-refused`). That rule never is
-/// [`Rule::NoDeclaredKinds`](crate::Rule::NoDeclaredKinds) (`table-no-29`).
+/// [`Rule::NoDeclaredKinds`](crate::Rule::NoDeclaredKinds) (`table_of-no-29`).
 ///
 /// ```
 /// use sandzguli::page::{Page, Record};

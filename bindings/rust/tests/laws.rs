@@ -12,9 +12,10 @@ const SOURCES: [&str; 5] = [
     include_str!("../src/text.rs"),
 ];
 
-/// A law's name is of words with hyphens between them.
+/// A law's name is of words with hyphens between them; a word that names a definition has low lines.
 fn is_law(code: &str) -> bool {
-    let is_word = |word: &str| !word.is_empty() && word.chars().all(char::is_alphanumeric);
+    let is_letter = |letter: char| letter.is_alphanumeric() || letter == '_';
+    let is_word = |word: &str| !word.is_empty() && word.chars().all(is_letter);
     code.contains('-') && code.split('-').all(is_word)
 }
 

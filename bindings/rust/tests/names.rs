@@ -156,7 +156,7 @@ fn header_and_definitions_have_the_same_sizes() {
     for (name, size) in sizes {
         assert_eq!(defined(name), size as u64, "{name}");
     }
-    let proved = format!("\nlongestName = {}\n", sandzguli::NAME_BYTES);
+    let proved = format!("\nlongest_name = {}\n", sandzguli::NAME_BYTES);
     assert!(NAMES.contains(&proved));
 }
 

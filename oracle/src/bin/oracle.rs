@@ -89,19 +89,18 @@ fn report(seed: &str, rounds: &str) -> Result<(), String> {
 }
 
 fn keep() -> Result<(), String> {
-    let entries = kept::entries().map_err(|failure| failure.0)?;
-    let list = kept::list(&entries);
-    let mut files = vec![
-        (kept::PATH, list),
-        (kept::SIGNATURES_PATH, kept::signatures()),
-    ];
-    files.extend(kept::ADDED.map(|(path, word)| (path, kept::words(&entries, word))));
-    for (path, bytes) in &files {
-        std::fs::write(path, bytes).map_err(|error| format!("{path}: {error}"))?;
+    let lists = kept::lists().map_err(|failure| failure.0)?;
+    for (place, entries) in kept::PLACES.iter().zip(&lists) {
+        let files = kept::files(place, entries);
+        for (path, bytes) in &files {
+            std::fs::write(path, bytes).map_err(|error| format!("{path}: {error}"))?;
+        }
+        let (pages, accepted) = kept::counts(entries);
+        let bytes = files[0].1.len();
+        println!("{pages} pages, {accepted} accepted, {bytes} bytes");
     }
-    let (pages, accepted) = kept::counts(&entries);
-    let bytes = files[0].1.len();
-    println!("{pages} pages, {accepted} accepted, {bytes} bytes");
+    let path = kept::SIGNATURES_PATH;
+    std::fs::write(path, kept::signatures()).map_err(|error| format!("{path}: {error}"))?;
     println!("{} names", kept::names().len());
     Ok(())
 }

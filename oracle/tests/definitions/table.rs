@@ -17,13 +17,13 @@ fn extra(words: &str) -> Extra {
         "fixed" => Extra::Fixed,
         "unlimited" => Extra::Unlimited,
         upper => {
-            let upper = upper.strip_prefix("upTo ").expect("an upper");
+            let upper = upper.strip_prefix("up_to ").expect("an upper");
             Extra::Upper(upper.parse().expect("a number"))
         }
     }
 }
 
-/// A row of the definitions: `function "round" (vector ∷ scalar ∷ []) (upTo 1) vector`; without kinds the list is `[]`.
+/// A row of the definitions: `function "round" (vector ∷ scalar ∷ []) (up_to 1) vector`; without kinds the list is `[]`.
 pub fn row(line: &str) -> Option<Signature<'static>> {
     let row = line.trim().trim_start_matches("∷ ");
     let row = row

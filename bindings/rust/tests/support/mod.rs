@@ -1,19 +1,36 @@
-//! The kept list: pages with the answers of the Rust crate promql-parser (oracle/KEPT.md has the format).
+//! The kept lists: pages with the answers of the Rust crate promql-parser (oracle/KEPT.md has the format).
 
-const LIST: &[u8] = include_bytes!("../../../../crates/vectors/stdin");
+/// A list, and beside it a word for each of its entries: those of the check with the function table, of the check that
+/// follows the operators document, of the checks with the functions of the older and of the newer server generation,
+/// and the number of the generations that accept the entry's query.
+struct List {
+    pages: &'static [u8],
+    beside: [&'static [u8]; 5],
+}
 
-/// The words of the check with the function table, one for each entry.
-const TABLE: &[u8] = include_bytes!("../../../../oracle/kept/table");
-
-/// The words of the check that follows the operators document, one for each entry.
-const OPERATORS: &[u8] = include_bytes!("../../../../oracle/kept/operators");
-
-/// The words of the checks with the functions of the older and of the newer server generation, one for each entry.
-const OLDER: &[u8] = include_bytes!("../../../../oracle/kept/older");
-const NEWER: &[u8] = include_bytes!("../../../../oracle/kept/newer");
-
-/// The numbers of the generations that accept an entry's query.
-const GENERATIONS: &[u8] = include_bytes!("../../../../oracle/kept/generations");
+/// The list, and the later pages, which are for the two server generations.
+const LISTS: [List; 2] = [
+    List {
+        pages: include_bytes!("../../../../crates/vectors/stdin"),
+        beside: [
+            include_bytes!("../../../../oracle/kept/table"),
+            include_bytes!("../../../../oracle/kept/operators"),
+            include_bytes!("../../../../oracle/kept/older"),
+            include_bytes!("../../../../oracle/kept/newer"),
+            include_bytes!("../../../../oracle/kept/generations"),
+        ],
+    },
+    List {
+        pages: include_bytes!("../../../../oracle/kept/later/pages"),
+        beside: [
+            include_bytes!("../../../../oracle/kept/later/table"),
+            include_bytes!("../../../../oracle/kept/later/operators"),
+            include_bytes!("../../../../oracle/kept/later/older"),
+            include_bytes!("../../../../oracle/kept/later/newer"),
+            include_bytes!("../../../../oracle/kept/later/generations"),
+        ],
+    },
+];
 
 /// Names with the answers of the call for signatures.
 const SIGNATURES: &[u8] = include_bytes!("../../../../oracle/kept/signatures");
@@ -74,16 +91,20 @@ fn entry(list: &mut &[u8], beside: &mut [&[u8]; 5]) -> Entry {
     }
 }
 
-/// The whole list.
+/// Both lists, one behind the other.
 pub fn entries() -> Vec<Entry> {
-    let mut list = LIST;
-    let mut beside = [TABLE, OPERATORS, OLDER, NEWER, GENERATIONS];
     let mut entries = Vec::new();
-    while !list.is_empty() {
-        entries.push(entry(&mut list, &mut beside));
+    for List {
+        mut pages,
+        mut beside,
+    } in LISTS
+    {
+        while !pages.is_empty() {
+            entries.push(entry(&mut pages, &mut beside));
+        }
+        assert_eq!(beside.concat().len(), 0, "a word for each entry");
     }
-    assert!(entries.len() > 3000, "the list is whole");
-    assert_eq!(beside.concat().len(), 0, "a word for each entry");
+    assert!(entries.len() > 3000, "the lists are whole");
     entries
 }
 
