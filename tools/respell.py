@@ -5,7 +5,8 @@ usage: tools/respell.py        at the top, once, after port.py
 
 A name of the definitions or proofs that begins in lower case turns from readPage to read_page; types keep their
 capitals, and a middle dot at the end of a name is an apostrophe. Names of src/, strings and must-fail edits stay.
-Outside crates/, pages, tests and comments follow. and enum of src/ is plain, so it derives Clone and Copy, as every value was copied before.
+Outside crates/, pages, tests and comments follow. Each struct and enum of src/ is plain, so it derives Clone and Copy,
+as every value was copied before.
 """
 
 import os
