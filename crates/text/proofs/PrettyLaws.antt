@@ -19,24 +19,24 @@ use Rattle.text.proofs.TrimLaws.{Begins, begins, begins-append, trim-indent, tri
 
 -- ## On one line
 
-pub one_line : (e : Expr) → Sound e → (level : ℕ) → length (display e) ≤ max_characters_per_line → pretty e level ≡ indent level ++ display e
+pub one-line : (e : Expr) → Sound e → (level : ℕ) → length (display e) ≤ max_characters_per_line → pretty e level ≡ indent level ++ display e
 unfolding display pretty
-one_line (Aggregate c m e) s level h = rw (le-ltb _ _ h)
-one_line (AggregateParam c m p e) s level h = rw (le-ltb _ _ h)
-one_line (Unary e) s level h =
-    ap (λ (t : List ℕ). indent level ++ bytes "-" ++ trim_start t) (one_line e s level (omega arith))
+one-line (Aggregate c m e) s level h = rw (le-ltb _ _ h)
+one-line (AggregateParam c m p e) s level h = rw (le-ltb _ _ h)
+one-line (Unary e) s level h =
+    ap (λ (t : List ℕ). indent level ++ bytes "-" ++ trim_start t) (one-line e s level (omega arith))
     ∙ ap (λ (t : List ℕ). indent level ++ bytes "-" ++ t) (trim-indent level (display-begins e s))
     ∙ append_assoc (indent level) (bytes "-") (display e)
-one_line (Binary c m l r) s level h = rw (le-ltb _ _ h)
-one_line (Paren e) s level h = rw (le-ltb _ _ h)
-one_line (Subquery e r t u) s level h =
-    ap (λ (x : List ℕ). x ++ display_suffix r t u) (one_line e s level (omega (arith, length-append (display e) (display_suffix r t u))))
+one-line (Binary c m l r) s level h = rw (le-ltb _ _ h)
+one-line (Paren e) s level h = rw (le-ltb _ _ h)
+one-line (Subquery e r t u) s level h =
+    ap (λ (x : List ℕ). x ++ display_suffix r t u) (one-line e s level (omega (arith, length-append (display e) (display_suffix r t u))))
     ∙ append_assoc (indent level) (display e) (display_suffix r t u)
-one_line (NumberLiteral l) s level h = refl
-one_line (StringLiteral t) s level h = refl
-one_line (VectorSelector v t) s level h = refl
-one_line (MatrixSelector v t r) s level h = refl
-one_line (Call f es) s level h = rw (le-ltb _ _ h)
+one-line (NumberLiteral l) s level h = refl
+one-line (StringLiteral t) s level h = refl
+one-line (VectorSelector v t) s level h = refl
+one-line (MatrixSelector v t r) s level h = refl
+one-line (Call f es) s level h = rw (le-ltb _ _ h)
 
 -- ## With the first indentation, and without it
 
@@ -57,7 +57,7 @@ pretty_indented-first e inner level below rest p b false = ap trim_start p ∙ t
 
 pub short : (e : Expr) → Sound e → (level : ℕ) → length (display e) ≤ max_characters_per_line → (indents : Bool)
     → pretty_indented indents level e ≡ indent_if indents level ++ display e
-short e s level h = pretty_indented-is e level (one_line e s level h) (display-begins e s)
+short e s level h = pretty_indented-is e level (one-line e s level h) (display-begins e s)
 
 -- ## Operands in brackets
 

@@ -35,16 +35,22 @@ overflow_sub-n-then-text_fits c =
 
 pub write_text-written-requires : goal.write_text-written-requires
 write_text-written-requires c =
-    record { tables = accepts_last (known (goal.at.write_text-written-requires c).In-Accepted); numberless = unmarked _ _; room = rw zero-add (leb-true _ _ (sym c.text_fits.ensures ∙ c.if-text_fits.true)) }
+    record {
+      tables = accepts_last (known (goal.at.write_text-written-requires c).In-Accepted);
+      numberless = unmarked _ _;
+      room = rw zero-add (leb-true _ _ (sym c.text_fits.ensures ∙ c.if-text_fits.true));
+    }
 
 pub returns-then-text_fits : goal.returns-then-text_fits
 returns-then-text_fits c =
-    does-write display (known (goal.at.returns-then-text_fits c).In-Accepted).tree (known (goal.at.returns-then-text_fits c).In-Accepted).kind
+    does-write display (known (goal.at.returns-then-text_fits c).In-Accepted).tree
+    (known (goal.at.returns-then-text_fits c).In-Accepted).kind
     (sym c.text_fits.ensures ∙ c.if-text_fits.true) c.write_text-written.ensures
 
 pub returns-else-text_fits : goal.returns-else-text_fits
 returns-else-text_fits c =
-    does-short display (known (goal.at.returns-else-text_fits c).In-Accepted).tree (sym c.text_fits.ensures ∙ c.if-text_fits.false)
+    does-short display (known (goal.at.returns-else-text_fits c).In-Accepted).tree
+    (sym c.text_fits.ensures ∙ c.if-text_fits.false)
 
 pub returns-in-Refused : goal.returns-in-Refused
 returns-in-Refused c =

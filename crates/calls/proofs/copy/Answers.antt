@@ -33,12 +33,15 @@ copy_fits-requires c =
     starts-known (goal.at.copy_fits-requires c).In-Accepted
 
 pub put_copy-written-requires : goal.put_copy-written-requires
-put_copy-written-requires c =
-    (starts-known (goal.at.put_copy-written-requires c).In-Accepted, leb-true _ _ (sym c.copy_fits.ensures ∙ c.if-copy_fits.true))
+put_copy-written-requires c = (
+  starts-known (goal.at.put_copy-written-requires c).In-Accepted,
+  leb-true _ _ (sym c.copy_fits.ensures ∙ c.if-copy_fits.true),
+)
 
 pub returns-then-copy_fits : goal.returns-then-copy_fits
 returns-then-copy_fits c =
-    does-write (λ e. copy_page c.args.page.now) (known (goal.at.returns-then-copy_fits c).In-Accepted).tree (known (goal.at.returns-then-copy_fits c).In-Accepted).kind
+    does-write (λ e. copy_page c.args.page.now) (known (goal.at.returns-then-copy_fits c).In-Accepted).tree
+    (known (goal.at.returns-then-copy_fits c).In-Accepted).kind
     (sym c.copy_fits.ensures ∙ c.if-copy_fits.true) c.put_copy-written.ensures
 
 pub returns-else-copy_fits : goal.returns-else-copy_fits

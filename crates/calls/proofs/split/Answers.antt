@@ -32,7 +32,10 @@ overflow_sub-n-in-Accepted c =
 
 pub prettify_len-size-requires : goal.prettify_len-size-requires
 prettify_len-size-requires c =
-    record { tables = accepts_last (known (goal.at.prettify_len-size-requires c).In-Accepted); known = c.widths_of-widths.ensures }
+    record {
+      tables = accepts_last (known (goal.at.prettify_len-size-requires c).In-Accepted);
+      known = c.widths_of-widths.ensures;
+    }
 
 pub overflow_sub-n-then-size-room : goal.overflow_sub-n-then-size-room
 overflow_sub-n-then-size-room c =
@@ -40,11 +43,17 @@ overflow_sub-n-then-size-room c =
 
 pub put_prettify-written-requires : goal.put_prettify-written-requires
 put_prettify-written-requires c =
-    let room = room_fits _ _ _ c.prettify_len-size.ensures c.if-size-room.true in record { tables = accepts_last (known (goal.at.put_prettify-written-requires c).In-Accepted); known = c.widths_of-widths.ensures; room = omega (arith, room) }
+    let room = room_fits _ _ _ c.prettify_len-size.ensures c.if-size-room.true in
+    record {
+      tables = accepts_last (known (goal.at.put_prettify-written-requires c).In-Accepted);
+      known = c.widths_of-widths.ensures;
+      room = omega (arith, room);
+    }
 
 pub returns-then-size-room : goal.returns-then-size-room
 returns-then-size-room c =
-    does-write prettify (known (goal.at.returns-then-size-room c).In-Accepted).tree (known (goal.at.returns-then-size-room c).In-Accepted).kind
+    does-write prettify (known (goal.at.returns-then-size-room c).In-Accepted).tree
+    (known (goal.at.returns-then-size-room c).In-Accepted).kind
     (room-enough _ _ _ c.prettify_len-size.ensures c.if-size-room.true)
     c.put_prettify-written.ensures
 

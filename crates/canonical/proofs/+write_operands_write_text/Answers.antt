@@ -92,7 +92,8 @@ pub write_operands-put_between-next-requires : goal.write_operands-put_between-n
 write_operands-put_between-next-requires t c =
     let run = run_more display display c.requires.tables _ c.requires.operands
     (between (layout_at c.args.page.now c.args.node)) c.if-count-eq0.false
-    c.if-count-eq1.false c.args.out.now c.args.at c.requires.room in record { node = c.requires.node; room = fits (next run c.write_operands-gap.ensures) }
+    c.if-count-eq1.false c.args.out.now c.args.at c.requires.room in
+    record { node = c.requires.node; room = fits (next run c.write_operands-gap.ensures) }
 
 pub write_operands-write_text-requires-2 : goal.write_operands-write_text-requires-2
 write_operands-write_text-requires-2 t c =

@@ -11,7 +11,8 @@ pub returns-in-Got : goal.returns-in-Got
 returns-in-Got c =
     let p = c.requires in
     let got = rw (c.in-Got.is, c.fields_start-start.ensures) at
-    c.read_text.ensures.reads in record { reads = function-reads p.node p.foot _ got; lies = rw c.in-Got.is at c.read_text.ensures.lies }
+    c.read_text.ensures.reads in
+    record { reads = function-reads p.node p.foot _ got; lies = rw c.in-Got.is at c.read_text.ensures.lies }
 
 pub returns-in-Bad : goal.returns-in-Bad
 returns-in-Bad c =

@@ -12,7 +12,11 @@ pub returns-in-Got : goal.returns-in-Got
 returns-in-Got c =
     let p = c.requires in
     let reads = operator-reads p.node p.foot c.code_of-own.ensures.is
-    (rw c.in-Got.is at c.read_modifier.ensures.reads) in record { reads = reads; stored = rw c.in-Got.is at c.read_modifier.ensures.stored; exact = reads-exact reads }
+    (rw c.in-Got.is at c.read_modifier.ensures.reads) in record {
+      reads = reads;
+      stored = rw c.in-Got.is at c.read_modifier.ensures.stored;
+      exact = reads-exact reads;
+    }
 
 pub returns-in-Bad : goal.returns-in-Bad
 returns-in-Bad c =

@@ -10,7 +10,8 @@ pub returns-in-Got : goal.returns-in-Got
 returns-in-Got c =
     let p = c.requires in
     let got = rw (c.in-Got.is, c.fields_start-start.ensures) at
-    c.read_text.ensures.reads in record { reads = string-reads p.node p.foot got; lies = rw c.in-Got.is at c.read_text.ensures.lies }
+    c.read_text.ensures.reads in
+    record { reads = string-reads p.node p.foot got; lies = rw c.in-Got.is at c.read_text.ensures.lies }
 
 pub returns-in-Bad : goal.returns-in-Bad
 returns-in-Bad c =

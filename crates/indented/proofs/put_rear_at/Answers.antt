@@ -10,7 +10,10 @@ use Rattle.indented.proofs.put_rear_at.Goals as goal
 pub put_suffix-requires : goal.put_suffix-requires
 put_suffix-requires c =
     let e = layout-shaped c.requires.node
-    (sym c.in-Suffixed.is ∙ c.shape_of.ensures) in record { node = c.requires.node; room = room_as _ _ c.args.at _ (ap (rear_at c.args.level) e) c.requires.room }
+    (sym c.in-Suffixed.is ∙ c.shape_of.ensures) in record {
+      node = c.requires.node;
+      room = room_as _ _ c.args.at _ (ap (rear_at c.args.level) e) c.requires.room;
+    }
 
 pub put_byte-lead-requires : goal.put_byte-lead-requires
 put_byte-lead-requires c =

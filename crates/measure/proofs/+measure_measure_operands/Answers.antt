@@ -97,7 +97,10 @@ measure-returns t c =
 
 pub measure_operands-returns-then-count-eq0 : goal.measure_operands-returns-then-count-eq0
 measure_operands-returns-then-count-eq0 t c =
-    record { value = len-none display display c.requires.tables _ c.requires.operands _ _ c.if-count-eq0.true; known = c.requires.known }
+    record {
+      value = len-none display display c.requires.tables _ c.requires.operands _ _ c.if-count-eq0.true;
+      known = c.requires.known;
+    }
 
 pub measure_operands-overflow_sub-root : goal.measure_operands-overflow_sub-root
 measure_operands-overflow_sub-root t c =

@@ -21,7 +21,8 @@ put_quoted-requires c =
 pub put_selector-requires : goal.put_selector-requires
 put_selector-requires c =
     let p = c.requires in
-    let own = c.selector_of-selector.ensures in record { lies = own.lies; room = rw (layout-read p.node c.attached_of.ensures own.reads refl) at p.room }
+    let own = c.selector_of-selector.ensures in
+    record { lies = own.lies; room = rw (layout-read p.node c.attached_of.ensures own.reads refl) at p.room }
 
 pub put_byte-requires : goal.put_byte-requires
 put_byte-requires c =
@@ -31,7 +32,11 @@ put_byte-requires c =
 pub put_aggregator-requires : goal.put_aggregator-requires
 put_aggregator-requires c =
     let p = c.requires in
-    let own = c.aggregator_of-own.ensures in record { stored = own.stored; room = rw (layout-read p.node p.node.chain.sets own.reads.reads refl) at p.room }
+    let own = c.aggregator_of-own.ensures in
+    record {
+      stored = own.stored;
+      room = rw (layout-read p.node p.node.chain.sets own.reads.reads refl) at p.room;
+    }
 
 pub put_bytes-requires : goal.put_bytes-requires
 put_bytes-requires c =

@@ -13,7 +13,12 @@ returns-in_default c =
 pub put_operator-requires : goal.put_operator-requires
 put_operator-requires c =
     let p = c.requires in
-    let own = c.operator_of-own.ensures in record { stored = own.stored; exact = own.exact; room = rw (layout-read p.node p.node.chain.sets own.reads refl) at p.room }
+    let own = c.operator_of-own.ensures in
+    record {
+      stored = own.stored;
+      exact = own.exact;
+      room = rw (layout-read p.node p.node.chain.sets own.reads refl) at p.room;
+    }
 
 pub returns : goal.returns
 returns c =

@@ -35,7 +35,8 @@ put_byte-requires c =
 
 pub put_refused-requires : goal.put_refused-requires
 put_refused-requires c =
-    refused-room c.args.page.now c.args.out.now c.requires (refused (goal.at.put_refused-requires c).After-refusal_number)
+    refused-room c.args.page.now c.args.out.now c.requires
+    (refused (goal.at.put_refused-requires c).After-refusal_number)
 
 pub returns-in-Accepted : goal.returns-in-Accepted
 returns-in-Accepted c =

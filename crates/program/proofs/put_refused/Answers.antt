@@ -25,12 +25,14 @@ put_decimal-word-requires c =
 
 pub put_bytes-second-requires : goal.put_bytes-second-requires
 put_bytes-second-requires c =
-    fits (next (next (begun (goal.at.put_bytes-second-requires c).Start) c.put_bytes-first.ensures) c.put_decimal-word.ensures)
+    fits (next (next (begun (goal.at.put_bytes-second-requires c).Start) c.put_bytes-first.ensures)
+    c.put_decimal-word.ensures)
 
 pub put_decimal-end-requires : goal.put_decimal-end-requires
 put_decimal-end-requires c =
     fits (next
-    (next (next (begun (goal.at.put_decimal-end-requires c).Start) c.put_bytes-first.ensures) c.put_decimal-word.ensures)
+    (next (next (begun (goal.at.put_decimal-end-requires c).Start) c.put_bytes-first.ensures)
+    c.put_decimal-word.ensures)
     c.put_bytes-second.ensures)
 
 pub put_byte-requires : goal.put_byte-requires

@@ -7,4 +7,8 @@ use Rattle.program.proofs.put_sheet.Goals as goal
 
 pub returns : goal.returns
 returns c =
-    let size : 65537 ≡ length c.args.out.now = search rules in record { wrote = c.put_line.ensures; fits = output-within c.args.page.now c.args.out.now size c.put_line.ensures }
+    let size : 65537 ≡ length c.args.out.now = search rules in
+    record {
+      wrote = c.put_line.ensures;
+      fits = output-within c.args.page.now c.args.out.now size c.put_line.ensures;
+    }

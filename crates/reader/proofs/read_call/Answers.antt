@@ -4,7 +4,8 @@ use Rattle.reader.proofs.read_call.Goals as goal
 pub returns-in-Got-read_count : goal.returns-in-Got-read_count
 returns-in-Got-read_count c =
     let e = rw c.in-Got.is at c.read_function.ensures.reads in
-    let f = rw c.in-Got-read_count.is at c.read_count.ensures in record { reads = simp (← e, ← f); lies = rw c.in-Got.is at c.read_function.ensures.lies }
+    let f = rw c.in-Got-read_count.is at c.read_count.ensures in
+    record { reads = simp (← e, ← f); lies = rw c.in-Got.is at c.read_function.ensures.lies }
 
 pub returns-in-Bad-read_count : goal.returns-in-Bad-read_count
 returns-in-Bad-read_count c =

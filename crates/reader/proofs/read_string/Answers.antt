@@ -3,7 +3,8 @@ use Rattle.reader.proofs.read_string.Goals as goal
 
 pub returns-in-Got : goal.returns-in-Got
 returns-in-Got c =
-    let e = rw c.in-Got.is at c.read_text.ensures.reads in record { reads = simp (← e); lies = rw c.in-Got.is at c.read_text.ensures.lies }
+    let e = rw c.in-Got.is at c.read_text.ensures.reads in
+    record { reads = simp (← e); lies = rw c.in-Got.is at c.read_text.ensures.lies }
 
 pub returns-in-Bad : goal.returns-in-Bad
 returns-in-Bad c =

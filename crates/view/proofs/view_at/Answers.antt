@@ -10,7 +10,13 @@ kind_at-requires c =
 
 pub unary_view-requires : goal.unary_view-requires
 unary_view-requires c =
-    let p = c.requires in record { starts = p.starts; foot = c.foot_of-j.ensures; kind = rw c.in-7.is at c.kind_at.ensures; numberless = p.numberless }
+    let p = c.requires in
+    record {
+      starts = p.starts;
+      foot = c.foot_of-j.ensures;
+      kind = rw c.in-7.is at c.kind_at.ensures;
+      numberless = p.numberless;
+    }
 
 pub operands_at-requires : goal.operands_at-requires
 operands_at-requires c =

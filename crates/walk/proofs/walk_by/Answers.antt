@@ -139,7 +139,13 @@ slice_bounds-first_record-end c =
 
 pub first_record-first-requires : goal.first_record-first-requires
 first_record-first-requires c =
-    record { sized = c.loop-at.invariant.arrays.bases-size; inside = ((step (goal.at.first_record-first-requires c).After-bases-1).high, omega (arith, c.loop-at.invariant.progress.count-range, c.if-count-eq-RECORD_LIMIT.false)) }
+    record {
+      sized = c.loop-at.invariant.arrays.bases-size;
+      inside = (
+        (step (goal.at.first_record-first-requires c).After-bases-1).high,
+        omega (arith, c.loop-at.invariant.progress.count-range, c.if-count-eq-RECORD_LIMIT.false),
+      );
+    }
 
 pub overflow_cast-starts : goal.overflow_cast-starts
 overflow_cast-starts c =
@@ -177,7 +183,11 @@ overflow_sub-top c =
 
 pub bounds-tags-top : goal.bounds-tags-top
 bounds-tags-top c =
-    omega (arith, (step (goal.at.bounds-tags-top c).After-bases-1).high, (step (goal.at.bounds-tags-top c).After-bases-1).low)
+    omega (
+      arith,
+      (step (goal.at.bounds-tags-top c).After-bases-1).high,
+      (step (goal.at.bounds-tags-top c).After-bases-1).low,
+    )
 
 pub offset_bounds-values-top : goal.offset_bounds-values-top
 offset_bounds-values-top c =
@@ -185,11 +195,19 @@ offset_bounds-values-top c =
 
 pub bounds-values-top : goal.bounds-values-top
 bounds-values-top c =
-    omega (arith, (step (goal.at.bounds-values-top c).After-bases-1).high, (step (goal.at.bounds-values-top c).After-bases-1).low)
+    omega (
+      arith,
+      (step (goal.at.bounds-values-top c).After-bases-1).high,
+      (step (goal.at.bounds-values-top c).After-bases-1).low,
+    )
 
 pub bounds-bases-top : goal.bounds-bases-top
 bounds-bases-top c =
-    omega (arith, (step (goal.at.bounds-bases-top c).After-bases-1).high, (step (goal.at.bounds-bases-top c).After-bases-1).low)
+    omega (
+      arith,
+      (step (goal.at.bounds-bases-top c).After-bases-1).high,
+      (step (goal.at.bounds-bases-top c).After-bases-1).low,
+    )
 
 pub overflow_add-count : goal.overflow_add-count
 overflow_add-count c =

@@ -7,7 +7,8 @@ use Rattle.walk.proofs.walk_by.Given as goal
 
 abbrev pub invariant-loop-at : goal.invariant-loop-at
 invariant-loop-at l =
-    WalkedSoFar (eqb l.rule 42) l.page l.initial.starts l.initial.firsts l.starts l.firsts l.tags l.values l.bases l.top l.at l.count
+    WalkedSoFar (eqb l.rule 42) l.page l.initial.starts l.initial.firsts l.starts l.firsts l.tags l.values l.bases
+    l.top l.at l.count
 
 abbrev pub decreases-loop-at : goal.decreases-loop-at
 decreases-loop-at l =

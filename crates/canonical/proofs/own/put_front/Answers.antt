@@ -11,12 +11,16 @@ use Rattle.canonical.proofs.own.put_front.Goals as goal
 pub put_head-requires : goal.put_head-requires
 put_head-requires c =
     let e = layout-shaped c.requires.node
-    (sym c.in-Whole.is ∙ c.shape_of.ensures) in record { node = c.requires.node; room = room_as _ _ c.args.at _ (ap front e) c.requires.room }
+    (sym c.in-Whole.is ∙ c.shape_of.ensures) in
+    record { node = c.requires.node; room = room_as _ _ c.args.at _ (ap front e) c.requires.room }
 
 pub put_head-requires-in-Minus : goal.put_head-requires-in-Minus
 put_head-requires-in-Minus c =
     let e = layout-shaped c.requires.node
-    (sym c.in-Minus.is ∙ c.shape_of.ensures) in record { node = c.requires.node; room = room_as _ _ c.args.at _ (ap front e ∙ sym (ap head e)) c.requires.room }
+    (sym c.in-Minus.is ∙ c.shape_of.ensures) in record {
+      node = c.requires.node;
+      room = room_as _ _ c.args.at _ (ap front e ∙ sym (ap head e)) c.requires.room;
+    }
 
 pub put_head-next-requires : goal.put_head-next-requires
 put_head-next-requires c =

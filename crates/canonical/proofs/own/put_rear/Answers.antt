@@ -8,7 +8,8 @@ use Rattle.canonical.proofs.own.put_rear.Goals as goal
 pub put_suffix-requires : goal.put_suffix-requires
 put_suffix-requires c =
     let e = layout-shaped c.requires.node
-    (sym c.in-Suffixed.is ∙ c.shape_of.ensures) in record { node = c.requires.node; room = room_as _ _ c.args.at _ (ap rear e) c.requires.room }
+    (sym c.in-Suffixed.is ∙ c.shape_of.ensures) in
+    record { node = c.requires.node; room = room_as _ _ c.args.at _ (ap rear e) c.requires.room }
 
 pub put_byte-requires : goal.put_byte-requires
 put_byte-requires c =

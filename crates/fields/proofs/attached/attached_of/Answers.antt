@@ -16,7 +16,11 @@ loop-j-init c =
 
 pub with_record-attached-requires : goal.with_record-attached-requires
 with_record-attached-requires c =
-    let node = c.requires in record { starts = starts-fewer node.known (omega (arith, c.loop-j.invariant.1)); attached = sets-attached node.chain.sets c.loop-j-test.true c.loop-j.invariant.1 }
+    let node = c.requires in
+    record {
+      starts = starts-fewer node.known (omega (arith, c.loop-j.invariant.1));
+      attached = sets-attached node.chain.sets c.loop-j-test.true c.loop-j.invariant.1;
+    }
 
 pub overflow_sub-j : goal.overflow_sub-j
 overflow_sub-j c =

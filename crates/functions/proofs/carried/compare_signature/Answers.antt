@@ -53,15 +53,21 @@ overflow_add-starts c =
 
 pub text_in-requires : goal.text_in-requires
 text_in-requires c =
-    let form = table-form c.args.letters.now c.args.starts.now c.requires.table in record { table = c.requires.table; inside = omega (arith, inside (goal.at.text_in-requires c).In-At, form.paired) }
+    let form = table-form c.args.letters.now c.args.starts.now c.requires.table in
+    record {
+      table = c.requires.table;
+      inside = omega (arith, inside (goal.at.text_in-requires c).In-At, form.paired);
+    }
 
 pub returns-then-begins_at : goal.returns-then-begins_at
 returns-then-begins_at c =
-    compared (goal.at.returns-then-begins_at c).After-begins_at (found (goal.at.returns-then-begins_at c).In-At) _ c.if-begins_at.true
+    compared (goal.at.returns-then-begins_at c).After-begins_at (found (goal.at.returns-then-begins_at c).In-At) _
+    c.if-begins_at.true
 
 pub returns-else-begins_at : goal.returns-else-begins_at
 returns-else-begins_at c =
-    compared (goal.at.returns-else-begins_at c).After-begins_at (found (goal.at.returns-else-begins_at c).In-At) _ c.if-begins_at.false
+    compared (goal.at.returns-else-begins_at c).After-begins_at (found (goal.at.returns-else-begins_at c).In-At) _
+    c.if-begins_at.false
 
 pub returns-in-Nothing : goal.returns-in-Nothing
 returns-in-Nothing c =

@@ -65,7 +65,9 @@ text_in-requires c =
 pub returns-in-Same : goal.returns-in-Same
 unfolding place_of
 returns-in-Same c =
-    left-found (half (goal.at.returns-in-Same c).In-loop-low) (order (goal.at.returns-in-Same c).After-order_of (inside (goal.at.returns-in-Same c).In-loop-low) ∙ c.in-Same.is)
+    left-found (half (goal.at.returns-in-Same c).In-loop-low)
+    (order (goal.at.returns-in-Same c).After-order_of (inside (goal.at.returns-in-Same c).In-loop-low)
+    ∙ c.in-Same.is)
 
 pub overflow_add-low : goal.overflow_add-low
 overflow_add-low c =
@@ -73,11 +75,15 @@ overflow_add-low c =
 
 pub loop-low-preserved-in-Before : goal.loop-low-preserved-in-Before
 loop-low-preserved-in-Before c =
-    left_behind (half (goal.at.loop-low-preserved-in-Before c).In-loop-low) (order (goal.at.loop-low-preserved-in-Before c).After-order_of (inside (goal.at.loop-low-preserved-in-Before c).In-loop-low) ∙ c.in-Before.is)
+    left_behind (half (goal.at.loop-low-preserved-in-Before c).In-loop-low)
+    (order (goal.at.loop-low-preserved-in-Before c).After-order_of
+    (inside (goal.at.loop-low-preserved-in-Before c).In-loop-low) ∙ c.in-Before.is)
 
 pub loop-low-preserved : goal.loop-low-preserved
 loop-low-preserved c =
-    left-front (half (goal.at.loop-low-preserved c).In-loop-low) (order (goal.at.loop-low-preserved c).After-order_of (inside (goal.at.loop-low-preserved c).In-loop-low) ∙ c.in-Behind.is)
+    left-front (half (goal.at.loop-low-preserved c).In-loop-low)
+    (order (goal.at.loop-low-preserved c).After-order_of (inside (goal.at.loop-low-preserved c).In-loop-low)
+    ∙ c.in-Behind.is)
 
 pub returns : goal.returns
 unfolding place_of

@@ -12,7 +12,11 @@ fill_values-values-requires c =
 
 pub modifier_len-requires : goal.modifier_len-requires
 modifier_len-requires c =
-    let exact = operator-exact _ _ _ c.in-Some.is c.requires.exact in record { stored = rw c.in-Some.is at c.requires.stored; exact = (c.fill_values-values.ensures, exact.lhs, exact.rhs) }
+    let exact = operator-exact _ _ _ c.in-Some.is c.requires.exact in
+    record {
+      stored = rw c.in-Some.is at c.requires.stored;
+      exact = (c.fill_values-values.ensures, exact.lhs, exact.rhs);
+    }
 
 pub returns-in-None : goal.returns-in-None
 returns-in-None c =

@@ -22,7 +22,10 @@ overflow_add-top c =
 
 pub operand_at-requires : goal.operand_at-requires
 operand_at-requires c =
-    record { sized = c.requires.sized; inside = omega (arith, c.loop-left.invariant.0, c.loop-left-test.true, c.requires.inside) }
+    record {
+      sized = c.requires.sized;
+      inside = omega (arith, c.loop-left.invariant.0, c.loop-left-test.true, c.requires.inside);
+    }
 
 pub returns-then-not-same_kind : goal.returns-then-not-same_kind
 returns-then-not-same_kind c =

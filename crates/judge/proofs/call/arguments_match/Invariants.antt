@@ -16,7 +16,8 @@ invariant-loop-left l =
     (l.left ≤ l.count)
     × (args_match (kinds_on l.page l.kinds l.declared)
     (map operand_kind (operands_of l.count (drop l.top (held_operands l.tags l.values))))
-    ≡ args_match (kinds_on l.page l.at l.more) (map operand_kind (operands_of l.left (drop l.top (held_operands l.tags l.values)))))
+    ≡ args_match (kinds_on l.page l.at l.more)
+    (map operand_kind (operands_of l.left (drop l.top (held_operands l.tags l.values)))))
 
 abbrev pub decreases-loop-left : goal.decreases-loop-left
 decreases-loop-left l =

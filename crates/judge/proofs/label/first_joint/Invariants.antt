@@ -8,7 +8,8 @@ use Rattle.judge.proofs.label.first_joint.Given as goal
 
 abbrev pub invariant-loop-left : goal.invariant-loop-left
 invariant-loop-left l =
-    from_joint (labels_on l.page l.on l.ons) l.count (drop l.start l.page) ≡ from_joint (labels_on l.page l.on l.ons) l.left (drop l.at l.page)
+    from_joint (labels_on l.page l.on l.ons) l.count (drop l.start l.page)
+    ≡ from_joint (labels_on l.page l.on l.ons) l.left (drop l.at l.page)
 
 abbrev pub decreases-loop-left : goal.decreases-loop-left
 decreases-loop-left l =

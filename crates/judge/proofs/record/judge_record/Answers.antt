@@ -12,7 +12,8 @@ use Rattle.ast.specs.Refusal.{ok}
 use Rattle.reader.specs.Answers.{selector_on}
 use Rattle.page.specs.Answers.{span_on}
 use Rattle.records.specs.SignatureAnswers.{function_on}
-use Rattle.records.specs.Answers.{literal_of, modifier_on, label_modifier_on, at_modifier_of, offset_of, optional_duration_of}
+use Rattle.records.specs.Answers.{literal_of, modifier_on, label_modifier_on, at_modifier_of, offset_of}
+use Rattle.records.specs.Answers.{optional_duration_of}
 use Rattle.records.specs.Record.{range, subquery, at, offset, unary, paren, string, selector}
 use Rattle.judge.proofs.RecordLaws.{judgement-leaf, judgement-number, judgement-wrapper, judgement-binary}
 use Rattle.judge.proofs.RecordLaws.{judgement-aggregate, judgement-call}
@@ -24,35 +25,43 @@ literal_operand-requires c =
 
 pub operand_at-requires : goal.operand_at-requires
 operand_at-requires c =
-    let h : c.args.top + 1 ≤ 256 = rw c.in-Range.is at c.requires.ready.fits in record { sized = c.requires.sized; inside = omega arith }
+    let h : c.args.top + 1 ≤ 256 = rw c.in-Range.is at c.requires.ready.fits in
+    record { sized = c.requires.sized; inside = omega arith }
 
 pub operand_at-requires-in-Subquery : goal.operand_at-requires-in-Subquery
 operand_at-requires-in-Subquery c =
-    let h : c.args.top + 1 ≤ 256 = rw c.in-Subquery.is at c.requires.ready.fits in record { sized = c.requires.sized; inside = omega arith }
+    let h : c.args.top + 1 ≤ 256 = rw c.in-Subquery.is at c.requires.ready.fits in
+    record { sized = c.requires.sized; inside = omega arith }
 
 pub operand_at-requires-in-At : goal.operand_at-requires-in-At
 operand_at-requires-in-At c =
-    let h : c.args.top + 1 ≤ 256 = rw c.in-At.is at c.requires.ready.fits in record { sized = c.requires.sized; inside = omega arith }
+    let h : c.args.top + 1 ≤ 256 = rw c.in-At.is at c.requires.ready.fits in
+    record { sized = c.requires.sized; inside = omega arith }
 
 pub operand_at-requires-in-Offset : goal.operand_at-requires-in-Offset
 operand_at-requires-in-Offset c =
-    let h : c.args.top + 1 ≤ 256 = rw c.in-Offset.is at c.requires.ready.fits in record { sized = c.requires.sized; inside = omega arith }
+    let h : c.args.top + 1 ≤ 256 = rw c.in-Offset.is at c.requires.ready.fits in
+    record { sized = c.requires.sized; inside = omega arith }
 
 pub operand_at-requires-in-Unary : goal.operand_at-requires-in-Unary
 operand_at-requires-in-Unary c =
-    let h : c.args.top + 1 ≤ 256 = rw c.in-Unary.is at c.requires.ready.fits in record { sized = c.requires.sized; inside = omega arith }
+    let h : c.args.top + 1 ≤ 256 = rw c.in-Unary.is at c.requires.ready.fits in
+    record { sized = c.requires.sized; inside = omega arith }
 
 pub operand_at-requires-in-Paren : goal.operand_at-requires-in-Paren
 operand_at-requires-in-Paren c =
-    let h : c.args.top + 1 ≤ 256 = rw c.in-Paren.is at c.requires.ready.fits in record { sized = c.requires.sized; inside = omega arith }
+    let h : c.args.top + 1 ≤ 256 = rw c.in-Paren.is at c.requires.ready.fits in
+    record { sized = c.requires.sized; inside = omega arith }
 
 pub operand_at-requires-in-Binary : goal.operand_at-requires-in-Binary
 operand_at-requires-in-Binary c =
-    let h : c.args.top + 2 ≤ 256 = rw c.in-Binary.is at c.requires.ready.fits in record { sized = c.requires.sized; inside = omega arith }
+    let h : c.args.top + 2 ≤ 256 = rw c.in-Binary.is at c.requires.ready.fits in
+    record { sized = c.requires.sized; inside = omega arith }
 
 pub operand_at-requires-in-Binary-2 : goal.operand_at-requires-in-Binary-2
 operand_at-requires-in-Binary-2 c =
-    let h : c.args.top + 2 ≤ 256 = rw c.in-Binary.is at c.requires.ready.fits in record { sized = c.requires.sized; inside = omega arith }
+    let h : c.args.top + 2 ≤ 256 = rw c.in-Binary.is at c.requires.ready.fits in
+    record { sized = c.requires.sized; inside = omega arith }
 
 pub judge_aggregate-requires : goal.judge_aggregate-requires
 judge_aggregate-requires c =
@@ -60,7 +69,11 @@ judge_aggregate-requires c =
 
 pub judge_call-requires : goal.judge_call-requires
 judge_call-requires c =
-    record { sized = c.requires.sized; lies = rw c.in-Call.is at c.requires.ready.lies; inside = rw c.in-Call.is at c.requires.ready.fits }
+    record {
+      sized = c.requires.sized;
+      lies = rw c.in-Call.is at c.requires.ready.lies;
+      inside = rw c.in-Call.is at c.requires.ready.fits;
+    }
 
 pub returns-in-Number : goal.returns-in-Number
 returns-in-Number c =

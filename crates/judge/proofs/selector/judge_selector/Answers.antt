@@ -1,4 +1,5 @@
--- `judge::selector::judge_selector` meets its contract: the flags, then the rows that a name leaves, or that none leaves.
+-- `judge::selector::judge_selector` meets its contract: the
+-- flags, then the rows that a name leaves, or that none leaves.
 -- Assumes nothing.
 use Rattle.judge.proofs.SelectorLaws.{rows_named, rows-nameless}
 use Rattle.judge.proofs.selector.judge_selector.Goals as goal

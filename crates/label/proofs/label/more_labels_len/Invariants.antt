@@ -12,7 +12,8 @@ use Rattle.label.proofs.label.more_labels_len.Given as goal
 abbrev pub invariant-loop-left : goal.invariant-loop-left
 invariant-loop-left l =
     (min (length (display_more_labels (listed read_any_text l.count (drop l.start l.page)))) l.cap
-    ≡ min (l.total + length (display_more_labels (listed read_any_text l.left (drop l.from l.page)))) l.cap) × (l.total ≤ l.cap)
+    ≡ min (l.total + length (display_more_labels (listed read_any_text l.left (drop l.from l.page)))) l.cap)
+    × (l.total ≤ l.cap)
     × AllRead read_any_text l.left (drop l.from l.page)
 
 abbrev pub decreases-loop-left : goal.decreases-loop-left

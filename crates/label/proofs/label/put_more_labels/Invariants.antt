@@ -11,7 +11,8 @@ use Rattle.label.proofs.label.put_more_labels.Given as goal
 abbrev pub invariant-loop-left : goal.invariant-loop-left
 invariant-loop-left l =
     Writing l.initial.out l.out l.at (display_more_labels (listed read_any_text l.count (drop l.start l.page)))
-    (display_more_labels (listed read_any_text l.left (drop l.from l.page))) l.pos × AllRead read_any_text l.left (drop l.from l.page)
+    (display_more_labels (listed read_any_text l.left (drop l.from l.page))) l.pos
+    × AllRead read_any_text l.left (drop l.from l.page)
 
 abbrev pub decreases-loop-left : goal.decreases-loop-left
 decreases-loop-left l =

@@ -14,7 +14,8 @@ use Rattle.label.proofs.matcher.more_matchers_len.Given as goal
 abbrev pub invariant-loop-left : goal.invariant-loop-left
 invariant-loop-left l =
     (min (length (more_by_commas (map display_matcher (matchers_on l.page l.start l.count)))) l.cap
-    ≡ min (l.total + length (more_by_commas (map display_matcher (matchers_on l.page l.at l.left)))) l.cap) × (l.total ≤ l.cap)
+    ≡ min (l.total + length (more_by_commas (map display_matcher (matchers_on l.page l.at l.left)))) l.cap)
+    × (l.total ≤ l.cap)
     × AllRead read_matcher l.left (drop l.at l.page)
 
 abbrev pub decreases-loop-left : goal.decreases-loop-left

@@ -11,7 +11,8 @@ use Rattle.label.proofs.order.matcher_at_most.Given as goal
 abbrev pub invariant-loop-j : goal.invariant-loop-j
 invariant-loop-j l =
     at_most (matcher_text l.name1 l.op1 l.value1) (matcher_text l.name2 l.op2 l.value2)
-    ≡ at_most (drop l.j (matcher_symbols l.bare1 l.name1 l.op1 l.value1)) (drop l.j (matcher_symbols l.bare2 l.name2 l.op2 l.value2))
+    ≡ at_most (drop l.j (matcher_symbols l.bare1 l.name1 l.op1 l.value1))
+    (drop l.j (matcher_symbols l.bare2 l.name2 l.op2 l.value2))
 
 abbrev pub decreases-loop-j : goal.decreases-loop-j
 decreases-loop-j l =

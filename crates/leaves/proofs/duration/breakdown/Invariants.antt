@@ -9,7 +9,8 @@ use Rattle.leaves.proofs.duration.breakdown.Given as goal
 
 abbrev pub invariant-loop-i : goal.invariant-loop-i
 invariant-loop-i l =
-    (duration_counts l.ms ≡ take l.i l.counts ++ counts_of (drop l.i units) l.rest) × (length l.counts ≡ 7) × (l.i ≤ 7) × (l.rest ≤ l.ms)
+    (duration_counts l.ms ≡ take l.i l.counts ++ counts_of (drop l.i units) l.rest) × (length l.counts ≡ 7)
+    × (l.i ≤ 7) × (l.rest ≤ l.ms)
 
 abbrev pub decreases-loop-i : goal.decreases-loop-i
 decreases-loop-i l =

@@ -8,7 +8,8 @@ use Rattle.leaves.proofs.duration.duration_len.Given as goal
 
 abbrev pub invariant-loop-i : goal.invariant-loop-i
 invariant-loop-i l =
-    (l.sum + length (display_counts (drop l.i units) (drop l.i l.counts)) ≡ length (display_duration l.ms)) × (l.sum ≤ 22 * l.i)
+    (l.sum + length (display_counts (drop l.i units) (drop l.i l.counts)) ≡ length (display_duration l.ms))
+    × (l.sum ≤ 22 * l.i)
     × (l.i ≤ 7)
 
 abbrev pub decreases-loop-i : goal.decreases-loop-i

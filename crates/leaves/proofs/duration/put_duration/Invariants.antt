@@ -8,7 +8,8 @@ use Rattle.leaves.proofs.duration.put_duration.Given as goal
 
 abbrev pub invariant-loop-i : goal.invariant-loop-i
 invariant-loop-i l =
-    Writing l.initial.out l.out l.at (display_duration l.ms) (display_counts (drop l.i units) (drop l.i l.counts)) l.pos × (l.i ≤ 7)
+    Writing l.initial.out l.out l.at (display_duration l.ms) (display_counts (drop l.i units) (drop l.i l.counts))
+    l.pos × (l.i ≤ 7)
 
 abbrev pub decreases-loop-i : goal.decreases-loop-i
 decreases-loop-i l =

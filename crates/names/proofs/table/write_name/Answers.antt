@@ -45,7 +45,8 @@ overflow_sub-size c =
 
 pub returns-then-out-size : goal.returns-then-out-size
 returns-then-out-size c =
-    does-short (name_at c.args.letters.now c.args.starts.now c.args.number) c.args.out.now (omega (arith, size (goal.at.returns-then-out-size c).After-wide-end, c.if-out-size.true))
+    does-short (name_at c.args.letters.now c.args.starts.now c.args.number) c.args.out.now
+    (omega (arith, size (goal.at.returns-then-out-size c).After-wide-end, c.if-out-size.true))
 
 pub slice_bounds-put_bytes-count : goal.slice_bounds-put_bytes-count
 slice_bounds-put_bytes-count c =
@@ -61,7 +62,12 @@ slice_bounds-put_bytes-end c =
 
 pub overflow_mul-result : goal.overflow_mul-result
 overflow_mul-result c =
-    omega (arith, c.put_bytes.ensures.ends, size (goal.at.overflow_mul-result c).After-wide-end, (here (goal.at.overflow_mul-result c).After-wide-end).short)
+    omega (
+      arith,
+      c.put_bytes.ensures.ends,
+      size (goal.at.overflow_mul-result c).After-wide-end,
+      (here (goal.at.overflow_mul-result c).After-wide-end).short,
+    )
 
 pub returns : goal.returns
 returns c =

@@ -1,7 +1,6 @@
 use Rattle.page.proofs.AsciiLaws.{word-stop, word-go}
-use mathlib.Core.Path.{refl, sym, ◌∙◌}
+use mathlib.Core.Path.{refl, sym, ◌∙◌, ap}
 use native.Mathlib.Omega.{arith}
-use mathlib.Core.Path.{ap}
 use mathlib.Core.Bool.{not}
 use Rattle.page.proofs.ascii.is_ascii.Goals as goal
 

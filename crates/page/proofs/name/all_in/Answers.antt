@@ -1,6 +1,5 @@
 use Rattle.page.proofs.TextLaws.{all-stop, all_go, all_end}
-use mathlib.Core.Path.{refl, sym, ◌∙◌}
-use mathlib.Core.Path.{ap}
+use mathlib.Core.Path.{refl, sym, ◌∙◌, ap}
 use mathlib.Core.Bool.{not}
 use Rattle.page.proofs.name.all_in.Goals as goal
 

@@ -12,12 +12,14 @@ overflow_sub-page c =
 
 pub returns-then-page-start : goal.returns-then-page-start
 returns-then-page-start c =
-    let e = rw c.in-Got.is at c.read_number.ensures.reads in record { reads = simp (← e, length-drop, lt-leb _ _ c.if-page-start.true); lies = tt }
+    let e = rw c.in-Got.is at c.read_number.ensures.reads in
+    record { reads = simp (← e, length-drop, lt-leb _ _ c.if-page-start.true); lies = tt }
 
 pub returns-then-text_limit-size : goal.returns-then-text_limit-size
 returns-then-text_limit-size c =
     let e = rw c.in-Got.is at c.read_number.ensures.reads in
-    let long = rw c.text_limit.ensures at c.if-text_limit-size.true in record { reads = simp (← e, length-drop, le-leb _ _ c.if-page-start.false, lt-leb _ _ long); lies = tt }
+    let long = rw c.text_limit.ensures at c.if-text_limit-size.true in
+    record { reads = simp (← e, length-drop, le-leb _ _ c.if-page-start.false, lt-leb _ _ long); lies = tt }
 
 pub slice_bounds-text_allowed-end : goal.slice_bounds-text_allowed-end
 slice_bounds-text_allowed-end c =
@@ -46,7 +48,12 @@ pub returns-else-text_allowed : goal.returns-else-text_allowed
 returns-else-text_allowed c =
     let e = rw c.in-Got.is at c.read_number.ensures.reads in
     let short = rw c.text_limit.ensures at c.if-text_limit-size.false in
-    let allowed = rw add-sub_cancel_left at c.text_allowed.ensures in record { reads = simp (← e, length-drop, le-leb _ _ c.if-page-start.false, le-leb _ _ short, ← allowed, c.if-text_allowed.false); lies = tt }
+    let allowed = rw add-sub_cancel_left at c.text_allowed.ensures in
+    record {
+      reads = simp
+          (← e, length-drop, le-leb _ _ c.if-page-start.false, le-leb _ _ short, ← allowed, c.if-text_allowed.false);
+      lies = tt;
+    }
 
 pub returns-in-Bad : goal.returns-in-Bad
 returns-in-Bad c =

@@ -11,7 +11,8 @@ use Rattle.record_lines.proofs.list.put_list.Given as goal
 abbrev pub invariant-loop-left : goal.invariant-loop-left
 invariant-loop-left l =
     (length l.line ≡ length l.initial.line)
-    × Showing l.initial.line l.initial.end (join (listed (read_element l.elements l.page) l.count (drop l.start l.page))) l.line l.end
+    × Showing l.initial.line l.initial.end
+    (join (listed (read_element l.elements l.page) l.count (drop l.start l.page))) l.line l.end
     (join (listed (read_element l.elements l.page) l.left (drop l.from l.page)))
 
 abbrev pub decreases-loop-left : goal.decreases-loop-left

@@ -28,4 +28,5 @@ pub returns : goal.returns
 returns c =
     let e = all_read read_kind c.args.count (drop c.args.start c.args.page.now)
     c.loop-left.left (drop c.loop-left.at c.args.page.now) c.loop-left.invariant
-    c.loop-left-test.false in record { reads = e; stored = read_length read_kind c.args.count (drop c.args.start c.args.page.now) e }
+    c.loop-left-test.false in
+    record { reads = e; stored = read_length read_kind c.args.count (drop c.args.start c.args.page.now) e }

@@ -3,7 +3,8 @@ use Rattle.records.proofs.kind.read_kinds.Goals as goal
 
 pub returns-in-Got : goal.returns-in-Got
 returns-in-Got c =
-    let e = rw c.in-Got.is at c.read_count.ensures in record { reads = simp (← e, c.kinds_from.ensures.reads); stored = c.kinds_from.ensures.stored }
+    let e = rw c.in-Got.is at c.read_count.ensures in
+    record { reads = simp (← e, c.kinds_from.ensures.reads); stored = c.kinds_from.ensures.stored }
 
 pub returns-in-Bad : goal.returns-in-Bad
 returns-in-Bad c =

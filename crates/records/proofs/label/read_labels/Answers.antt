@@ -3,7 +3,8 @@ use Rattle.records.proofs.label.read_labels.Goals as goal
 
 pub returns-in-Got : goal.returns-in-Got
 returns-in-Got c =
-    let e = rw c.in-Got.is at c.read_count.ensures in record { reads = simp (← e, c.labels_from.ensures.reads); stored = c.labels_from.ensures.stored }
+    let e = rw c.in-Got.is at c.read_count.ensures in
+    record { reads = simp (← e, c.labels_from.ensures.reads); stored = c.labels_from.ensures.stored }
 
 pub returns-in-Bad : goal.returns-in-Bad
 returns-in-Bad c =

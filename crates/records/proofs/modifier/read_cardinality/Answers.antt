@@ -12,22 +12,32 @@ returns-in-0 c =
 pub returns-in-Got-read_labels : goal.returns-in-Got-read_labels
 returns-in-Got-read_labels c =
     let e = rw c.in-Got.is at c.read_number.ensures.reads in
-    let f = rw c.in-Got-read_labels.is at c.read_labels.ensures.reads in record { reads = simp (← e, c.in-1.is, ← f); stored = rw c.in-Got-read_labels.is at c.read_labels.ensures.stored }
+    let f = rw c.in-Got-read_labels.is at c.read_labels.ensures.reads in
+    record {
+      reads = simp (← e, c.in-1.is, ← f);
+      stored = rw c.in-Got-read_labels.is at c.read_labels.ensures.stored;
+    }
 
 pub returns-in-Bad-read_labels : goal.returns-in-Bad-read_labels
 returns-in-Bad-read_labels c =
     let e = rw c.in-Got.is at c.read_number.ensures.reads in
-    let f = rw c.in-Bad-read_labels.is at c.read_labels.ensures.reads in record { reads = simp (← e, c.in-1.is, ← f); stored = tt }
+    let f = rw c.in-Bad-read_labels.is at c.read_labels.ensures.reads in
+    record { reads = simp (← e, c.in-1.is, ← f); stored = tt }
 
 pub returns-in-Got-read_labels-2 : goal.returns-in-Got-read_labels-2
 returns-in-Got-read_labels-2 c =
     let e = rw c.in-Got.is at c.read_number.ensures.reads in
-    let f = rw c.in-Got-read_labels-2.is at c.read_labels-in-2.ensures.reads in record { reads = simp (← e, c.in-2.is, ← f); stored = rw c.in-Got-read_labels-2.is at c.read_labels-in-2.ensures.stored }
+    let f = rw c.in-Got-read_labels-2.is at c.read_labels-in-2.ensures.reads in
+    record {
+      reads = simp (← e, c.in-2.is, ← f);
+      stored = rw c.in-Got-read_labels-2.is at c.read_labels-in-2.ensures.stored;
+    }
 
 pub returns-in-Bad-read_labels-2 : goal.returns-in-Bad-read_labels-2
 returns-in-Bad-read_labels-2 c =
     let e = rw c.in-Got.is at c.read_number.ensures.reads in
-    let f = rw c.in-Bad-read_labels-2.is at c.read_labels-in-2.ensures.reads in record { reads = simp (← e, c.in-2.is, ← f); stored = tt }
+    let f = rw c.in-Bad-read_labels-2.is at c.read_labels-in-2.ensures.reads in
+    record { reads = simp (← e, c.in-2.is, ← f); stored = tt }
 
 pub returns-in-3 : goal.returns-in-3
 returns-in-3 c =

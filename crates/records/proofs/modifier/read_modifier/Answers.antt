@@ -13,12 +13,17 @@ returns-in-0 c =
 pub returns-in-Got-read_bin_modifier : goal.returns-in-Got-read_bin_modifier
 returns-in-Got-read_bin_modifier c =
     let e = rw c.in-Got.is at c.read_number.ensures.reads in
-    let f = rw c.in-Got-read_bin_modifier.is at c.read_bin_modifier.ensures.reads in record { reads = simp (← e, c.in-1.is, ← f); stored = rw c.in-Got-read_bin_modifier.is at c.read_bin_modifier.ensures.stored }
+    let f = rw c.in-Got-read_bin_modifier.is at c.read_bin_modifier.ensures.reads in
+    record {
+      reads = simp (← e, c.in-1.is, ← f);
+      stored = rw c.in-Got-read_bin_modifier.is at c.read_bin_modifier.ensures.stored;
+    }
 
 pub returns-in-Bad-read_bin_modifier : goal.returns-in-Bad-read_bin_modifier
 returns-in-Bad-read_bin_modifier c =
     let e = rw c.in-Got.is at c.read_number.ensures.reads in
-    let g = rw c.in-Bad-read_bin_modifier.is at c.read_bin_modifier.ensures.reads in record { reads = simp (← e, c.in-1.is, ← g); stored = tt }
+    let g = rw c.in-Bad-read_bin_modifier.is at c.read_bin_modifier.ensures.reads in
+    record { reads = simp (← e, c.in-1.is, ← g); stored = tt }
 
 pub returns-in_default : goal.returns-in_default
 returns-in_default c =

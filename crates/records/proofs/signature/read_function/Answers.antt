@@ -10,7 +10,11 @@ read_function_rest-requires c = (
 pub returns-in-Got-read_kinds : goal.returns-in-Got-read_kinds
 returns-in-Got-read_kinds c =
     let e = rw c.in-Got.is at c.read_text.ensures.reads in
-    let f = rw c.in-Got-read_kinds.is at c.read_kinds.ensures.reads in record { reads = simp (← e, ← f, c.read_function_rest.ensures.reads); lies = c.read_function_rest.ensures.lies }
+    let f = rw c.in-Got-read_kinds.is at c.read_kinds.ensures.reads in
+    record {
+      reads = simp (← e, ← f, c.read_function_rest.ensures.reads);
+      lies = c.read_function_rest.ensures.lies;
+    }
 
 pub returns-in-Bad-read_kinds : goal.returns-in-Bad-read_kinds
 returns-in-Bad-read_kinds c =

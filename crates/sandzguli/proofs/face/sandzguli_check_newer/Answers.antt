@@ -9,7 +9,8 @@ use Rattle.sandzguli.proofs.face.sandzguli_check_newer.Goals as goal
 
 pub outcome_word-requires : goal.outcome_word-requires
 outcome_word-requires c =
-    subst FitsWord (sym c.check_newer.ensures.is_check_table) (check_table_of-fits newer_functions newer-kinded c.args.page.now)
+    subst FitsWord (sym c.check_newer.ensures.is_check_table)
+    (check_table_of-fits newer_functions newer-kinded c.args.page.now)
 
 pub returns : goal.returns
 returns c =

@@ -1,4 +1,5 @@
--- `sandzguli::face::sandzguli_check_table` meets its contract: the numbers of the check with the table are known, so its
+-- `sandzguli::face::sandzguli_check_table` meets its contract:
+-- the numbers of the check with the table are known, so its
 -- word fits. Assumes nothing.
 use mathlib.Core.Path.{ap, ◌∙◌, subst, sym}
 use Rattle.sandzguli.specs.Words.{outcome_word, FitsWord}

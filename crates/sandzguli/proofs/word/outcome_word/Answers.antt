@@ -27,7 +27,12 @@ overflow_add-result-in-Refused c =
 
 pub overflow_add-result-in-Refused-2 : goal.overflow_add-result-in-Refused-2
 overflow_add-result-in-Refused-2 c =
-    omega (arith, (inside (goal.at.overflow_add-result-in-Refused-2 c).In-Refused).0, (inside (goal.at.overflow_add-result-in-Refused-2 c).In-Refused).1, c.refusal_number.ensures)
+    omega (
+      arith,
+      (inside (goal.at.overflow_add-result-in-Refused-2 c).In-Refused).0,
+      (inside (goal.at.overflow_add-result-in-Refused-2 c).In-Refused).1,
+      c.refusal_number.ensures,
+    )
 
 pub returns-in-Accepted : goal.returns-in-Accepted
 returns-in-Accepted c =

@@ -7,7 +7,12 @@ use Rattle.split.proofs.whole.prettify_len.Goals as goal
 
 pub split_len-requires : goal.split_len-requires
 split_len-requires c =
-    record { tables = c.requires.tables; known = c.requires.known; numberless = unmarked _ _; level = omega (arith, c.requires.tables.few) }
+    record {
+      tables = c.requires.tables;
+      known = c.requires.known;
+      numberless = unmarked _ _;
+      level = omega (arith, c.requires.tables.few);
+    }
 
 pub returns : goal.returns
 unfolding pretty_indented

@@ -8,7 +8,13 @@ use Rattle.split.proofs.whole.put_prettify.Goals as goal
 pub write_split-requires : goal.write_split-requires
 unfolding pretty_indented
 write_split-requires c =
-    record { tables = c.requires.tables; known = c.requires.known; numberless = unmarked _ _; level = omega (arith, c.requires.tables.few); room = omega (arith, c.requires.room) }
+    record {
+      tables = c.requires.tables;
+      known = c.requires.known;
+      numberless = unmarked _ _;
+      level = omega (arith, c.requires.tables.few);
+      room = omega (arith, c.requires.room);
+    }
 
 pub returns : goal.returns
 unfolding pretty_indented

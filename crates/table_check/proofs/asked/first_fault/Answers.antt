@@ -12,7 +12,11 @@ bounds-starts-i c =
 
 pub record_fault-requires : goal.record_fault-requires
 record_fault-requires c =
-    let stands = c.requires.known.entry c.loop-i.i c.loop-i-test.true in record { readable = rw c.wide.ensures (record { value = stands.item; rest = stands.rest; reads = stands.reads }); table = c.requires.table }
+    let stands = c.requires.known.entry c.loop-i.i c.loop-i-test.true in
+    record {
+      readable = rw c.wide.ensures (record { value = stands.item; rest = stands.rest; reads = stands.reads });
+      table = c.requires.table;
+    }
 
 pub returns-in-Fault : goal.returns-in-Fault
 returns-in-Fault c =

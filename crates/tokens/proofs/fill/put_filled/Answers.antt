@@ -28,7 +28,8 @@ put_bytes-number-requires c =
 
 pub put_fill-closing-requires : goal.put_fill-closing-requires
 put_fill-closing-requires c =
-    fits (next (next (begun (goal.at.put_fill-closing-requires c).Start) c.put_bytes-bracket.ensures) c.put_bytes-number.ensures)
+    fits (next (next (begun (goal.at.put_fill-closing-requires c).Start) c.put_bytes-bracket.ensures)
+    c.put_bytes-number.ensures)
 
 pub put_byte-requires : goal.put_byte-requires
 put_byte-requires c =

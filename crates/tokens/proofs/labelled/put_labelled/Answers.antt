@@ -33,7 +33,8 @@ put_labels-closing-requires c =
     record {
       stored = c.requires.stored;
       room = fits
-          (next (next (begun (goal.at.put_labels-closing-requires c).Start) c.put_bytes-bracket.ensures) c.put_bytes-labels.ensures);
+          (next (next (begun (goal.at.put_labels-closing-requires c).Start) c.put_bytes-bracket.ensures)
+          c.put_bytes-labels.ensures);
     }
 
 pub put_byte-requires : goal.put_byte-requires

@@ -5,11 +5,17 @@ use Rattle.tokens.proofs.modifier.put_cardinality.Goals as goal
 
 pub put_labelled-requires : goal.put_labelled-requires
 put_labelled-requires c =
-    record { stored = rw c.in-ManyToOne.is at c.requires.stored; room = rw (cardinality-left _ _ _ c.in-ManyToOne.is) at c.requires.room }
+    record {
+      stored = rw c.in-ManyToOne.is at c.requires.stored;
+      room = rw (cardinality-left _ _ _ c.in-ManyToOne.is) at c.requires.room;
+    }
 
 pub put_labelled-requires-in-OneToMany : goal.put_labelled-requires-in-OneToMany
 put_labelled-requires-in-OneToMany c =
-    record { stored = rw c.in-OneToMany.is at c.requires.stored; room = rw (cardinality-right _ _ _ c.in-OneToMany.is) at c.requires.room }
+    record {
+      stored = rw c.in-OneToMany.is at c.requires.stored;
+      room = rw (cardinality-right _ _ _ c.in-OneToMany.is) at c.requires.room;
+    }
 
 pub returns-in-OneToOne : goal.returns-in-OneToOne
 returns-in-OneToOne c =

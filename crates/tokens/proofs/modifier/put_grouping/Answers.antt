@@ -24,7 +24,10 @@ put_byte-requires c =
 
 pub put_labelled-space-requires-in-Exclude : goal.put_labelled-space-requires-in-Exclude
 put_labelled-space-requires-in-Exclude c =
-    record { stored = rw c.in-Exclude.is at c.requires.stored; room = first _ _ c.requires.room (grouping-without _ _ _ c.in-Exclude.is) }
+    record {
+      stored = rw c.in-Exclude.is at c.requires.stored;
+      room = first _ _ c.requires.room (grouping-without _ _ _ c.in-Exclude.is);
+    }
 
 pub put_byte-requires-in-Exclude : goal.put_byte-requires-in-Exclude
 put_byte-requires-in-Exclude c =

@@ -5,7 +5,10 @@ use Rattle.tokens.proofs.modifier.put_matching.Goals as goal
 
 pub put_labelled-requires : goal.put_labelled-requires
 put_labelled-requires c =
-    record { stored = rw c.in-Include.is at c.requires.stored; room = rw (matching-on _ _ _ c.in-Include.is) at c.requires.room }
+    record {
+      stored = rw c.in-Include.is at c.requires.stored;
+      room = rw (matching-on _ _ _ c.in-Include.is) at c.requires.room;
+    }
 
 pub returns-then-list-eq0 : goal.returns-then-list-eq0
 returns-then-list-eq0 c =

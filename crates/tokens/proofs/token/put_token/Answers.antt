@@ -31,7 +31,8 @@ bounds-i c =
 
 pub put_byte-pos-requires : goal.put_byte-pos-requires
 put_byte-pos-requires c =
-    room c.loop-i.invariant (token-letter _ _ c.loop-i-test.true (letter-inside (goal.at.put_byte-pos-requires c).In-loop-i))
+    room c.loop-i.invariant
+    (token-letter _ _ c.loop-i-test.true (letter-inside (goal.at.put_byte-pos-requires c).In-loop-i))
 
 pub overflow_add-i : goal.overflow_add-i
 overflow_add-i c =
