@@ -1,5 +1,5 @@
--- The ends of the call that writes a signature, for any table of the form: an unknown name, too short a buffer, written.
--- The last byte of a signature is its result kind. Assumes nothing.
+-- The ends of the call that writes a signature, for any table: an unknown name, too short a buffer, written. The last
+-- byte of a signature is its result kind. Assumes nothing.
 use Prim.Native.Nat.{ℕ, ◌+◌, ◌-◌, ◌≤◌, ◌<◌}
 use mathlib.Core.Path.{◌≡◌, refl, sym, ap, ◌∙◌, subst}
 use mathlib.Core.List.{List, [], ◌∷◌, ◌++◌}
@@ -9,7 +9,6 @@ use native.Mathlib.Omega.{arith}
 use borrow.Author.Tests.{le-leb, lt-leb}
 use lib.ListN.{length, get_or, take, drop, length-append, length-drop}
 use lib.Seq.{get_or-append-add, length-take-le}
-use lib.Dec.{T}
 use Rattle.base.specs.Splice.{Wrote}
 use Rattle.base.proofs.SpliceLaws.{splice-start}
 use Rattle.page.specs.Text.{Text, write_list}
@@ -17,7 +16,9 @@ use Rattle.records.specs.Kind.{Kind, vector, scalar, matrix, string, kind_number
 use Rattle.records.specs.Field.{write_kind}
 use Rattle.records.specs.Signature.{Function, write_variadic, write_signature}
 use Rattle.records.specs.Outcome.{Outcome, answer, refusal}
-use Rattle.functions.specs.Table.{cut, count_of, is_table, place_of}
+use Rattle.functions.specs.Table.{count_of}
+use Rattle.functions.specs.Answers.{texts_of, place_in}
+use Rattle.functions.specs.declared.form.Table.{Table}
 use Rattle.functions.proofs.SignatureLaws.{same_kind}
 use Rattle.functions.proofs.CutLaws.{placed, cut_at}
 use Rattle.functions.proofs.TableLaws.{formed-found, formed-unknown, formed-signature}
@@ -65,26 +66,27 @@ module _ {text buffer : List ℕ} where
         leaves = wrote.holds ∙ splice-start buffer (write_signature f);
       })
 
--- ## A table in arrays
+-- ## A table
 
 -- no text of it is empty
-pub text-some : (letters starts : List ℕ) (i : ℕ) → T (is_table letters starts) → i < length starts - 1
-    → 0 < length (get_or (cut letters starts) i [])
-text-some letters starts i table h =
-    let text = placed letters starts i table h in
+pub text-some : (lent : Table) (i : ℕ) → i < length lent.starts.now - 1 → 0 < length (get_or (texts_of lent) i [])
+text-some lent i h =
+    let letters = lent.letters.now in
+    let starts = lent.starts.now in
+    let text = placed letters starts i lent.formed h in
     let start = get_or starts i 0 in
     let end = get_or starts (i + 1) 0 in
     let size : length (take (end - start) (drop start letters)) ≡ end - start
     = length-take-le (end - start) (drop start letters) (omega (arith, length-drop start letters, text.inside, text.ordered)) in
     rw (cut_at letters starts i h) (omega (arith, size, text.ordered))
 
-module _ (letters starts : List ℕ) (name : Text) (buffer : List ℕ) where
-  pub signs-unknown : none ≡ place_of letters starts name → SignsIn letters starts name buffer (refusal unknown_function 0) buffer
-  signs-unknown e table formed = rw (formed-unknown formed name (sym e)) (record { answers = refl; leaves = refl })
+module _ (lent : Table) (name : Text) (buffer : List ℕ) where
+  pub signs-unknown : none ≡ place_in lent name → SignsIn lent name buffer (refusal unknown_function 0) buffer
+  signs-unknown e table holds = rw (formed-unknown holds name (sym e)) (record { answers = refl; leaves = refl })
 
-  pub signs-found : {outcome : Outcome} {after : List ℕ} (i : ℕ) → some i ≡ place_of letters starts name
-      → PutsSignature (get_or (cut letters starts) (count_of starts + i) []) buffer outcome after
-      → SignsIn letters starts name buffer outcome after
-  signs-found i e puts table formed =
-      let stands = formed-found formed name i (sym e) in
-      rw stands.is_found (puts stands.row (formed-signature formed i stands.is_row))
+  pub signs-found : {outcome : Outcome} {after : List ℕ} (i : ℕ) → some i ≡ place_in lent name
+      → PutsSignature (get_or (texts_of lent) (count_of lent.starts.now + i) []) buffer outcome after
+      → SignsIn lent name buffer outcome after
+  signs-found i e puts table holds =
+      let stands = formed-found holds name i (sym e) in
+      rw stands.is_found (puts stands.row (formed-signature holds i stands.is_row))

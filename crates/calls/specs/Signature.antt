@@ -1,10 +1,11 @@
--- What the parts of the call that writes a signature do: for any function, and for any table that lies in the arrays.
+-- What the parts of the call that writes a signature do: for any function, and for any table.
 use Rattle.std.specs.Prelude.{ℕ, ◌≡◌, List}
 use Rattle.page.specs.Text.{Text}
 use Rattle.records.specs.Kind.{Kind, kind_number}
 use Rattle.records.specs.Signature.{Function, write_signature}
 use Rattle.records.specs.Outcome.{Outcome}
-use Rattle.functions.specs.Table.{Formed}
+use Rattle.functions.specs.Answers.{Holds}
+use Rattle.functions.specs.declared.form.Table.{Table}
 use Rattle.outcomes.specs.Calls.{written, Does}
 use Rattle.outcomes.specs.Signature.{signature_in}
 
@@ -17,7 +18,7 @@ abbrev pub PutsSignature : List ℕ → List ℕ → Outcome → List ℕ → Ty
 PutsSignature text buffer outcome after =
     (f : Function) → text ≡ write_signature f → Does (written f.return_type 0 (write_signature f) buffer) outcome after
 
--- so is the signature of the name in any table that lies in the arrays
-abbrev pub SignsIn : List ℕ → List ℕ → Text → List ℕ → Outcome → List ℕ → Type 0
-SignsIn letters starts name buffer outcome after =
-    (table : List Function) → Formed letters starts table → Does (signature_in table name buffer) outcome after
+-- so is the signature of the name among the functions that a table holds
+abbrev pub SignsIn : Table → Text → List ℕ → Outcome → List ℕ → Type 0
+SignsIn lent name buffer outcome after =
+    (table : List Function) → Holds lent table → Does (signature_in table name buffer) outcome after

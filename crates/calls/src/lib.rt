@@ -10,7 +10,7 @@ ghost use Rattle.outcomes.specs.Calls.{copy, canonical_text, split_text, Does};
 use measure::widths_of;
 use rules::Refusal;
 use split::{prettify_len, put_prettify};
-use walk::{Outcome, Walked, walk};
+use walk::{Accepted, Outcome, Refused, walk};
 
 // The copy of an accepted page.
 pub fn copy(page: &[u8], out: &mut [u8]) -> Outcome
@@ -18,17 +18,17 @@ pub fn copy(page: &[u8], out: &mut [u8]) -> Outcome
 {
     let mut starts = [0u16; page::RECORD_LIMIT];
     let mut firsts = [0u8; page::RECORD_LIMIT];
-    let walked = walk(page, &mut starts, &mut firsts);
-    match walked {
-        Walked::Accepted { kind, count: n } => {
-            if copy::copy_fits(page, &starts, n, out.len()) {
-                let written = copy::put_copy(page, &starts, n, out);
-                return Outcome::Accepted { kind, written };
-            }
-            Outcome::Refused(Refusal::OutputTooShort, n)
-        }
-        Walked::Refused(refusal, index) => Outcome::Refused(refusal, index),
+    let walked = walk(page, &mut starts, &mut firsts)?;
+    let kind = walked.kind;
+    let count = walked.count;
+    if copy::copy_fits(page, &starts, count, out.len()) {
+        let written = copy::put_copy(page, &starts, count, out);
+        return Ok(Accepted { kind, written });
     }
+    Err(Refused {
+        refusal: Refusal::OutputTooShort,
+        index: count,
+    })
 }
 
 // Canonical text of an accepted page.
@@ -37,17 +37,18 @@ pub fn canonical(page: &[u8], out: &mut [u8]) -> Outcome
 {
     let mut starts = [0u16; page::RECORD_LIMIT];
     let mut firsts = [0u8; page::RECORD_LIMIT];
-    let walked = walk(page, &mut starts, &mut firsts);
-    match walked {
-        Walked::Accepted { kind, count: n } => {
-            if canonical::text_fits(page, &starts, &firsts, n - 1, out.len()) {
-                let written = canonical::write_text(page, &starts, &firsts, n - 1, false, out, 0);
-                return Outcome::Accepted { kind, written };
-            }
-            Outcome::Refused(Refusal::OutputTooShort, n)
-        }
-        Walked::Refused(refusal, index) => Outcome::Refused(refusal, index),
+    let walked = walk(page, &mut starts, &mut firsts)?;
+    let kind = walked.kind;
+    let count = walked.count;
+    let last = count - 1;
+    if canonical::text_fits(page, &starts, &firsts, last, out.len()) {
+        let written = canonical::write_text(page, &starts, &firsts, last, false, out, 0);
+        return Ok(Accepted { kind, written });
     }
+    Err(Refused {
+        refusal: Refusal::OutputTooShort,
+        index: count,
+    })
 }
 
 // Split text of an accepted page. Measured up to one byte more than there is room for.
@@ -56,18 +57,19 @@ pub fn split(page: &[u8], out: &mut [u8]) -> Outcome
 {
     let mut starts = [0u16; page::RECORD_LIMIT];
     let mut firsts = [0u8; page::RECORD_LIMIT];
-    let walked = walk(page, &mut starts, &mut firsts);
-    match walked {
-        Walked::Accepted { kind, count: n } => {
-            let room = out.len();
-            let widths = widths_of(page, &starts, &firsts, n - 1);
-            let size = prettify_len(page, &starts, &firsts, &widths, n - 1, room + 1);
-            if size <= room {
-                let written = put_prettify(page, &starts, &firsts, &widths, n - 1, out);
-                return Outcome::Accepted { kind, written };
-            }
-            Outcome::Refused(Refusal::OutputTooShort, n)
-        }
-        Walked::Refused(refusal, index) => Outcome::Refused(refusal, index),
+    let walked = walk(page, &mut starts, &mut firsts)?;
+    let kind = walked.kind;
+    let count = walked.count;
+    let last = count - 1;
+    let room = out.len();
+    let widths = widths_of(page, &starts, &firsts, last);
+    let size = prettify_len(page, &starts, &firsts, &widths, last, room + 1);
+    if size <= room {
+        let written = put_prettify(page, &starts, &firsts, &widths, last, out);
+        return Ok(Accepted { kind, written });
     }
+    Err(Refused {
+        refusal: Refusal::OutputTooShort,
+        index: count,
+    })
 }

@@ -1,19 +1,18 @@
-// The call that writes a function's signature (document 02, No. 2), and the same for any table of the form. A table holds
+// The call that writes a function's signature (document 02, No. 2), and the same for any table. A table holds
 // its signatures as they stand in a call, so that the bytes are copied.
-ghost use Rattle.std.specs.Prelude.{◌<◌, T, length};
+ghost use Rattle.std.specs.Prelude.{◌<◌, length};
 ghost use Rattle.records.specs.Answers.{kind_of};
 ghost use Rattle.walk.specs.Answers.{outcome_meant};
-ghost use Rattle.functions.specs.Table.{is_table};
 ghost use Rattle.outcomes.specs.Calls.{Does};
 ghost use Rattle.outcomes.specs.Signature.{signature};
 ghost use Rattle.calls.specs.Signature.{IsKindOf, PutsSignature, SignsIn};
 
-use functions::find::{Found, find, text_in};
+use functions::form::Table;
 use functions::table::{LETTERS, STARTS};
 use page::put_bytes;
 use records::Kind;
 use rules::Refusal;
-use walk::Outcome;
+use walk::{Accepted, Outcome, Refused};
 
 // The kind that a number on a page stands for.
 fn kind_from(number: u8) -> Kind
@@ -33,24 +32,26 @@ fn put_signature(text: &[u8], out: &mut [u8]) -> Outcome
     ensures { PutsSignature text.now out.old (outcome_meant result) out.new }
 {
     if out.len() < text.len() {
-        return Outcome::Refused(Refusal::OutputTooShort, 0);
+        return Err(Refused {
+            refusal: Refusal::OutputTooShort,
+            index: 0,
+        });
     }
     let kind = kind_from(text[text.len() - 1]);
     let written = put_bytes(text, out, 0);
-    Outcome::Accepted { kind, written }
+    Ok(Accepted { kind, written })
 }
 
-// The signature of a name in the table that lies in the arrays.
-pub fn signature_in(letters: &[u8], starts: &[u16], name: &[u8], out: &mut [u8]) -> Outcome
-    requires { T (is_table letters.now starts.now) }
-    ensures { SignsIn letters.now starts.now name.now out.old
-        (outcome_meant result) out.new }
+// The signature of a name in a table.
+pub fn signature_in(table: &Table, name: &[u8], out: &mut [u8]) -> Outcome
+    ensures { SignsIn table.now name.now out.old (outcome_meant result) out.new }
 {
-    match find(letters, starts, name) {
-        Found::At(place) => {
-            put_signature(text_in(letters, starts, starts.len() / 2 + place), out)
-        }
-        Found::Nothing => Outcome::Refused(Refusal::UnknownFunction, 0),
+    match table.find(name) {
+        Some(place) => put_signature(table.signature(place), out),
+        None => Err(Refused {
+            refusal: Refusal::UnknownFunction,
+            index: 0,
+        }),
     }
 }
 
@@ -58,5 +59,9 @@ pub fn signature_in(letters: &[u8], starts: &[u16], name: &[u8], out: &mut [u8])
 pub fn signature(name: &[u8], out: &mut [u8]) -> Outcome
     ensures { Does (signature name.now out.old) (outcome_meant result) out.new }
 {
-    signature_in(&LETTERS, &STARTS, name, out)
+    let table = Table {
+        letters: &LETTERS,
+        starts: &STARTS,
+    };
+    signature_in(&table, name, out)
 }

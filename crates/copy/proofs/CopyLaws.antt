@@ -201,7 +201,7 @@ copy_page-tree p q e f m n h k same =
     let one : walk apply 0 [] (copied p) ≡ stack (e ∷ []) = copy_records-walk (read_page p).records 0 [] (e ∷ []) (accepted-walks (read_page p) e m h).1 0 in
     let other : walk apply 0 [] (copied q) ≡ stack (f ∷ []) = copy_records-walk (read_page q).records 0 [] (f ∷ []) (accepted-walks (read_page q) f n k).1 0 in
     let records : copied p ≡ copied q = write_records-injective (copied p) (copied q) (allowed p) (allowed q) same in
-    cc (ap (walk apply 0 []) records)
+    cc
   where
     copied : List ℕ → List Record
     copied page = copy_records (read_page page).records

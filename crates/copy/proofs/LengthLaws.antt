@@ -128,7 +128,8 @@ modifier-bytes c h (some m) =
       ap length (modifier-written c h m) ∙ length-append (before c m) (form_of m.card ∷ after m),
     )
 
-binary-bytes : (c : ℕ) → T (is_code c) → (m : Option BinModifier) → length (write_record (binary c (checked_modifier c m))) ≤ length (write_record (binary c m)) + 5
+binary-bytes : (c : ℕ) → T (is_code c) → (m : Option BinModifier)
+    → length (write_record (binary c (checked_modifier c m))) ≤ length (write_record (binary c m)) + 5
 binary-bytes c h m = by (is_set_operator c)
   where
     by : (b : Bool) → length (write_record (binary c (pick b (some (set_operator_modifier m)) m))) ≤ length (write_record (binary c m)) + 5
@@ -189,7 +190,13 @@ copy_records-bytes (wrapper paren ∷ rs) (g, h) =
     omega
     (arith, copy_records-bytes rs h, bytes_of-more (wrapper paren) rs, bytes_of-more (wrapper paren) (copy_records rs))
 copy_records-bytes (binary c m ∷ rs) (g, h) =
-    omega (arith, copy_records-bytes rs h, bytes_of-more (binary c m) rs, bytes_of-more (binary c (checked_modifier c m)) (copy_records rs), binary-bytes c g.0 m)
+    omega (
+      arith,
+      copy_records-bytes rs h,
+      bytes_of-more (binary c m) rs,
+      bytes_of-more (binary c (checked_modifier c m)) (copy_records rs),
+      binary-bytes c g.0 m,
+    )
 copy_records-bytes (aggregate c m n ∷ rs) (g, h) =
     omega (
       arith,

@@ -1,3 +1,4 @@
+pub mod ChangedLaws
 pub mod CopyRecordsLaws
 pub mod CopyLaws
 pub mod DistinctLaws

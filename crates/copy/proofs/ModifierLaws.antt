@@ -14,7 +14,8 @@ use Rattle.page.proofs.ReaderLaws.{append_assoc}
 use Rattle.records.specs.Code.{is_code}
 use Rattle.records.specs.Literal.{write_literal}
 use Rattle.records.specs.Field.{write_flag, write_option, write_labels}
-use Rattle.records.specs.Modifier.{Cardinality, one_to_one, many_to_many, many_to_one, one_to_many, BinModifier, write_label_modifier, write_cardinality, write_bin_modifier}
+use Rattle.records.specs.Modifier.{Cardinality, one_to_one, many_to_many, many_to_one, one_to_many, BinModifier}
+use Rattle.records.specs.Modifier.{write_label_modifier, write_cardinality, write_bin_modifier}
 use Rattle.records.specs.Record.{binary, write_record}
 use Rattle.ast.specs.CheckAst.{many_to_many_of, set_operator_modifier}
 use Rattle.copy.specs.RecordCopy.{set_cardinality}
@@ -79,7 +80,8 @@ pub modifier-absent : (m : Option BinModifier) (rest : List ℕ) → get_or (wri
 modifier-absent none rest h = refl
 modifier-absent (some m) rest h = absurd (omega arith)
 
-pub modifier-present : (m : Option BinModifier) (rest : List ℕ) → (get_or (write_option write_bin_modifier m ++ rest) 0 0 ≡ 0 → ⊥) → (k : BinModifier) × (m ≡ some k)
+pub modifier-present : (m : Option BinModifier) (rest : List ℕ)
+    → (get_or (write_option write_bin_modifier m ++ rest) 0 0 ≡ 0 → ⊥) → (k : BinModifier) × (m ≡ some k)
 modifier-present none rest h = absurd (h refl)
 modifier-present (some m) rest h = (m, refl)
 

@@ -5,14 +5,13 @@ use mathlib.Core.Path.{◌≡◌, refl, sym, ap, ◌∙◌}
 use mathlib.Core.Bool.{Bool, true, false}
 use mathlib.Core.List.{List, [], ◌∷◌, ◌++◌}
 use native.Mathlib.Omega.{arith}
-use lib.ListN.{length, take, drop, get_or}
-use lib.Seq.{drop-drop, get_or-drop}
+use lib.ListN.{length, take, drop, get_or, set}
+use lib.Seq.{get_or-drop}
 use lib.Dec.{eqb}
+use Rattle.std.proofs.lemmas.List.{length-set}
 use Rattle.base.proofs.Cases.{by-eq}
-use Rattle.base.specs.Splice.{join}
 use Rattle.page.specs.Bytes.{pick}
 use Rattle.page.specs.Number.{write_number}
-use Rattle.page.proofs.ReaderLaws.{append-nil}
 use Rattle.records.specs.Literal.{Literal, whole, fraction, infinite, plus, minus, nan, negate, write_literal}
 use Rattle.records.specs.Record.{number, string, selector, range, subquery, at, offset, unary, paren, Record, leaf}
 use Rattle.records.specs.Record.{wrapper, binary, aggregate, call, write_record, record_kind}
@@ -112,28 +111,20 @@ module _ {page : List ℕ} {start next : ℕ} (span : Spans page start next) whe
       omega (arith, part-ends page (0 ∷ form_of l ∷ magnitude_of l) start next span.inside (omega arith) (number-written l (number_at h).1))
 
   pub number-copy : get_or page start 0 ≡ 0
-      → record_copy (drop start page)
-      ≡ join
-      ((0 ∷ []) ∷ (form_after (get_or page (start + 1) 0) (drop next page) ∷ [])
-      ∷ take (next - (start + 2)) (drop (start + 2) page) ∷ [])
-  unfolding write_record join
+      → record_copy (drop start page) ≡ set (take (next - start) (drop start page)) 1 (form_after (get_or page (start + 1) 0) (drop next page))
+  unfolding write_record
   number-copy h =
       let l = (number_at h).0 in
       let bytes-are = number-written l (number_at h).1 in
       let form : get_or page (start + 1) 0 ≡ form_of l = sym (get_or-drop start page 1 0) ∙ ap (λ (s : List ℕ). get_or s 1 0) bytes-are in
-      let rest : drop (start + 2) page ≡ magnitude_of l ++ drop next page = sym (drop-drop 2 start page) ∙ ap (drop 2) bytes-are in
-      let magnitude : take (next - (start + 2)) (drop (start + 2) page) ≡ magnitude_of l = part-is page (magnitude_of l) (start + 2) next span.inside rest in
+      let part : take (next - start) (drop start page) ≡ 0 ∷ form_of l ∷ magnitude_of l =
+      part-is page (0 ∷ form_of l ∷ magnitude_of l) start next span.inside bytes-are in
       (span-copy span) ∙ ap (λ (r : Record). write_record (copied r (drop next page))) (number_at h).1
       ∙ ap {B = List ℕ} (λ s. 0 ∷ s) (number_behind (drop next page) l)
-      ∙ rw (form, magnitude, append-nil (magnitude_of l))
+      ∙ rw (form, part) refl
 
-  number-length : get_or page start 0 ≡ 0 → length (record_copy (drop start page)) ≡ next - start
-  unfolding join
-  number-length h =
-      ap length (number-copy h)
-      ∙ ap (λ (s : List ℕ). length (0 ∷ form_after (get_or page (start + 1) 0) (drop next page) ∷ s))
-      (append-nil (take (next - (start + 2)) (drop (start + 2) page)))
-      ∙ omega (arith, number-wide h, part_length page (start + 2) next span.inside)
+  pub number-length : get_or page start 0 ≡ 0 → length (record_copy (drop start page)) ≡ next - start
+  number-length h = ap length (number-copy h) ∙ length-set _ _ _ ∙ part_length page start next span.inside
 
   -- all but binaries keep their length
   pub unchanged-length : (get_or page start 0 ≡ 9 → ⊥) → length (record_copy (drop start page)) ≡ next - start

@@ -164,7 +164,7 @@ module _ {page starts : List ℕ} {n : ℕ} (held : PageStarts page starts n) (i
       rest-is =
           sym (ap (drop 2) pair.is_records) ∙ later held i 1 ∙ ap (λ (k : ℕ). drop k (read_page page).records) two
         where
-          two : i + 1 + 1 ≡ i + 2
+          two : i + (1 + 1) ≡ i + 2
           two = omega arith
 
       pub copy_from-pair : Cut (copy_from page i) (second_first page (get_or starts i 0) next after) (copy_from page (i + 2))

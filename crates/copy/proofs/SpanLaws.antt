@@ -11,14 +11,16 @@ use lib.Seq.{get_or-drop, drop-cons, take_at, length-take-le}
 use lib.Dec.{eqb}
 use borrow.Author.Tests.{eq-eqb, ne_eqb}
 use Rattle.page.specs.Bytes.{pick}
+use Rattle.page.specs.Limits.{page_limit}
 use Rattle.page.proofs.NumberLaws.{Written}
 use Rattle.records.specs.Record.{number, string, selector, Record, leaf}
 use Rattle.records.specs.Record.{wrapper, binary, aggregate, call, write_record, record_kind}
 use Rattle.records.proofs.RecordLaws.{record-law}
 use Rattle.copy.specs.RecordCopy.{unaries, copied, copy_of_read, record_copy, absorbed_read, absorbed_of, absorbed, first_is, before_at_read, is_before_at}
 use Rattle.copy.specs.Span.{Spans}
+use Rattle.copy.specs.Starts.{PageStarts}
 use Rattle.copy.proofs.RecordCopyLaws.{record-head}
-use Rattle.copy.proofs.StartsLaws.{drop-bytes}
+use Rattle.copy.proofs.StartsLaws.{drop-bytes, starts-page}
 
 -- ## Parts of a page
 
@@ -135,3 +137,8 @@ module _ {page : List ℕ} {start next : ℕ} (span : Spans page start next) whe
   -- a copy of the page's own bytes is as long
   pub same_length : record_copy (drop start page) ≡ take (next - start) (drop start page) → length (record_copy (drop start page)) ≡ next - start
   same_length e = ap length e ∙ part_length page start next span.inside
+
+-- what a record of a page takes in is no more than a page has
+pub taken-few : {page starts : List ℕ} {n start next taken : ℕ} → PageStarts page starts n → Spans page start next
+    → taken ≡ absorbed_of (drop start page) → taken ≤ page_limit
+taken-few held span e = omega (arith, e, absorbed-few span, starts-page held)

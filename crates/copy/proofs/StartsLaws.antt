@@ -115,14 +115,14 @@ module _ {page starts : List ℕ} {n : ℕ} (held : PageStarts page starts n) wh
   stands_at i l = subst (λ (x : List ℕ). ReadsTo x (drop i (read_page page).records)) (sym (held.stands i l)) (reads_at i (omega arith))
 
   -- the records from i on without some more
-  pub later : (i k : ℕ) → drop (suc k) (drop i (read_page page).records) ≡ drop (i + 1 + k) (read_page page).records
+  pub later : (i k : ℕ) → drop (suc k) (drop i (read_page page).records) ≡ drop (i + (1 + k)) (read_page page).records
   later i k = drop-drop (suc k) i (read_page page).records ∙ ap (λ (x : ℕ). drop x (read_page page).records) further
     where
-      further : i + suc k ≡ i + 1 + k
+      further : i + suc k ≡ i + (1 + k)
       further = omega arith
 
   pub copy_from-cut : (i : ℕ) → i < n → is_before_at (drop (get_or starts i 0) page) ≡ false
-      → Cut (copy_from page i) (record_copy (drop (get_or starts i 0) page)) (copy_from page (i + 1 + absorbed_of (drop (get_or starts i 0) page)))
+      → Cut (copy_from page i) (record_copy (drop (get_or starts i 0) page)) (copy_from page (i + (1 + absorbed_of (drop (get_or starts i 0) page))))
   unfolding copy_from
   copy_from-cut i l q =
       let s = drop (get_or starts i 0) page in
@@ -134,13 +134,13 @@ module _ {page starts : List ℕ} {n : ℕ} (held : PageStarts page starts n) wh
 
   -- the same, with the number of records that it takes in
   pub copy_from-next : (i taken : ℕ) → i < n → is_before_at (drop (get_or starts i 0) page) ≡ false → taken ≡ absorbed_of (drop (get_or starts i 0) page)
-      → Cut (copy_from page i) (record_copy (drop (get_or starts i 0) page)) (copy_from page (i + 1 + taken))
+      → Cut (copy_from page i) (record_copy (drop (get_or starts i 0) page)) (copy_from page (i + (1 + taken)))
   copy_from-next i taken h q e = rw e (copy_from-cut i h q)
 
   -- how many bytes: of an offset right before an @ too
   copy_from-length : (i : ℕ) → i < n
       → length (copy_from page i)
-      ≡ length (record_copy (drop (get_or starts i 0) page)) + length (copy_from page (i + 1 + absorbed_of (drop (get_or starts i 0) page)))
+      ≡ length (record_copy (drop (get_or starts i 0) page)) + length (copy_from page (i + (1 + absorbed_of (drop (get_or starts i 0) page))))
   unfolding copy_from
   copy_from-length i l =
       let s = drop (get_or starts i 0) page in
@@ -210,7 +210,7 @@ module _ {page starts : List ℕ} {n : ℕ} (held : PageStarts page starts n) wh
 
   pub fits_more : (i left size taken : ℕ) → i < n → size ≡ length (record_copy (drop (get_or starts i 0) page))
       → taken ≡ absorbed_of (drop (get_or starts i 0) page) → size ≤ left
-      → leb (length (copy_from page i)) left ≡ leb (length (copy_from page (i + 1 + taken))) (left - size)
+      → leb (length (copy_from page i)) left ≡ leb (length (copy_from page (i + (1 + taken)))) (left - size)
   fits_more i left size taken h e q l = fits-rest _ size _ left
       (rw (e, q) (copy_from-length i h))
       l

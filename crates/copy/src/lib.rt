@@ -3,6 +3,7 @@
 // offset changes places with an @ right behind it (document 02, No. 14).
 #![tactic(auto)]
 
+pub mod changed;
 pub mod number;
 pub mod operator;
 pub mod record;

@@ -13,17 +13,11 @@ pub fn record_len(page: &[u8], start: usize, next: usize) -> usize
     requires { Spans page.now start next }
     ensures { result ≡ length (record_copy (drop start page.now)) }
 {
-    let own = next - start;
-    if page[start] != 9 {
-        return own;
+    if page[start] == 9 && is_set_operator(page[start + 1] as u64) && page[start + 2] == 0 {
+        8
+    } else {
+        next - start
     }
-    if is_set_operator(page[start + 1] as u64) {
-        if page[start + 2] == 0 {
-            return 8;
-        }
-        return own;
-    }
-    own
 }
 
 pub fn put_record(page: &[u8], start: usize, next: usize, out: &mut [u8], at: usize) -> usize
@@ -42,8 +36,9 @@ pub fn absorbed_by(page: &[u8], start: usize, next: usize) -> usize
     requires { Spans page.now start next }
     ensures { result ≡ absorbed_of (drop start page.now) }
 {
-    if page[start] != 0 {
-        return 0;
+    if page[start] == 0 {
+        unaries_at(page, next)
+    } else {
+        0
     }
-    unaries_at(page, next)
 }

@@ -9,13 +9,7 @@ pub fn is_before_at(page: &[u8], start: usize, next: usize) -> bool
     requires { Spans page.now start next }
     ensures { result ≡ is_before_at (drop start page.now) }
 {
-    if page[start] != 6 {
-        return false;
-    }
-    if next < page.len() {
-        return page[next] == 5;
-    }
-    false
+    page[start] == 6 && next < page.len() && page[next] == 5
 }
 
 // The @ and then the offset, each as on the page.

@@ -16,12 +16,14 @@ fn end_of(page: &[u8], starts: &[u16], n: usize, i: usize) -> usize
 {
     let next = i + 1;
     if next < n {
-        return starts[next] as usize;
+        starts[next] as usize
+    } else {
+        page.len()
     }
-    page.len()
 }
 
-// Whether the copy takes at most so many bytes.
+// Whether the copy takes at most so many bytes. A step goes over all records that a piece takes in, so here and below
+// stands no `for`.
 pub fn copy_fits(page: &[u8], starts: &[u16], n: usize, room: usize) -> bool
     requires { PageStarts page.now starts.now n }
     ensures { result ≡ leb (length (copy_page page.now)) room }
@@ -36,8 +38,8 @@ pub fn copy_fits(page: &[u8], starts: &[u16], n: usize, room: usize) -> bool
             return false;
         }
         let taken = absorbed_by(page, start, next);
-        left = left - size;
-        i = i + 1 + taken;
+        left -= size;
+        i += 1 + taken;
     }
     true
 }
@@ -55,11 +57,11 @@ pub fn put_copy(page: &[u8], starts: &[u16], n: usize, out: &mut [u8]) -> usize
         if is_before_at(page, start, next) {
             let after = end_of(page, starts, n, i + 1);
             at = put_at_first(page, start, next, after, out, at);
-            i = i + 2;
+            i += 2;
         } else {
             let taken = absorbed_by(page, start, next);
             at = put_record(page, start, next, out, at);
-            i = i + 1 + taken;
+            i += 1 + taken;
         }
     }
     at

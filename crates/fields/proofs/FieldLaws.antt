@@ -201,11 +201,11 @@ module _ {page starts : List ℕ} {node : Node} (n : NodeAt page starts node) wh
     reads_on (refused x) more h k = absurd (never h)
     reads_on (got a rest) more h k = k a rest h
 
-    pub function-reads : (name : Span) → got (span_on page name) (drop name.end page) ≡ read_function_name (fields_at page starts node.base)
+    pub function-reads : (name : Span) {r : List ℕ} → got (span_on page name) r ≡ read_function_name (fields_at page starts node.base)
         → CallAt page starts node.base name
-    function-reads name e =
+    function-reads name {r} e =
         let t = span_on page name in
-        reads_on (read_list read_kind (drop name.end page)) _ (function-fields e) (λ ks s h.
+        reads_on (read_list read_kind r) _ (function-fields e) (λ ks s h.
         reads_on (signature.read_variadic s) (λ v. read_kind >>= λ k. return (function t ks v k)) h (λ v s' h'.
         reads_on (read_kind s') (λ k. return (function t ks v k)) h' (λ k s'' h''.
         readable base-known (read_count s'') (λ c. return (call (function t ks v k) c)) h'' (λ c rest q is.

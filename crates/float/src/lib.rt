@@ -6,13 +6,14 @@ ghost use Rattle.std.specs.Prelude.{◌≡◌, false, ◌≤◌};
 ghost use Rattle.std.specs.Float.Ieee as Ieee;
 ghost use Rattle.std.specs.Float.{nan, inf};
 ghost use Rattle.page.specs.Limits.{number_limit};
+ghost use Rattle.page.specs.Answers.{option_of};
 ghost use Rattle.records.specs.Literal as literal;
 ghost use Rattle.records.specs.Float.{zero_float, magnitude_float, float, is_infinite_float, IsExact};
 ghost use Rattle.records.specs.Allowed.{IsFill};
-ghost use Rattle.records.specs.Answers.{literal_of, fill_of};
+ghost use Rattle.records.specs.Answers.{literal_of};
 ghost use Rattle.float.specs.Fills.{no_fraction, fraction_of, fill_value, fill_values, same_fraction, same_fills};
 
-use records::{Fill, Literal};
+use records::Literal;
 
 // The float of exactly that value.
 pub fn whole(n: u64) -> f64
@@ -136,17 +137,17 @@ struct FillValue {
     fraction: Fraction,
 }
 
-fn fill_value(x: Fill) -> FillValue
-    requires { IsFill (fill_of x) }
-    ensures { result ≡ fill_value (fill_of x) }
+fn fill_value(x: Option<Literal>) -> FillValue
+    requires { IsFill (option_of literal_of x) }
+    ensures { result ≡ fill_value (option_of literal_of x) }
 {
     match x {
-        Fill::None => FillValue {
+        None => FillValue {
             number: 0.0,
             present: false,
             fraction: no_fraction(),
         },
-        Fill::Some(l) => FillValue {
+        Some(l) => FillValue {
             number: literal_value(l),
             present: true,
             fraction: fraction_of(l),
@@ -160,9 +161,9 @@ fn same_fraction(a: Fraction, b: Fraction) -> bool
     (a.places != 0) & (a.minus == b.minus) & (a.digits == b.digits) & (a.places == b.places)
 }
 
-pub fn fill_values(lhs: Fill, rhs: Fill) -> FillValues
-    requires { IsFill (fill_of lhs) × IsFill (fill_of rhs) }
-    ensures { result ≡ fill_values (fill_of lhs) (fill_of rhs) }
+pub fn fill_values(lhs: Option<Literal>, rhs: Option<Literal>) -> FillValues
+    requires { IsFill (option_of literal_of lhs) × IsFill (option_of literal_of rhs) }
+    ensures { result ≡ fill_values (option_of literal_of lhs) (option_of literal_of rhs) }
 {
     let left = fill_value(lhs);
     let right = fill_value(rhs);

@@ -14,7 +14,7 @@ use Rattle.page.specs.Bytes.{pick, equal}
 use Rattle.page.specs.Text.{Text}
 use Rattle.functions.specs.Order.{order_of, ascend}
 use Rattle.functions.specs.Table.{place_from}
-use Rattle.functions.specs.declared.order.Order.TheVariants.{Before, Same, Behind}
+use Rattle.std.specs.declared.cmp.Ordering.TheVariants.{Less, Equal, Greater}
 use Rattle.functions.proofs.OrderLaws.{equal-self, order-behind, order_same, before-trans, before-unequal, behind-unequal, ascend-order}
 
 -- ## place_from
@@ -94,8 +94,8 @@ place-missing i (t ∷ ts) name e k l = by (place-missing (suc i) ts name) (equa
 pub record Left (ts : List Text) (name : Text) (low high : ℕ) : Type 0 where
   pub ordered : low ≤ high
   pub inside : high ≤ length ts
-  pub front : (k : ℕ) → k < low → order_of (get_or ts k []) name ≡ Before
-  pub back : (k : ℕ) → high ≤ k → k < length ts → order_of name (get_or ts k []) ≡ Before
+  pub front : (k : ℕ) → k < low → order_of (get_or ts k []) name ≡ Less
+  pub back : (k : ℕ) → high ≤ k → k < length ts → order_of name (get_or ts k []) ≡ Less
 
 pub left-all : (ts : List Text) (name : Text) (n : ℕ) → length ts ≡ n → Left ts name 0 n
 left-all ts name n e = record {
@@ -124,10 +124,10 @@ module _ {ts : List Text} {name : Text} {low high middle : ℕ} (half : Halved t
   inside = omega (arith, half.left.inside, half.to)
 
   -- any two are in order
-  two : (i j : ℕ) → i < j → j < length ts → order_of (get_or ts i []) (get_or ts j []) ≡ Before
+  two : (i j : ℕ) → i < j → j < length ts → order_of (get_or ts i []) (get_or ts j []) ≡ Less
   two = ascend-order ts half.sorted
 
-  pub left_behind : order_of (get_or ts middle []) name ≡ Before → Left ts name (middle + 1) high
+  pub left_behind : order_of (get_or ts middle []) name ≡ Less → Left ts name (middle + 1) high
   left_behind e = record {
     ordered = omega (arith, half.to);
     inside = half.left.inside;
@@ -135,13 +135,13 @@ module _ {ts : List Text} {name : Text} {low high middle : ℕ} (half : Halved t
     back = half.left.back;
   }
     where
-      by : (k : ℕ) → k < middle + 1 → (x : Bool) → ltb k middle ≡ x → order_of (get_or ts k []) name ≡ Before
+      by : (k : ℕ) → k < middle + 1 → (x : Bool) → ltb k middle ≡ x → order_of (get_or ts k []) name ≡ Less
       by k l true q = before-trans (get_or ts k []) (get_or ts middle []) name (two k middle (ltb-true k middle q) inside) e
       by k l false q =
           let same : middle ≡ k = omega (arith, ltb-false k middle q) in
-          subst (λ (n : ℕ). order_of (get_or ts n []) name ≡ Before) same e
+          subst (λ (n : ℕ). order_of (get_or ts n []) name ≡ Less) same e
 
-  pub left-front : order_of (get_or ts middle []) name ≡ Behind → Left ts name low middle
+  pub left-front : order_of (get_or ts middle []) name ≡ Greater → Left ts name low middle
   left-front e = record {
     ordered = half.from;
     inside = omega (arith, inside);
@@ -149,20 +149,20 @@ module _ {ts : List Text} {name : Text} {low high middle : ℕ} (half : Halved t
     back = λ k l m. by k l m (ltb middle k) refl;
   }
     where
-      turned : order_of name (get_or ts middle []) ≡ Before
+      turned : order_of name (get_or ts middle []) ≡ Less
       turned = order-behind (get_or ts middle []) name e
 
-      by : (k : ℕ) → middle ≤ k → k < length ts → (x : Bool) → ltb middle k ≡ x → order_of name (get_or ts k []) ≡ Before
+      by : (k : ℕ) → middle ≤ k → k < length ts → (x : Bool) → ltb middle k ≡ x → order_of name (get_or ts k []) ≡ Less
       by k l m true q = before-trans name (get_or ts middle []) (get_or ts k []) turned (two middle k (ltb-true middle k q) m)
       by k l m false q =
           let same : middle ≡ k = omega (arith, ltb-false middle k q) in
-          subst (λ (n : ℕ). order_of name (get_or ts n []) ≡ Before) same turned
+          subst (λ (n : ℕ). order_of name (get_or ts n []) ≡ Less) same turned
 
-  pub left-found : order_of (get_or ts middle []) name ≡ Same → some middle ≡ place_from 0 ts name
+  pub left-found : order_of (get_or ts middle []) name ≡ Equal → some middle ≡ place_from 0 ts name
   left-found e =
       let here : get_or ts middle [] ≡ name = order_same (get_or ts middle []) name e in
       sym
       (place_at 0 ts name middle inside (ap (λ (t : Text). equal t name) here ∙ equal-self name) (λ k l.
       before-unequal (get_or ts k []) name
-      (subst (λ (t : Text). order_of (get_or ts k []) t ≡ Before) here (two k middle l inside)))
+      (subst (λ (t : Text). order_of (get_or ts k []) t ≡ Less) here (two k middle l inside)))
       ∙ ap some (zero-add middle))

@@ -3,23 +3,23 @@
 use Rattle.std.specs.Prelude.{Bool, true, false, ◌&&◌, List, [], ◌∷◌, ltb}
 use Rattle.page.specs.Bytes.{pick}
 use Rattle.page.specs.Text.{Text}
-use Rattle.functions.specs.declared.order.Order.{Order}
-use Rattle.functions.specs.declared.order.Order.TheVariants.{Before, Same, Behind}
+use Rattle.std.specs.declared.cmp.Ordering.{Ordering}
+use Rattle.std.specs.declared.cmp.Ordering.TheVariants.{Less, Equal, Greater}
 
 -- how the first text stands to the second
-abbrev pub order_of : Text → Text → Order
-order_of [] [] = Same
-order_of [] (b ∷ u) = Before
-order_of (a ∷ t) [] = Behind
-order_of (a ∷ t) (b ∷ u) = pick (ltb a b) Before (pick (ltb b a) Behind (order_of t u))
+abbrev pub order_of : Text → Text → Ordering
+order_of [] [] = Equal
+order_of [] (b ∷ u) = Less
+order_of (a ∷ t) [] = Greater
+order_of (a ∷ t) (b ∷ u) = pick (ltb a b) Less (pick (ltb b a) Greater (order_of t u))
 
 abbrev pub is_before : Text → Text → Bool
 is_before t u = by (order_of t u)
   where
-    by : Order → Bool
-    by Before = true
-    by Same = false
-    by Behind = false
+    by : Ordering → Bool
+    by Less = true
+    by Equal = false
+    by Greater = false
 
 -- each text stands before the next
 abbrev pub ascend : List Text → Bool

@@ -10,32 +10,32 @@ use Rattle.functions.specs.Order.{order_of}
 use Rattle.functions.specs.Table.{is_table}
 use Rattle.functions.specs.Functions.{function, functions}
 use Rattle.functions.specs.Lookup.{lookup, equal_signature}
-use Rattle.functions.specs.declared.order.Order.{Order}
-use Rattle.functions.specs.declared.order.Order.TheVariants.{Before, Same, Behind}
+use Rattle.std.specs.declared.cmp.Ordering.{Ordering}
+use Rattle.std.specs.declared.cmp.Ordering.TheVariants.{Less, Equal, Greater}
 
 -- ## The order of names
 
-abbrev is_order : Order → Order → Bool
-is_order Before Before = true
-is_order Before Same = false
-is_order Before Behind = false
-is_order Same Before = false
-is_order Same Same = true
-is_order Same Behind = false
-is_order Behind Before = false
-is_order Behind Same = false
-is_order Behind Behind = true
+abbrev is_order : Ordering → Ordering → Bool
+is_order Less Less = true
+is_order Less Equal = false
+is_order Less Greater = false
+is_order Equal Less = false
+is_order Equal Equal = true
+is_order Equal Greater = false
+is_order Greater Less = false
+is_order Greater Equal = false
+is_order Greater Greater = true
 
 -- the first stands before the second, and the second behind the first
 abbrev in_order : String → String → Bool
-in_order t u = is_order (order_of (bytes t) (bytes u)) Before && is_order (order_of (bytes u) (bytes t)) Behind
+in_order t u = is_order (order_of (bytes t) (bytes u)) Less && is_order (order_of (bytes u) (bytes t)) Greater
 
 -- digits, capitals, `_`, small letters; a beginning before the whole, and no text before itself
 ordered : T (
     in_order "9" "A" && in_order "Z" "_" && in_order "_" "a" && in_order "log10" "log2"
     && in_order "day_of_year" "days_in_month" && in_order "" "a" && in_order "sort" "sort_by_label"
-    && in_order "sort_by_label_desc" "sort_desc" && in_order "az" "b" && is_order (order_of (bytes "sort") (bytes "sort")) Same
-    && is_order (order_of [] []) Same
+    && in_order "sort_by_label_desc" "sort_desc" && in_order "az" "b" && is_order (order_of (bytes "sort") (bytes "sort")) Equal
+    && is_order (order_of [] []) Equal
     )
 ordered = tt
 

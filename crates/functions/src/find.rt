@@ -1,48 +1,47 @@
-// Names in a table of the form, found by halves.
-ghost use Rattle.std.specs.Prelude.{◌≡◌, ◌<◌, ◌-◌, T, length, get_or, []};
-ghost use Rattle.functions.specs.Table.{cut, is_table, place_of};
-ghost use Rattle.functions.specs.Answers.{place_meant};
+// Names in a table, found by halves, and the signatures of what is found.
+ghost use Rattle.std.specs.Prelude.{◌≡◌, ◌+◌, ◌<◌, ◌-◌, length, get_or, []};
+ghost use Rattle.functions.specs.Table.{count_of};
+ghost use Rattle.functions.specs.Answers.{texts_of, place_in};
+ghost use Rattle.page.specs.Answers.{option_of, itself};
 
-use crate::order::{Order, order_of};
+use crate::form::Table;
+use crate::order::order_of;
+use std::cmp::Ordering;
 
-// The place of a name among the names of a table.
-#[derive(Clone, Copy)]
-pub enum Found {
-    At(usize),
-    Nothing,
-}
-
-fn wide(start: u16) -> usize
-    ensures { result ≡ start }
-{
-    start as usize
-}
-
-// The text at a place: a name, or past the names a signature.
-pub fn text_in<'a>(letters: &'a [u8], starts: &[u16], place: usize) -> &'a [u8]
-    requires table { T (is_table letters.now starts.now) }
-    requires inside { place < length starts.now - 1 }
-    ensures { result.now ≡ get_or (cut letters.now starts.now) place [] }
-{
-    let start = wide(starts[place]);
-    let end = wide(starts[place + 1]);
-    &letters[start..end]
-}
-
-// The names left are those from `low` on, before `high`.
-pub fn find(letters: &[u8], starts: &[u16], name: &[u8]) -> Found
-    requires { T (is_table letters.now starts.now) }
-    ensures { place_meant result ≡ place_of letters.now starts.now name.now }
-{
-    let mut low = 0;
-    let mut high = starts.len() / 2;
-    while low < high {
-        let middle = low + (high - low) / 2;
-        match order_of(text_in(letters, starts, middle), name) {
-            Order::Same => return Found::At(middle),
-            Order::Before => low = middle + 1,
-            Order::Behind => high = middle,
-        }
+impl<'a> Table<'a> {
+    // The text at a place: a name, or past the names a signature.
+    pub fn text(&self, place: usize) -> &'a [u8]
+        requires { place < length self.now.starts.now - 1 }
+        ensures { result.now ≡ get_or (texts_of self.now) place [] }
+    {
+        let start = self.starts[place] as usize;
+        let end = self.starts[place + 1] as usize;
+        &self.letters[start..end]
     }
-    Found::Nothing
+
+    // The place of a name among the names. Those left are from `low` on, before `high`. No search of std's serves: that
+    // asks of one start alone, and a text needs the next one too.
+    pub fn find(&self, name: &[u8]) -> Option<usize>
+        ensures { option_of itself result ≡ place_in self.now name.now }
+    {
+        let mut low = 0;
+        let mut high = self.starts.len() / 2;
+        while low < high {
+            let middle = low + (high - low) / 2;
+            match order_of(self.text(middle), name) {
+                Ordering::Equal => return Some(middle),
+                Ordering::Less => low = middle + 1,
+                Ordering::Greater => high = middle,
+            }
+        }
+        None
+    }
+
+    // The signature of the function at a place: they stand behind the names.
+    pub fn signature(&self, place: usize) -> &'a [u8]
+        requires { place < count_of self.now.starts.now }
+        ensures { result.now ≡ get_or (texts_of self.now) (count_of self.now.starts.now + place) [] }
+    {
+        self.text(self.starts.len() / 2 + place)
+    }
 }

@@ -4,5 +4,6 @@
 
 pub mod carried;
 pub mod find;
+pub mod form;
 pub mod order;
 pub mod table;

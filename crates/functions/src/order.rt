@@ -2,32 +2,18 @@
 ghost use Rattle.std.specs.Prelude.{◌≡◌};
 ghost use Rattle.functions.specs.Order.{order_of};
 
-#[derive(Clone, Copy)]
-pub enum Order {
-    Before,
-    Same,
-    Behind,
-}
+use std::cmp::Ordering;
 
-// How the first text stands to the second.
-pub fn order_of(a: &[u8], b: &[u8]) -> Order
+// How the first text stands to the second: the first bytes that differ decide, and then the lengths. Names differ
+// within a few bytes, and there a loop takes fewer instructions than std's order of slices, which goes by groups.
+pub fn order_of(a: &[u8], b: &[u8]) -> Ordering
     ensures { result ≡ order_of a.now b.now }
 {
-    let mut i = 0;
-    while i < a.len() {
-        if b.len() <= i {
-            return Order::Behind;
+    let shared = a.len().min(b.len());
+    for (x, y) in a[..shared].iter().zip(b[..shared].iter()) {
+        if x != y {
+            return x.cmp(y);
         }
-        if a[i] < b[i] {
-            return Order::Before;
-        }
-        if b[i] < a[i] {
-            return Order::Behind;
-        }
-        i = i + 1;
     }
-    if a.len() < b.len() {
-        return Order::Before;
-    }
-    Order::Same
+    a.len().cmp(&b.len())
 }

@@ -1,12 +1,12 @@
 // The function table of the repository (function.rs, `FUNCTIONS`) as it lies in two arrays: the names in ascending
 // order, then their signatures as they stand in a call, and where each of these texts begins; after the last stands the
-// end. An array is built anew at each use: lend it to the functions that ask it.
+// end. An array is built anew at each use: lend it to a `Table`.
 ghost use Rattle.std.specs.Prelude.{◌≡◌};
 ghost use Rattle.functions.specs.Table.{names, place_from};
 ghost use Rattle.functions.specs.Functions.{functions};
-ghost use Rattle.functions.specs.Answers.{place_meant};
+ghost use Rattle.page.specs.Answers.{option_of, itself};
 
-use crate::find::{Found, find};
+use crate::form::Table;
 
 pub const LETTERS: [u8; 1222] = *b"\
     absabsentabsent_over_timeacosacoshasinasinhatanatanhavg_over_timeceilchangesclampclamp_maxclamp_mincoscosh\
@@ -48,8 +48,12 @@ pub const STARTS: [u16; 183] = [
 ];
 
 // The place of a function in the table.
-pub fn find_function(name: &[u8]) -> Found
-    ensures { place_meant result ≡ place_from 0 (names functions) name.now }
+pub fn find_function(name: &[u8]) -> Option<usize>
+    ensures { option_of itself result ≡ place_from 0 (names functions) name.now }
 {
-    find(&LETTERS, &STARTS, name)
+    let table = Table {
+        letters: &LETTERS,
+        starts: &STARTS,
+    };
+    table.find(name)
 }

@@ -14,7 +14,10 @@ use Rattle.ast.specs.CheckPage.{check_page, outcome_of, check}
 use Rattle.functions.specs.Lookup.{check_table_of}
 use Rattle.functions.specs.TableContract.{TableDemand3Of}
 use Rattle.functions.proofs.CheckTableLaws.{none_bare, table-accepted, table_of-demand3}
+use Rattle.std.specs.Prelude.{Result, Ok, Err, is_ok}
 use Rattle.walk.specs.Answers as walked
+use Rattle.walk.specs.declared.answer.Accepted.{Accepted}
+use Rattle.walk.specs.declared.answer.Refused.{Refused}
 use Rattle.generations.specs.Older.{older_functions}
 use Rattle.generations.specs.Newer.{newer_functions}
 use Rattle.generations.specs.Generations.{accepts, accepted_by, generations}
@@ -111,6 +114,11 @@ unfolding newer_functions
 newer-kinded = tt
 
 -- ## What the code answers
+
+-- an outcome accepts where it is no refusal
+pub ok-accepts : (outcome : Result Accepted Refused) → is_ok outcome ≡ accepts (walked.outcome_meant outcome)
+ok-accepts (Ok a) = refl
+ok-accepts (Err r) = refl
 
 -- of a page that document 01's check refuses
 pub refused-neither : {page starts firsts : List ℕ} {n i : ℕ} → walked.Refuses (check_page page) page starts firsts n i

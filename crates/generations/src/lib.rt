@@ -10,10 +10,11 @@ ghost use Rattle.functions.specs.TableContract.{TableContractOf};
 ghost use Rattle.walk.specs.Answers.{outcome_meant};
 ghost use Rattle.generations.specs.Newer.{newer_functions};
 ghost use Rattle.generations.specs.Older.{older_functions};
-ghost use Rattle.generations.specs.Generations.{accepts, accepted_by, generations};
+ghost use Rattle.generations.specs.Generations.{accepted_by, generations};
 
+use functions::form::Table;
 use table_check::{check_with, outcome_with};
-use walk::{Outcome, Walked, walk};
+use walk::{Accepted, Outcome, walk};
 
 #[derive(Clone, Copy)]
 pub enum Generations {
@@ -29,7 +30,11 @@ pub fn check_older(page: &[u8]) -> Outcome
 {
     let letters = older::LETTERS;
     let names = older::STARTS;
-    check_with(page, &letters, &names)
+    let table = Table {
+        letters: &letters,
+        starts: &names,
+    };
+    check_with(page, &table)
 }
 
 // The check with the newer generation's table.
@@ -38,16 +43,11 @@ pub fn check_newer(page: &[u8]) -> Outcome
 {
     let letters = newer::LETTERS;
     let names = newer::STARTS;
-    check_with(page, &letters, &names)
-}
-
-fn is_accepted(outcome: Outcome) -> bool
-    ensures { result ≡ accepts (outcome_meant outcome) }
-{
-    match outcome {
-        Outcome::Accepted { .. } => true,
-        Outcome::Refused(_, _) => false,
-    }
+    let table = Table {
+        letters: &letters,
+        starts: &names,
+    };
+    check_with(page, &table)
 }
 
 fn accepting(older: bool, newer: bool) -> Generations
@@ -72,12 +72,24 @@ pub fn generations_of(page: &[u8]) -> Generations
     let mut starts = [0u16; page::RECORD_LIMIT];
     let mut firsts = [0u8; page::RECORD_LIMIT];
     match walk(page, &mut starts, &mut firsts) {
-        Walked::Accepted { kind, count } => {
-            let own = Outcome::Accepted { kind, written: 0 };
-            let older = outcome_with(page, &starts, count, &older::LETTERS, &older::STARTS, own);
-            let newer = outcome_with(page, &starts, count, &newer::LETTERS, &newer::STARTS, own);
-            accepting(is_accepted(older), is_accepted(newer))
+        Ok(walked) => {
+            let count = walked.count;
+            let own = Ok(Accepted {
+                kind: walked.kind,
+                written: 0,
+            });
+            let by_older = Table {
+                letters: &older::LETTERS,
+                starts: &older::STARTS,
+            };
+            let older = outcome_with(page, &starts, count, &by_older, own);
+            let by_newer = Table {
+                letters: &newer::LETTERS,
+                starts: &newer::STARTS,
+            };
+            let newer = outcome_with(page, &starts, count, &by_newer, own);
+            accepting(older.is_ok(), newer.is_ok())
         }
-        Walked::Refused(_, _) => Generations::Neither,
+        Err(_) => Generations::Neither,
     }
 }

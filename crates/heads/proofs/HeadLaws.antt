@@ -1,12 +1,11 @@
--- Modifiers, operators, aggregators and selectors in the pieces that are written, and their lengths up to a cap.
--- Assumes nothing.
-use Prim.Native.Nat.{ℕ, ◌+◌, min}
-use native.Mathlib.Omega.{arith}
+-- Modifiers, operators, aggregators and selectors in the pieces that are written. Assumes nothing.
+use Prim.Native.Nat.{ℕ}
+use Rattle.std.specs.Prelude.{Some, None}
+use Rattle.std.specs.Prelude.{Option as Given}
 use mathlib.Core.Bool.{true, false}
 use mathlib.Core.List.{List, [], ◌∷◌, ◌++◌, append-nil}
 use mathlib.Core.Option.{Option}
 use mathlib.Core.Path.{◌≡◌, refl, sym, ap, ◌∙◌, subst}
-use lib.ListN.{length, length-append}
 use Rattle.base.specs.Splice.{join}
 use Rattle.base.proofs.SpliceLaws.{Cut}
 use Rattle.page.specs.Bytes.{is_empty}
@@ -15,8 +14,6 @@ use Rattle.records.specs.Code.{token}
 use Rattle.records.specs.Matcher.{Matcher, read_matcher, Selector}
 use Rattle.records.specs.Modifier.{LabelModifier, BinModifier}
 use Rattle.records.specs.Answers.{bin_modifier_on, modifier_on}
-use Rattle.records.specs.declared.modifier.Modifier.{Modifier}
-use Rattle.records.specs.declared.modifier.Modifier.TheVariants.{None, Some}
 use Rattle.records.specs.declared.modifier.BinModifier.{BinModifier as CodeModifier}
 use Rattle.float.specs.Exact.{FillsExact, ModifierExact}
 use Rattle.label.specs.Label.{display_matchers}
@@ -38,27 +35,9 @@ modifier-pieces m =
     ++ (display_matching m.matching ++ (display_cardinality m.card ++ l)))
     (sym (append-nil (display_fills m.fill_values.lhs m.fill_values.rhs)))
 
-length-modifier : (m : BinModifier)
-    → length (display_modifier m)
-    ≡ length (display_bool m.return_bool) + length (display_matching m.matching)
-    + length (display_cardinality m.card) + length (display_fills m.fill_values.lhs m.fill_values.rhs)
-length-modifier m =
-    let a = display_bool m.return_bool in
-    let b = display_matching m.matching in
-    let c = display_cardinality m.card in
-    let d = display_fills m.fill_values.lhs m.fill_values.rhs in
-    omega (arith, length-append ((a ++ b) ++ c) d, length-append (a ++ b) c, length-append a b)
-
--- the four lengths, added up to the cap
-pub modifier-measured : (m : BinModifier) (cap flag fills matching card matched sum : ℕ) → flag ≡ length (display_bool m.return_bool)
-    → fills ≡ length (display_fills m.fill_values.lhs m.fill_values.rhs) → matching ≡ min (length (display_matching m.matching)) cap
-    → matched ≡ min (flag + fills + matching) cap → card ≡ min (length (display_cardinality m.card)) cap → sum ≡ min (matched + card) cap
-    → sum ≡ min (length (display_modifier m)) cap
-modifier-measured m cap flag fills matching card matched sum e₁ e₂ e₃ e₄ e₅ e₆ = omega (arith, length-modifier m)
-
 -- ## display_operator
 
-module _ (page : List ℕ) (c : ℕ) (m : Modifier) where
+module _ (page : List ℕ) (c : ℕ) (m : Given CodeModifier) where
   pub operator-plain : m ≡ None → display_operator c (modifier_on page m) ≡ token c
   operator-plain e = rw e (append-nil (token c))
 
@@ -66,9 +45,9 @@ module _ (page : List ℕ) (c : ℕ) (m : Modifier) where
   operator-modified own e = record { is = rw e }
 
 -- the fills of a modifier that is there
-pub operator-exact : (page : List ℕ) (m : Modifier) (own : CodeModifier) → m ≡ Some own
+pub operator-exact : (page : List ℕ) (m : Given CodeModifier) (own : CodeModifier) → m ≡ Some own
     → ModifierExact (modifier_on page m) → FillsExact (bin_modifier_on page own)
-operator-exact page m own e h = subst (λ (x : Modifier). ModifierExact (modifier_on page x)) e h
+operator-exact page m own e h = subst (λ (x : Given CodeModifier). ModifierExact (modifier_on page x)) e h
 
 -- ## display_braces, display_selector: n matchers from s on
 
@@ -88,10 +67,6 @@ module _ (n : ℕ) (s : List ℕ) where
         by : (ms : List Matcher) → is_empty ms ≡ false → display_braces ms ≡ 123 ∷ (display_matchers ms ++ (125 ∷ []))
         by [] e = absurd (never (sym e))
         by (m ∷ ms) e = refl
-
-    pub length-braces : length (display_braces (listed read_matcher n s)) ≡ 2 + length (display_matchers (listed read_matcher n s))
-    unfolding join
-    length-braces = ap length braces-some ∙ omega (arith, length-append (display_matchers (listed read_matcher n s)) (125 ∷ []))
 
 pub selector-cut : (s : Selector) → Cut (display_selector s) s.name (display_braces s.matchers)
 selector-cut s = record { is = refl }

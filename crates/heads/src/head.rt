@@ -2,7 +2,8 @@
 // (`get_op_string`).
 ghost use Rattle.std.specs.Prelude.{◌≡◌, ◌+◌, ◌≤◌, min, length};
 ghost use Rattle.base.specs.Splice.{Wrote};
-ghost use Rattle.records.specs.Answers.{label_modifier_on, LabelModifierStored, fill_of, bin_modifier_on, BinModifierStored, modifier_on, ModifierStored};
+ghost use Rattle.page.specs.Answers.{option_of};
+ghost use Rattle.records.specs.Answers.{label_modifier_on, LabelModifierStored, literal_of, bin_modifier_on, BinModifierStored, modifier_on, ModifierStored};
 ghost use Rattle.records.specs.Allowed.{IsFill};
 ghost use Rattle.float.specs.Fills.{fill_values};
 ghost use Rattle.float.specs.Exact.{ModifierExact};
@@ -11,7 +12,7 @@ ghost use Rattle.text.specs.Display.{display_bool, display_modifier, display_ope
 use float::{FillValues, fill_values};
 use leaves::capped_add;
 use page::put_bytes;
-use records::{BinModifier, LabelModifier, Modifier};
+use records::{BinModifier, LabelModifier};
 use tokens::{
     cardinality_len, fills_len, grouping_len, matching_len, put_cardinality, put_fills,
     put_grouping, put_matching, put_token, token_len,
@@ -39,7 +40,7 @@ fn put_bool(returns_bool: bool, out: &mut [u8], at: usize) -> usize
 // The fill numbers come as floats, with bools that say whether they are there, and fractions beside them.
 fn modifier_len(page: &[u8], modifier: BinModifier, values: FillValues, cap: usize) -> usize
     requires stored { BinModifierStored page.now modifier }
-    requires exact { (values ≡ fill_values (fill_of modifier.lhs) (fill_of modifier.rhs)) × IsFill (fill_of modifier.lhs) × IsFill (fill_of modifier.rhs) }
+    requires exact { (values ≡ fill_values (option_of literal_of modifier.lhs) (option_of literal_of modifier.rhs)) × IsFill (option_of literal_of modifier.lhs) × IsFill (option_of literal_of modifier.rhs) }
     ensures { result ≡ min (length (display_modifier (bin_modifier_on page.now modifier))) cap }
 {
     let matching = modifier.matching;
@@ -59,7 +60,7 @@ fn put_modifier(
     at: usize,
 ) -> usize
     requires stored { BinModifierStored page.now modifier }
-    requires exact { (values ≡ fill_values (fill_of modifier.lhs) (fill_of modifier.rhs)) × IsFill (fill_of modifier.lhs) × IsFill (fill_of modifier.rhs) }
+    requires exact { (values ≡ fill_values (option_of literal_of modifier.lhs) (option_of literal_of modifier.rhs)) × IsFill (option_of literal_of modifier.lhs) × IsFill (option_of literal_of modifier.rhs) }
     requires room { at + length (display_modifier (bin_modifier_on page.now modifier)) ≤ length out.old }
     ensures { Wrote out.old out.new at (display_modifier (bin_modifier_on page.now modifier)) result }
 {
@@ -73,15 +74,15 @@ fn put_modifier(
     put_fills(values, lhs, rhs, out, grouped)
 }
 
-pub fn operator_len(page: &[u8], code: u64, modifier: Modifier, cap: usize) -> usize
+pub fn operator_len(page: &[u8], code: u64, modifier: Option<BinModifier>, cap: usize) -> usize
     requires stored { ModifierStored page.now modifier }
     requires exact { ModifierExact (modifier_on page.now modifier) }
     ensures { result ≡ min (length (display_operator code (modifier_on page.now modifier))) cap }
 {
     let token = token_len(code);
     match modifier {
-        Modifier::None => capped_add(token, 0, cap),
-        Modifier::Some(own) => {
+        None => capped_add(token, 0, cap),
+        Some(own) => {
             let lhs = own.lhs;
             let rhs = own.rhs;
             let values = fill_values(lhs, rhs);
@@ -90,15 +91,21 @@ pub fn operator_len(page: &[u8], code: u64, modifier: Modifier, cap: usize) -> u
     }
 }
 
-pub fn put_operator(page: &[u8], code: u64, modifier: Modifier, out: &mut [u8], at: usize) -> usize
+pub fn put_operator(
+    page: &[u8],
+    code: u64,
+    modifier: Option<BinModifier>,
+    out: &mut [u8],
+    at: usize,
+) -> usize
     requires stored { ModifierStored page.now modifier }
     requires exact { ModifierExact (modifier_on page.now modifier) }
     requires room { at + length (display_operator code (modifier_on page.now modifier)) ≤ length out.old }
     ensures { Wrote out.old out.new at (display_operator code (modifier_on page.now modifier)) result }
 {
     match modifier {
-        Modifier::None => put_token(code, out, at),
-        Modifier::Some(own) => {
+        None => put_token(code, out, at),
+        Some(own) => {
             let lhs = own.lhs;
             let rhs = own.rhs;
             let values = fill_values(lhs, rhs);
@@ -108,7 +115,7 @@ pub fn put_operator(page: &[u8], code: u64, modifier: Modifier, out: &mut [u8], 
     }
 }
 
-pub fn aggregator_len(page: &[u8], code: u64, grouping: LabelModifier, cap: usize) -> usize
+pub fn aggregator_len(page: &[u8], code: u64, grouping: Option<LabelModifier>, cap: usize) -> usize
     requires { LabelModifierStored page.now grouping }
     ensures { result ≡ min (length (display_aggregator code (label_modifier_on page.now grouping))) cap }
 {
@@ -119,7 +126,7 @@ pub fn aggregator_len(page: &[u8], code: u64, grouping: LabelModifier, cap: usiz
 pub fn put_aggregator(
     page: &[u8],
     code: u64,
-    grouping: LabelModifier,
+    grouping: Option<LabelModifier>,
     out: &mut [u8],
     at: usize,
 ) -> usize

@@ -1,14 +1,13 @@
 -- Lengths and runs of what a node on several lines writes of its own: indentation, heads, operators, brackets.
-use Prim.Native.Nat.{ℕ, zero, suc, ◌+◌, ◌-◌, ◌*◌, ◌≤◌, min}
+use Prim.Native.Nat.{ℕ, zero, suc, ◌+◌, ◌-◌, ◌*◌, ◌≤◌, ◌<◌, min}
 use native.Mathlib.Nat.{zero-add}
-use native.Mathlib.Numerals.{sub-one}
 use native.Mathlib.Omega.{arith}
 use mathlib.Core.Path.{◌≡◌, refl, sym, ap, ◌∙◌}
 use mathlib.Core.Bool.{Bool, true}
 use mathlib.Core.List.{List, [], ◌∷◌, ◌++◌, append_assoc, append-nil}
 use lib.ListN.{length, length-append}
 use Rattle.base.specs.Splice.{join}
-use Rattle.base.proofs.SpliceLaws.{Run, start}
+use Rattle.base.proofs.SpliceLaws.{Cut, Run, start}
 use Rattle.page.specs.Bytes.{bytes}
 use Rattle.text.specs.Pretty.{indent}
 use Rattle.text.specs.Layout.{indent_if}
@@ -20,9 +19,9 @@ use Rattle.text.proofs.WriteLaws.{run-three}
 pub indent-none : (level : ℕ) → level ≡ 0 → indent level ≡ []
 indent-none level z = rw z
 
-pub indent-more : (level : ℕ) → (level ≡ 0 → ⊥) → indent level ≡ bytes "  " ++ indent (level - 1)
-indent-more zero n = absurd (n refl)
-indent-more (suc level) n = rw sub-one
+-- from level i on
+pub indent-more : (level i : ℕ) → i < level → Cut (indent (level - i)) (bytes "  ") (indent (level - (i + 1)))
+indent-more level i h = let e : level - i ≡ suc (level - (i + 1)) = omega arith in record { is = ap indent e }
 
 length-indent : (level : ℕ) → length (indent level) ≡ level * 2
 length-indent zero = refl

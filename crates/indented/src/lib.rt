@@ -26,11 +26,11 @@ fn put_spaces(level: usize, out: &mut [u8], at: usize) -> usize
     requires { at + length (indent level) ≤ length out.old }
     ensures { Wrote out.old out.new at (indent level) result }
 {
-    if level == 0 {
-        return at;
+    let mut pos = at;
+    for _ in 0..level {
+        pos = page::put_bytes(b"  ", out, pos);
     }
-    let next = page::put_bytes(b"  ", out, at);
-    put_spaces(level - 1, out, next)
+    pos
 }
 
 pub fn put_indent(indents: bool, level: usize, out: &mut [u8], at: usize) -> usize

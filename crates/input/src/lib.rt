@@ -48,34 +48,29 @@ pub fn number_of(a: u8, b: u8, c: u8, d: u8) -> u64
     wide(a) + 256 * wide(b) + 65536 * wide(c) + 16777216 * wide(d)
 }
 
-// A block of so many bytes; the end of the input, before a block begins; or no block: the input ends inside it, or it
-// is larger than the buffer.
+// No block: the input ends inside it, or it is larger than the buffer.
 #[derive(Clone, Copy)]
-pub enum Block {
-    Got(usize),
-    End,
-    Bad,
-}
+pub struct BadBlock;
 
-// A length of four bytes, and so many bytes into the buffer.
-pub fn read_block(stdin: Stdin, buffer: &mut [u8]) -> Block
+// A length of four bytes, and so many bytes into the buffer; none where the input ends before a block begins.
+pub fn read_block(stdin: Stdin, buffer: &mut [u8]) -> Result<Option<usize>, BadBlock>
     ensures { BlockRead buffer.old buffer.new result }
 {
     let mut bytes = [0u8; 4];
     let got = read_full(stdin, &mut bytes);
     if got == 0 {
-        return Block::End;
+        return Ok(None);
     }
     if got < 4 {
-        return Block::Bad;
+        return Err(BadBlock);
     }
     let size = number_of(bytes[0], bytes[1], bytes[2], bytes[3]) as usize;
     if buffer.len() < size {
-        return Block::Bad;
+        return Err(BadBlock);
     }
     let read = read_full(stdin, &mut buffer[..size]);
     if read < size {
-        return Block::Bad;
+        return Err(BadBlock);
     }
-    Block::Got(size)
+    Ok(Some(size))
 }

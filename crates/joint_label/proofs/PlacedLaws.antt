@@ -8,6 +8,8 @@ use mathlib.Core.List.{List, [], ◌∷◌}
 use native.Mathlib.Nat.{not-suc-le-zero}
 use native.Mathlib.Omega.{arith}
 use lib.ListN.{length, drop, length-drop}
+use Rattle.std.specs.Prelude.{Some, None}
+use Rattle.std.specs.Prelude.{Option as Given}
 use Rattle.page.specs.Bytes.{pick}
 use Rattle.page.specs.Read.{FieldFault, Read, refused, got, and_then, reader_at, repeat}
 use Rattle.page.specs.Text.{Text, read_any_text}
@@ -22,7 +24,7 @@ use Rattle.records.proofs.SpanLaws.{span-size}
 use Rattle.ast.specs.CheckAst.{has_label}
 use Rattle.ast.specs.Part.{Part, empty_part, from_record, Placed, read_placed, first_in, placed_forms, read_joint, part_in, label_part}
 use Rattle.judge.specs.Label.{from_label, from_joint}
-use Rattle.joint_label.specs.Answers.{span_part, IsPart, part_at, first_part}
+use Rattle.joint_label.specs.Answers.{span_part, IsPart, PartFound, part_at, first_part}
 
 -- no bytes where the part is empty
 pub nowhere : {page : List ℕ} {part : Part} → part ≡ empty_part → IsPart page part (record { start = 0; end = 0 })
@@ -30,6 +32,10 @@ nowhere e = record { is = sym e; lies = record { ordered = omega arith; inside =
 
 pub part-as : {page : List ℕ} {part other : Part} {span : Span} → other ≡ part → IsPart page part span → IsPart page other span
 part-as e h = record { is = h.is ∙ sym e; lies = h.lies }
+
+pub found-as : (page : List ℕ) {part other : Part} (found : Given Span) → other ≡ part → PartFound page part found → PartFound page other found
+found-as page None e h = e ∙ h
+found-as page (Some span) e h = part-as e h
 
 -- ## A label
 

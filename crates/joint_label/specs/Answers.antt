@@ -1,6 +1,6 @@
 -- What the answers of this crate mean: a part of the page by its ends is the definition's part by its start and its
 -- size.
-use Rattle.std.specs.Prelude.{ℕ, ◌-◌, List, [], ◌∷◌, ◌≡◌, length}
+use Rattle.std.specs.Prelude.{ℕ, ◌-◌, List, [], ◌∷◌, ◌≡◌, length, Option, Some, None}
 use Rattle.page.specs.Read.{Read, Reader, and_then, ◌>>=◌, return}
 use Rattle.page.specs.Number.{read_choice}
 use Rattle.page.specs.Answers.{Lies}
@@ -8,7 +8,7 @@ use Rattle.page.specs.declared.text.Span.{Span}
 use Rattle.records.specs.Field.{Labels, read_flag}
 use Rattle.records.specs.Modifier.{read_label_modifier}
 use Rattle.ast.specs.CheckAst.{on_labels}
-use Rattle.ast.specs.Part.{Part, Placed, read_placed, first_in, placed_forms, part_in}
+use Rattle.ast.specs.Part.{Part, empty_part, Placed, read_placed, first_in, placed_forms, part_in}
 
 abbrev pub span_part : Span → Part
 span_part s = record { start = s.start; size = s.end - s.start }
@@ -17,6 +17,11 @@ span_part s = record { start = s.start; size = s.end - s.start }
 pub record IsPart (page : List ℕ) (part : Part) (span : Span) : Type 0 where
   pub is : span_part span ≡ part
   pub lies : Lies page span
+
+-- the same of a label that was looked for: the part is empty where there is none
+abbrev pub PartFound : List ℕ → Part → Option Span → Type 0
+PartFound page part None = part ≡ empty_part
+PartFound page part (Some span) = IsPart page part span
 
 -- the part of the label that some bytes begin with
 abbrev pub part_at : ℕ → List ℕ → Part

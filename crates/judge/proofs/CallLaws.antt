@@ -1,13 +1,11 @@
 -- The arity of a call, and the rows of a call after it. Assumes nothing.
-use Prim.Native.Nat.{ℕ, ◌+◌, ◌-◌, ◌≤◌, ◌<◌}
+use Prim.Native.Nat.{ℕ, ◌+◌, ◌-◌, ◌≤◌}
 use mathlib.Core.Path.{◌≡◌, refl, sym, ap, ◌∙◌}
 use mathlib.Core.Bool.{Bool, true, false}
 use mathlib.Core.List.{List, [], ◌∷◌, ◌++◌, map}
 use mathlib.Core.Option.{none, some}
 use native.Mathlib.Omega.{arith}
-use borrow.Author.Tests.{lt-ltb, le-ltb}
-use lib.ListN.{length, get_or, drop}
-use lib.Ieee.{Float}
+use lib.ListN.{length, get_or}
 use Rattle.page.specs.Bytes.{pick}
 use Rattle.page.specs.Text.{Text}
 use Rattle.records.specs.Kind.{Kind}
@@ -19,19 +17,7 @@ use Rattle.ast.specs.Refusal.{Row, when, first_fault, Result, refused, ok, unles
 use Rattle.ast.specs.CheckAst.{arity_rows, args_match, args_rows}
 use Rattle.ast.specs.Operand.{Operand, string_operand, other_operand, operand_kind}
 use Rattle.ast.specs.Judge.{put, is_exempt_operand, is_exempt_call, judge_call}
-use Rattle.rules.specs.Stack.{held_operands, Sized}
 use Rattle.rules.proofs.StackLaws.{operands-size, operands-first}
-use Rattle.judge.specs.Call.{bounded_fault}
-
-module _ (least extra count : ℕ) where
-  pub bounded-few : count < least → some 27 ≡ bounded_fault least extra count
-  bounded-few h = rw (lt-ltb count least h)
-
-  pub bounded-many : least ≤ count → extra < count - least → some 28 ≡ bounded_fault least extra count
-  bounded-many h g = rw (le-ltb count least h, lt-ltb (least + extra) count (omega arith))
-
-  pub bounded-fine : least ≤ count → count - least ≤ extra → none ≡ bounded_fault least extra count
-  bounded-fine h g = rw (le-ltb count least h, le-ltb (least + extra) count (omega arith))
 
 -- ## judge_call
 
@@ -86,54 +72,38 @@ module _ (f : Function) (args : List Operand) {kinds count : ℕ} (kinds-is : ki
           go (k ∷ ks) true h is = rw (← is)
           go (k ∷ ks) false h is = rw (← is)
 
--- without arguments nothing is asked after the arity
-pub call-empty : (f : Function) (args : List Operand) {kinds count : ℕ} → kinds ≡ length f.arg_types
-    → count ≡ length args → none ≡ first_fault (arity_rows f.variadic kinds count)
-    → count ≡ 0 → ok (other_operand f.return_type) ≡ judge_call f args
-call-empty f [] k c fine z = sym (later f [] k c fine ∙ go f.arg_types)
-  where
-    go : (ks : List Kind) → put (args_rows ks []) (other_operand f.return_type) ≡ ok (other_operand f.return_type)
-    go [] = refl
-    go (k ∷ []) = refl
-    go (k ∷ j ∷ ks) = refl
-call-empty f (x ∷ xs) k c fine z = absurd (omega arith)
-
 -- the first of some arguments lies deepest
-exempt-first : {tags : List ℕ} {values : List Float} → Sized tags values → (name : Text) (top count : ℕ) → (count ≡ 0 → ⊥) → top + count ≤ 256
-    → is_exempt_operand name (get_or (held_operands tags values) (top + (count - 1)) string_operand)
-    ≡ is_exempt_call name (operands_of count (drop top (held_operands tags values)))
-exempt-first {tags} {values} sized name top count any h =
+exempt-first : (name : Text) (stack : List Operand) (count : ℕ) → (count ≡ 0 → ⊥) → count ≤ length stack
+    → is_exempt_operand name (get_or stack (count - 1) string_operand) ≡ is_exempt_call name (operands_of count stack)
+exempt-first name stack count any h =
     let one : count ≡ (count - 1) + 1 = omega arith in
-    sym (ap (λ (n : ℕ). is_exempt_call name (operands_of n (drop top (held_operands tags values)))) one
-    ∙ ap (is_exempt_call name) (operands-first tags values sized top (count - 1) (omega arith)))
+    sym (ap (λ (n : ℕ). is_exempt_call name (operands_of n stack)) one
+    ∙ ap (is_exempt_call name) (operands-first stack (count - 1) (omega arith)))
 
--- ## A call as the code has it: its signature on the page, its arguments in two arrays
+-- ## A call as the code has it: its signature on the page, its arguments on the stack
 
-module _ {page tags : List ℕ} {values : List Float} {function : code.Function} (sized : Sized tags values)
-    (lies : FunctionLies page function) (top count : ℕ) (inside : top + count ≤ 256) where
+module _ {page : List ℕ} {function : code.Function} (lies : FunctionLies page function)
+    (stack : List Operand) (count : ℕ) (inside : count ≤ length stack) where
   abbrev called : Function
   called = function_on page function
 
   abbrev given : List Operand
-  given = operands_of count (drop top (held_operands tags values))
+  given = operands_of count stack
 
   size : count ≡ length given
-  size = sym (operands-size tags values sized top count inside)
+  size = sym (operands-size stack count inside)
 
   pub judged-arity : {n : ℕ} → some n ≡ first_fault (arity_rows called.variadic function.kinds.count count)
       → refused n ≡ judge_call called given
   judged-arity e = call-arity called given (sym lies.kinds) size e
 
   module _ (fine : none ≡ first_fault (arity_rows called.variadic function.kinds.count count)) where
-    pub judged-empty : count ≡ 0 → ok (other_operand called.return_type) ≡ judge_call called given
-    judged-empty z = call-empty called given (sym lies.kinds) size fine z
-
     -- the first argument was tested for the literal exception
     module _ (any : count ≡ 0 → ⊥) {first : Operand} {exempt : Bool}
-        (is-first : first ≡ get_or (held_operands tags values) (top + (count - 1)) string_operand)
+        (is-first : first ≡ get_or stack (count - 1) string_operand)
         (is-exempt : exempt ≡ is_exempt_operand called.name first) where
       excepted : exempt ≡ is_exempt_call called.name given
-      excepted = is-exempt ∙ ap (is_exempt_operand called.name) is-first ∙ exempt-first sized called.name top count any inside
+      excepted = is-exempt ∙ ap (is_exempt_operand called.name) is-first ∙ exempt-first called.name stack count any inside
 
       pub judged-exempt : exempt ≡ true → ok (other_operand called.return_type) ≡ judge_call called given
       judged-exempt e = call-exempt called given (sym lies.kinds) size fine (sym e ∙ excepted)

@@ -4,8 +4,7 @@ use mathlib.Core.Path.{◌≡◌, refl, sym, ap, ◌∙◌}
 use mathlib.Core.Bool.{Bool, true, false, ◌&&◌, not}
 use mathlib.Core.List.{List, [], ◌∷◌, map}
 use native.Mathlib.Omega.{arith}
-use lib.ListN.{get_or, drop}
-use lib.Ieee.{Float}
+use lib.ListN.{length, get_or}
 use Rattle.page.specs.Bytes.{is_empty}
 use Rattle.page.specs.Read.{FieldFault, refused, got}
 use Rattle.page.specs.Listed.{listed}
@@ -14,8 +13,7 @@ use Rattle.records.specs.Kind.{Kind, equal_kind}
 use Rattle.records.specs.Field.{read_kind}
 use Rattle.records.specs.Stack.{operands_of}
 use Rattle.ast.specs.CheckAst.{args_match}
-use Rattle.ast.specs.Operand.{string_operand, operand_kind}
-use Rattle.rules.specs.Stack.{held_operands, Sized}
+use Rattle.ast.specs.Operand.{Operand, string_operand, operand_kind}
 use Rattle.rules.proofs.StackLaws.{operands-first}
 use Rattle.judge.specs.Call.{undeclared, next, next_kind}
 
@@ -57,20 +55,20 @@ match-undeclared (i ∷ []) a args e = absurd (let z : ◌≡◌ {A = ℕ} 0 1 =
 match-undeclared (i ∷ j ∷ ks) a args e = absurd (let z : ◌≡◌ {A = ℕ} 0 1 = cc in omega arith)
 
 -- the loop over arguments: `left` of them are left, matched against the kinds `ks`
-module _ {tags : List ℕ} {values : List Float} (sized : Sized tags values) (top left : ℕ) (any : 0 < left) (fits : top + left ≤ 256) (ks : List Kind) where
+module _ (stack : List Operand) (left : ℕ) (any : 0 < left) (fits : left ≤ length stack) (ks : List Kind) where
   abbrev first : Kind
-  first = operand_kind (get_or (held_operands tags values) (top + (left - 1)) string_operand)
+  first = operand_kind (get_or stack (left - 1) string_operand)
 
   abbrev rest : List Kind
-  rest = map operand_kind (operands_of (left - 1) (drop top (held_operands tags values)))
+  rest = map operand_kind (operands_of (left - 1) stack)
 
-  arguments : map operand_kind (operands_of left (drop top (held_operands tags values))) ≡ first ∷ rest
+  arguments : map operand_kind (operands_of left stack) ≡ first ∷ rest
   arguments =
       let one : left ≡ (left - 1) + 1 = omega arith in
-      ap (λ (n : ℕ). map operand_kind (operands_of n (drop top (held_operands tags values)))) one
-      ∙ ap (map operand_kind) (operands-first tags values sized top (left - 1) (omega arith))
+      ap (λ (n : ℕ). map operand_kind (operands_of n stack)) one
+      ∙ ap (map operand_kind) (operands-first stack (left - 1) (omega arith))
 
-  module _ {whole : Bool} (inv : whole ≡ args_match ks (map operand_kind (operands_of left (drop top (held_operands tags values))))) where
+  module _ {whole : Bool} (inv : whole ≡ args_match ks (map operand_kind (operands_of left stack))) where
     by_next : {k : Kind} {js : List Kind} → next k js ≡ next_kind ks → whole ≡ equal_kind k first && args_match js rest
     by_next {k} {js} e = inv ∙ ap (args_match ks) arguments ∙ match-next ks js k first rest e
 
@@ -83,8 +81,3 @@ module _ {tags : List ℕ} {values : List Float} (sized : Sized tags values) (to
 
     pub match_none : undeclared ≡ next_kind ks → false ≡ whole
     match_none e = sym (inv ∙ ap (args_match ks) arguments ∙ match-undeclared ks first rest e)
-
-pub match-end : (ks : List Kind) → args_match ks [] ≡ true
-match-end [] = refl
-match-end (k ∷ []) = refl
-match-end (k ∷ j ∷ ks) = refl

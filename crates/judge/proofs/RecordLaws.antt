@@ -1,14 +1,13 @@
 -- The judgement of a record whose operands are there, by the entries from the top of the stack on; with the rule of
 -- limitk where it is asked for, which changes what an aggregate comes to and nothing else. Assumes nothing.
-use Prim.Native.Nat.{ℕ, ◌+◌, ◌≤◌, ◌<◌}
+use Prim.Native.Nat.{ℕ, ◌≤◌, ◌<◌}
 use mathlib.Core.Path.{◌≡◌, refl, sym, ap, ap₂, ◌∙◌}
 use mathlib.Core.Bool.{Bool, true, false}
 use mathlib.Core.List.{List, [], ◌∷◌, map}
 use mathlib.Core.Option.{Option, none}
 use native.Mathlib.Omega.{arith}
 use borrow.Author.Tests.{le-leb, lt-leb}
-use lib.ListN.{length, get_or, drop}
-use lib.Ieee.{Float}
+use lib.ListN.{length, get_or}
 use Rattle.page.specs.Bytes.{pick}
 use Rattle.records.specs.Code.{is_limit}
 use Rattle.records.specs.Literal.{Literal}
@@ -23,8 +22,6 @@ use Rattle.ast.specs.Limits.{parameter_fault, limit_fault, limit_rules}
 use Rattle.ast.proofs.RulesLaws.{ruled-unasked}
 use Rattle.ast.proofs.StackLaws.{map-operands_of}
 use Rattle.rules.specs.Limit.{judge_aggregate_by}
-use Rattle.rules.specs.Stack.{held_operands, Sized}
-use Rattle.rules.proofs.StackLaws.{stack-size, stack_top}
 
 -- ## The rule of limitk
 
@@ -90,33 +87,33 @@ pub judgement-short : (limits : Bool) (r : Record) (stack : List Operand) → le
     → refused 2 ≡ judgement_by (limit_rules limits) r stack
 judgement-short limits r stack h = still-refused limits r stack (missing r stack h)
 
-module _ {tags : List ℕ} {values : List Float} (sized : Sized tags values) (limits : Bool) (top : ℕ) where
-  abbrev stack : List Operand
-  stack = drop top (held_operands tags values)
+module _ (limits : Bool) (stack : List Operand) where
+  pub judgement-wrapper : (w : Wrapper) → 1 ≤ length stack
+      → judge_wrapper w (get_or stack 0 string_operand) ≡ judgement_by (limit_rules limits) (wrapper w) stack
+  judgement-wrapper w h = go stack h ∙ unlimited limits (wrapper w) stack refl
+    where
+      go : (s : List Operand) → 1 ≤ length s → judge_wrapper w (get_or s 0 string_operand) ≡ judgement (wrapper w) s
+      go [] h = absurd (let z : ⊥ = omega arith in z)
+      go (x ∷ below) h = sym (on_one w x below)
 
-  enough : (n : ℕ) → top + n ≤ 256 → n ≤ length stack
-  enough n h = rw (stack-size tags values sized top) (omega arith)
-
-  pub judgement-wrapper : (w : Wrapper) → top + 1 ≤ 256
-      → judge_wrapper w (get_or (held_operands tags values) top string_operand) ≡ judgement_by (limit_rules limits) (wrapper w) stack
-  judgement-wrapper w h =
-      sym (ap (judgement (wrapper w)) (stack_top tags values sized top (omega arith)) ∙ on_one w _ _) ∙ unlimited limits (wrapper w) stack refl
-
-  pub judgement-binary : (c : ℕ) (m : Option BinModifier) → top + 2 ≤ 256
-      → judge_binary c m (operand_kind (get_or (held_operands tags values) (top + 1) string_operand))
-      (operand_kind (get_or (held_operands tags values) top string_operand)) ≡ judgement_by (limit_rules limits) (binary c m) stack
-  judgement-binary c m h =
-      sym (ap (judgement (binary c m)) (stack_top tags values sized top (omega arith)
-      ∙ ap {B = List Operand} (λ below. get_or (held_operands tags values) top string_operand ∷ below)
-      (stack_top tags values sized (top + 1) (omega arith))) ∙ on-two c m _ _ _) ∙ unlimited limits (binary c m) stack refl
+  pub judgement-binary : (c : ℕ) (m : Option BinModifier) → 2 ≤ length stack
+      → judge_binary c m (operand_kind (get_or stack 1 string_operand)) (operand_kind (get_or stack 0 string_operand))
+      ≡ judgement_by (limit_rules limits) (binary c m) stack
+  judgement-binary c m h = go stack h ∙ unlimited limits (binary c m) stack refl
+    where
+      go : (s : List Operand) → 2 ≤ length s
+          → judge_binary c m (operand_kind (get_or s 1 string_operand)) (operand_kind (get_or s 0 string_operand)) ≡ judgement (binary c m) s
+      go [] h = absurd (let z : ⊥ = omega arith in z)
+      go (r ∷ []) h = absurd (let z : ⊥ = omega arith in z)
+      go (r ∷ l ∷ below) h = sym (on-two c m r l below)
 
   -- the kinds of the operands are operands of the kinds
-  pub judgement-aggregate : (c : ℕ) (m : Option LabelModifier) (n : ℕ) → top + n ≤ 256
+  pub judgement-aggregate : (c : ℕ) (m : Option LabelModifier) (n : ℕ) → n ≤ length stack
       → judge_aggregate_by limits c (map operand_kind (operands_of n stack)) ≡ judgement_by (limit_rules limits) (aggregate c m n) stack
   judgement-aggregate c m n h =
       ap₂ {C = Result Operand}
       (λ x ks. and_then x (λ y. unless (pick limits (pick (is_limit c) (parameter_fault ks) none) none) y))
-      (sym (on-aggregate c m n stack (enough n h))) (map-operands_of operand_kind n stack)
+      (sym (on-aggregate c m n stack h)) (map-operands_of operand_kind n stack)
 
-  pub judgement-call : (f : Function) (n : ℕ) → top + n ≤ 256 → judge_call f (operands_of n stack) ≡ judgement_by (limit_rules limits) (call f n) stack
-  judgement-call f n h = sym (on_call f n stack (enough n h)) ∙ unlimited limits (call f n) stack refl
+  pub judgement-call : (f : Function) (n : ℕ) → n ≤ length stack → judge_call f (operands_of n stack) ≡ judgement_by (limit_rules limits) (call f n) stack
+  judgement-call f n h = sym (on_call f n stack h) ∙ unlimited limits (call f n) stack refl

@@ -1,5 +1,5 @@
 // Calls (ast.rs, `check_call_arity`, `check_args_match_types`, `check_ast_for_call`): refusals 26 to 30.
-ghost use Rattle.std.specs.Prelude.{◌+◌, ◌-◌, ◌≤◌, map, ◌≡◌, drop};
+ghost use Rattle.std.specs.Prelude.{◌≤◌, map, ◌≡◌, length};
 ghost use Rattle.records.specs.Stack.{operands_of};
 ghost use Rattle.records.specs.Answers.{kinds_on};
 ghost use Rattle.records.specs.SignatureAnswers.{variadic_of, function_on, FunctionLies};
@@ -8,138 +8,95 @@ ghost use Rattle.ast.specs.CheckAst.{arity_rows, args_match};
 ghost use Rattle.ast.specs.Operand.{operand_kind};
 ghost use Rattle.ast.specs.Judge.{judge_call};
 ghost use Rattle.rules.specs.Answers.{verdict_meant};
-ghost use Rattle.rules.specs.Stack.{held_operands, Sized};
+ghost use Rattle.rules.specs.Stack.{held};
 ghost use Rattle.judge.specs.Call.{finding_meant, bounded_fault};
 
 use crate::declared::{Declared, next_kind, same_kind};
 use crate::exempt::is_exempt;
 use records::{Function, Variadic};
-use rules::operand::{kind_of, operand_at};
-use rules::{Operand, Refusal, Verdict};
-
-#[derive(Clone, Copy)]
-pub enum Finding {
-    Fine,
-    Fault(Refusal),
-}
-
-// One less, and 0 for none.
-fn less_one(kinds: usize) -> usize
-    ensures { result ≡ kinds - 1 }
-{
-    if kinds == 0 {
-        return 0;
-    }
-    kinds - 1
-}
+use rules::operand::kind_of;
+use rules::{Operand, Refusal, Stack};
 
 // So many arguments at least, and so many more at most.
-fn bounded(least: usize, extra: u64, count: usize) -> Finding
+fn bounded(least: usize, extra: u64, count: usize) -> Result<(), Refusal>
     ensures { finding_meant result ≡ bounded_fault least extra count }
 {
     if count < least {
-        return Finding::Fault(Refusal::TooFewArguments);
+        return Err(Refusal::TooFewArguments);
     }
     if extra < (count - least) as u64 {
-        return Finding::Fault(Refusal::TooManyArguments);
+        return Err(Refusal::TooManyArguments);
     }
-    Finding::Fine
+    Ok(())
 }
 
-pub fn arity(variadic: Variadic, kinds: usize, count: usize) -> Finding
+pub fn arity(variadic: Variadic, kinds: usize, count: usize) -> Result<(), Refusal>
     ensures { finding_meant result ≡ first_fault (arity_rows (variadic_of variadic) kinds count) }
 {
     match variadic {
         Variadic::Fixed => {
             if kinds != count {
-                return Finding::Fault(Refusal::FixedArity);
+                return Err(Refusal::FixedArity);
             }
-            Finding::Fine
+            Ok(())
         }
         Variadic::Unlimited => {
-            if count < less_one(kinds) {
-                return Finding::Fault(Refusal::TooFewArguments);
+            if count < kinds.saturating_sub(1) {
+                return Err(Refusal::TooFewArguments);
             }
-            Finding::Fine
+            Ok(())
         }
-        Variadic::UpTo(extra) => bounded(less_one(kinds), extra, count),
+        Variadic::UpTo(extra) => bounded(kinds.saturating_sub(1), extra, count),
     }
 }
 
 // Whether the arguments, from the deepest operand on, have the declared kinds, the last one repeating.
-fn arguments_match(
-    page: &[u8],
-    kinds: usize,
-    declared: usize,
-    tags: &[u8],
-    values: &[f64],
-    top: usize,
-    count: usize,
-) -> bool
-    requires sized { Sized tags.now values.now }
-    requires inside { top + count ≤ 256 }
-    ensures { result ≡ args_match (kinds_on page.now kinds declared) (map operand_kind (operands_of count (drop top (held_operands tags.now values.now)))) }
+fn arguments_match(page: &[u8], kinds: usize, declared: usize, stack: &Stack, count: usize) -> bool
+    requires { count ≤ length (held stack.now) }
+    ensures { result ≡ args_match (kinds_on page.now kinds declared) (map operand_kind (operands_of count (held stack.now))) }
 {
-    let mut left = count;
     let mut at = kinds;
     let mut more = declared;
-    while 0 < left {
-        match next_kind(page, at, more) {
-            Declared::Got {
-                kind,
-                next,
-                left: rest,
-            } => {
-                if !same_kind(kind, kind_of(operand_at(tags, values, top + (left - 1)))) {
-                    return false;
-                }
-                at = next;
-                more = rest;
-                left = left - 1;
-            }
-            Declared::None => {
-                return false;
-            }
+    for i in (0..count).rev() {
+        let Some(Declared { kind, next, left }) = next_kind(page, at, more) else {
+            return false;
+        };
+        if !same_kind(kind, kind_of(stack.operand(i))) {
+            return false;
         }
+        at = next;
+        more = left;
     }
     true
 }
 
-// Arity first, then the literal exception, then 29 and 30. The arguments are the topmost so many entries of the stack.
+// Arity first, then the literal exception, then 29 and 30. The arguments are the topmost so many operands of the stack.
 pub fn judge_call(
     page: &[u8],
     function: Function,
-    tags: &[u8],
-    values: &[f64],
-    top: usize,
+    stack: &Stack,
     count: usize,
-) -> Verdict
-    requires sized { Sized tags.now values.now }
+) -> Result<Operand, Refusal>
     requires lies { FunctionLies page.now function }
-    requires inside { top + count ≤ 256 }
-    ensures { verdict_meant result ≡ judge_call (function_on page.now function) (operands_of count (drop top (held_operands tags.now values.now))) }
+    requires inside { count ≤ length (held stack.now) }
+    ensures { verdict_meant result ≡ judge_call (function_on page.now function) (operands_of count (held stack.now)) }
 {
-    let name = function.name;
-    let variadic = function.variadic;
-    let result = function.result;
     let declared = function.kinds.count;
-    match arity(variadic, declared, count) {
-        Finding::Fault(refusal) => Verdict::Refused(refusal),
-        Finding::Fine => {
-            if count == 0 {
-                return Verdict::Put(Operand::Other(result));
-            }
-            if is_exempt(page, name, operand_at(tags, values, top + (count - 1))) {
-                return Verdict::Put(Operand::Other(result));
-            }
-            if declared == 0 {
-                return Verdict::Refused(Refusal::NoDeclaredKinds);
-            }
-            let first = function.kinds.start;
-            if arguments_match(page, first, declared, tags, values, top, count) {
-                return Verdict::Put(Operand::Other(result));
-            }
-            Verdict::Refused(Refusal::ArgumentKind)
-        }
+    arity(function.variadic, declared, count)?;
+    let result = function.result;
+    if count == 0 {
+        return Ok(Operand::Other(result));
+    }
+    if is_exempt(page, function.name, stack.operand(count - 1)) {
+        return Ok(Operand::Other(result));
+    }
+    if declared == 0 {
+        return Err(Refusal::NoDeclaredKinds);
+    }
+    let first = function.kinds.start;
+    if arguments_match(page, first, declared, stack, count) {
+        Ok(Operand::Other(result))
+    } else {
+        Err(Refusal::ArgumentKind)
     }
 }

@@ -5,27 +5,21 @@ ghost use Rattle.records.specs.Answers.{labels_on};
 ghost use Rattle.ast.specs.CheckAst.{has_label};
 ghost use Rattle.judge.specs.Label.{from_joint};
 
-use page::{Text, TextClass, read_text, same_text, text_at};
+use page::{TextClass, read_text, same_text, text_at};
 
 // Whether a text is one of a list of labels.
 pub fn has_label(page: &[u8], start: usize, count: usize, text: &[u8]) -> bool
     ensures { result ≡ has_label (labels_on page.now start count) text.now }
 {
-    let mut left = count;
     let mut at = start;
-    while 0 < left {
-        match read_text(page, at, TextClass::Any) {
-            Text::Got(label) => {
-                if same_text(text, text_at(page, label)) {
-                    return true;
-                }
-                at = label.end;
-                left = left - 1;
-            }
-            Text::Bad(_) => {
-                return false;
-            }
+    for _ in 0..count {
+        let Ok((label, next)) = read_text(page, at, TextClass::Any) else {
+            return false;
+        };
+        if same_text(text, text_at(page, label)) {
+            return true;
         }
+        at = next;
     }
     false
 }
@@ -37,31 +31,22 @@ pub fn has_labels(page: &[u8], start: usize, count: usize) -> bool
     if count == 0 {
         return false;
     }
-    match read_text(page, start, TextClass::Any) {
-        Text::Got(_) => true,
-        Text::Bad(_) => false,
-    }
+    read_text(page, start, TextClass::Any).is_ok()
 }
 
 // Where the first of so many labels stands that is in the on list too: the end of the page where there is none.
 pub fn first_joint(page: &[u8], start: usize, count: usize, on: usize, ons: usize) -> usize
     ensures { drop result page.now ≡ from_joint (labels_on page.now on ons) count (drop start page.now) }
 {
-    let mut left = count;
     let mut at = start;
-    while 0 < left {
-        match read_text(page, at, TextClass::Any) {
-            Text::Got(label) => {
-                if has_label(page, on, ons, text_at(page, label)) {
-                    return at;
-                }
-                at = label.end;
-                left = left - 1;
-            }
-            Text::Bad(_) => {
-                return page.len();
-            }
+    for _ in 0..count {
+        let Ok((label, next)) = read_text(page, at, TextClass::Any) else {
+            return page.len();
+        };
+        if has_label(page, on, ons, text_at(page, label)) {
+            return at;
         }
+        at = next;
     }
     page.len()
 }

@@ -9,9 +9,9 @@ ghost use Rattle.rules.specs.Answers.{verdict_meant};
 ghost use Rattle.rules.specs.ModifierFacts.{ModifierFactsOf};
 
 use crate::label::{has_joint, has_labels};
-use records::{Cardinality, Kind, LabelModifier, Modifier};
-use rules::Verdict;
+use records::{BinModifier, Cardinality, Kind, LabelModifier};
 use rules::binary::{ModifierFacts, judge_sides};
+use rules::{Operand, Refusal};
 
 fn is_grouping(card: Cardinality) -> bool
     ensures { (page : List ℕ) → result ≡ is_grouping (cardinality_on page card) }
@@ -24,13 +24,13 @@ fn is_grouping(card: Cardinality) -> bool
     }
 }
 
-fn has_matching(page: &[u8], matching: LabelModifier) -> bool
+fn has_matching(page: &[u8], matching: Option<LabelModifier>) -> bool
     ensures { result ≡ not (is_empty (matching_labels (label_modifier_on page.now matching))) }
 {
     match matching {
-        LabelModifier::None => false,
-        LabelModifier::Include(list) => has_labels(page, list.start, list.count),
-        LabelModifier::Exclude(list) => has_labels(page, list.start, list.count),
+        None => false,
+        Some(LabelModifier::Include(list)) => has_labels(page, list.start, list.count),
+        Some(LabelModifier::Exclude(list)) => has_labels(page, list.start, list.count),
     }
 }
 
@@ -47,27 +47,27 @@ fn group_joint(page: &[u8], card: Cardinality, on: usize, ons: usize) -> bool
 }
 
 // 19 looks at `on` alone, not at `ignoring`.
-fn is_joint(page: &[u8], matching: LabelModifier, card: Cardinality) -> bool
+fn is_joint(page: &[u8], matching: Option<LabelModifier>, card: Cardinality) -> bool
     ensures { result ≡ any (has_label (on_labels (label_modifier_on page.now matching))) (group_labels (cardinality_on page.now card)) }
 {
     match matching {
-        LabelModifier::None => false,
-        LabelModifier::Include(on) => group_joint(page, card, on.start, on.count),
-        LabelModifier::Exclude(_) => false,
+        None => false,
+        Some(LabelModifier::Include(on)) => group_joint(page, card, on.start, on.count),
+        Some(LabelModifier::Exclude(_)) => false,
     }
 }
 
-fn facts(page: &[u8], modifier: Modifier) -> ModifierFacts
+fn facts(page: &[u8], modifier: Option<BinModifier>) -> ModifierFacts
     ensures { ModifierFactsOf (modifier_on page.now modifier) result }
 {
     match modifier {
-        Modifier::None => ModifierFacts {
+        None => ModifierFacts {
             boolean: false,
             joint: false,
             grouped: false,
             labelled: false,
         },
-        Modifier::Some(m) => {
+        Some(m) => {
             let matching = m.matching;
             let card = m.card;
             ModifierFacts {
@@ -80,7 +80,13 @@ fn facts(page: &[u8], modifier: Modifier) -> ModifierFacts
     }
 }
 
-pub fn judge_binary(page: &[u8], code: u64, modifier: Modifier, left: Kind, right: Kind) -> Verdict
+pub fn judge_binary(
+    page: &[u8],
+    code: u64,
+    modifier: Option<BinModifier>,
+    left: Kind,
+    right: Kind,
+) -> Result<Operand, Refusal>
     ensures { verdict_meant result ≡ judge_binary code (modifier_on page.now modifier) (kind_of left) (kind_of right) }
 {
     judge_sides(code, facts(page, modifier), left, right)

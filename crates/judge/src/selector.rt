@@ -8,24 +8,25 @@ ghost use Rattle.ast.specs.Judge.{put};
 ghost use Rattle.rules.specs.Answers.{verdict_meant};
 
 use reader::Selector;
-use rules::{Operand, Refusal, Verdict};
+use rules::{Operand, Refusal};
 
 // 41 for a wrong flag, 33 for a name and a `__name__` matcher, 34 without a name where every matcher accepts empty text.
-pub fn judge_selector(selector: Selector) -> Verdict
+pub fn judge_selector(selector: Selector) -> Result<Operand, Refusal>
     ensures { (page : List ℕ) → SelectorRead page selector → verdict_meant result ≡ put (selector_rows (selector_on page selector)) (selector_operand false false) }
 {
-    if selector.wrong_flag {
-        return Verdict::Refused(Refusal::WrongFlag);
+    let facts = selector.facts;
+    if facts.wrong_flag {
+        return Err(Refusal::WrongFlag);
     }
     let name = selector.name;
     if name.start != name.end {
-        if selector.named {
-            return Verdict::Refused(Refusal::NameTwice);
+        if facts.named {
+            return Err(Refusal::NameTwice);
         }
-        return Verdict::Put(Operand::Selector(false, false));
+        return Ok(Operand::Selector(false, false));
     }
-    if selector.empty {
-        return Verdict::Refused(Refusal::EmptySelector);
+    if facts.empty {
+        return Err(Refusal::EmptySelector);
     }
-    Verdict::Put(Operand::Selector(false, false))
+    Ok(Operand::Selector(false, false))
 }

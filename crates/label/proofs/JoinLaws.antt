@@ -1,6 +1,5 @@
 -- Texts joined by commas, one at a time; the length of the sorted texts is that of the unsorted ones. Assumes nothing.
 use Prim.Native.Nat.{ℕ, ◌+◌, ◌-◌, ◌≤◌, ◌<◌, min}
-use native.Mathlib.Nat.{not-suc-le-zero}
 use native.Mathlib.Numerals.{add-one}
 use native.Mathlib.Omega.{arith}
 use mathlib.Core.List.{List, [], ◌∷◌, ◌++◌, map}
@@ -15,41 +14,44 @@ use Rattle.page.specs.Text.{Text}
 use Rattle.page.specs.Listed.{listed}
 use Rattle.page.proofs.ListLaws.{listed_more, listed-none}
 use Rattle.leaves.specs.Escape.{quote}
-use Rattle.records.specs.Matcher.{Matcher, read_matcher, match_op_number}
-use Rattle.label.specs.Label.{display_label, display_matcher, at_most, insert, sort, joined_by_commas, more_by_commas, display_matchers}
-use Rattle.label.specs.Symbols.{operator_token, matcher_text}
-use Rattle.label.specs.Key.{key_text, key_texts, Collected, Sorts}
+use Rattle.records.specs.Matcher.{Matcher, read_matcher}
+use Rattle.label.specs.Label.{display_label, match_op_token, display_matcher, at_most, insert, sort, joined_by_commas, more_by_commas, display_matchers}
+use Rattle.label.specs.Symbols.{matcher_text}
+use Rattle.label.specs.Printed.{printed_text, Prints, AllPrint, printed_texts, Collected, Sorts}
+use Rattle.label.specs.declared.printed.Printed.{Printed}
 use Rattle.label.proofs.CollectLaws.{display_matcher-parts}
 
--- ## joined_by_commas of keys: a text at a time
+-- ## joined_by_commas of printed matchers: a text at a time
 
-module _ (page l : List ℕ) where
-  pub joined-first : 0 < length l → Cut (joined_by_commas (key_texts page l)) (key_text page (get_or l 0 0)) (more_by_commas (key_texts page (drop 1 l)))
-  unfolding joined_by_commas more_by_commas key_texts
-  joined-first h = first_of l h
-    where
-      first_of : (l : List ℕ) → 0 < length l → Cut (joined_by_commas (key_texts page l)) (key_text page (get_or l 0 0)) (more_by_commas (key_texts page (drop 1 l)))
-      first_of [] h = absurd (not-suc-le-zero h)
-      first_of (x ∷ l) h = record { is = refl }
+module _ (page : List ℕ) {l : List Printed} {p : Printed} {ps : List Printed} (is : l ≡ p ∷ ps) where
+  pub joined-first : Cut (joined_by_commas (printed_texts page l)) (printed_text page p) (more_by_commas (printed_texts page ps))
+  unfolding joined_by_commas more_by_commas printed_texts
+  joined-first = record { is = rw is refl }
 
-  -- the text of key i, and those after it
+  pub print-first : AllPrint page l → Prints page p × AllPrint page ps
+  unfolding AllPrint
+  print-first all = rw is at all
+
+-- `none` stands past the end
+module _ (page : List ℕ) (l : List Printed) (none : Printed) where
+  -- the text of matcher i, and those after it
   pub text_then : ℕ → List ℕ
-  text_then i = key_text page (get_or l i 0) ++ more_by_commas (key_texts page (drop (i + 1) l))
+  text_then i = printed_text page (get_or l i none) ++ more_by_commas (printed_texts page (drop (i + 1) l))
 
-  pub comma-next : (i : ℕ) → i < length l → Cut (more_by_commas (key_texts page (drop i l))) (44 ∷ []) (text_then i)
-  unfolding more_by_commas key_texts text_then
-  comma-next i h = record { is = rw (add-one, drop-cons l i 0 h) }
+  pub comma-next : (i : ℕ) → i < length l → Cut (more_by_commas (printed_texts page (drop i l))) (44 ∷ []) (text_then i)
+  unfolding more_by_commas printed_texts text_then
+  comma-next i h = record { is = rw (add-one, drop-cons l i none h) }
 
-  pub text-next : (i : ℕ) → Cut (text_then i) (key_text page (get_or l i 0)) (more_by_commas (key_texts page (drop (i + 1) l)))
+  pub text-next : (i : ℕ) → Cut (text_then i) (printed_text page (get_or l i none)) (more_by_commas (printed_texts page (drop (i + 1) l)))
   unfolding text_then
   text-next i = record { is = refl }
 
-  pub more-end : (i : ℕ) → length l ≤ i → more_by_commas (key_texts page (drop i l)) ≡ []
-  unfolding more_by_commas key_texts
+  pub more-end : (i : ℕ) → length l ≤ i → more_by_commas (printed_texts page (drop i l)) ≡ []
+  unfolding more_by_commas printed_texts
   more-end i h = rw (drop_of_length-le l h)
 
-pub joined-none : (page l : List ℕ) → length l ≡ 0 → joined_by_commas (key_texts page l) ≡ []
-unfolding joined_by_commas key_texts
+pub joined-none : (page : List ℕ) (l : List Printed) → length l ≡ 0 → joined_by_commas (printed_texts page l) ≡ []
+unfolding joined_by_commas printed_texts
 joined-none page [] h = refl
 joined-none page (x ∷ l) h = absurd (omega arith)
 
@@ -85,14 +87,14 @@ display_matchers-length ms = joined_length (sort (map display_matcher ms)) ∙ a
 
 pub matcher-length : (m : Matcher)
     → length (display_matcher m)
-    ≡ length (display_label m.name) + length (operator_token (match_op_number m.op)) + length (quote m.value)
+    ≡ length (display_label m.name) + length (match_op_token m.op) + length (quote m.value)
 unfolding matcher_text
 matcher-length m =
     sym (ap length (display_matcher-parts m))
     ∙ omega (
       arith,
-      length-append (display_label m.name) (operator_token (match_op_number m.op) ++ quote m.value),
-      length-append (operator_token (match_op_number m.op)) (quote m.value),
+      length-append (display_label m.name) (match_op_token m.op ++ quote m.value),
+      length-append (match_op_token m.op) (quote m.value),
     )
 
 module _ (n : ℕ) (s : List ℕ) where
@@ -122,25 +124,24 @@ module _ (n : ℕ) (s : List ℕ) where
   matchers-empty e = omega (arith, display_matchers-length (listed read_matcher n s))
 
 -- what `matcher_len` answers: the lengths of the three parts, added up to the cap
-pub matcher-measured : (m : Matcher) (u v : Text) (cap name value op token with sum : ℕ) → u ≡ m.name → name ≡ min (length (display_label u)) cap
-    → v ≡ m.value → value ≡ min (length (quote v)) cap → op ≡ match_op_number m.op → token ≡ length (operator_token op)
+pub matcher-measured : (m : Matcher) (u v : Text) (cap name value token with sum : ℕ) → u ≡ m.name → name ≡ min (length (display_label u)) cap
+    → v ≡ m.value → value ≡ min (length (quote v)) cap → token ≡ length (match_op_token m.op)
     → with ≡ min (name + token) cap → sum ≡ min (with + value) cap → sum ≡ min (length (display_matcher m)) cap
-matcher-measured m u v cap name value op token with sum eu en ev evalue eop eword ewith esum =
+matcher-measured m u v cap name value token with sum eu en ev evalue eword ewith esum =
     let a : length (display_label u) ≡ length (display_label m.name) = ap (λ (t : Text). length (display_label t)) eu in
     let b : length (quote v) ≡ length (quote m.value) = ap (λ (t : Text). length (quote t)) ev in
-    let d : length (operator_token op) ≡ length (operator_token (match_op_number m.op)) = ap (λ (n : ℕ). length (operator_token n)) eop in
     omega (arith, matcher-length m)
 
--- ## The keys collected and sorted give what is displayed
+-- ## What is collected and sorted gives what is displayed
 
-module _ {page : List ℕ} {ms : List Matcher} {keys o : List ℕ} {n : ℕ} (collected : Collected page ms keys n) (sorts : Sorts page (take n keys) o) where
-  sorted-display : joined_by_commas (key_texts page o) ≡ display_matchers ms
+module _ {page : List ℕ} {ms : List Matcher} {all o : List Printed} {n : ℕ} (collected : Collected page ms all n) (sorts : Sorts page (take n all) o) where
+  sorted-display : joined_by_commas (printed_texts page o) ≡ display_matchers ms
   unfolding display_matchers
   sorted-display = ap joined_by_commas (sorts.sorted ∙ ap sort collected.texts)
 
-  pub sorted-fits : (at k : ℕ) → at + length (display_matchers ms) ≤ k → at + length (joined_by_commas (key_texts page o)) ≤ k
+  pub sorted-fits : (at k : ℕ) → at + length (display_matchers ms) ≤ k → at + length (joined_by_commas (printed_texts page o)) ≤ k
   sorted-fits at k h = rw sorted-display h
 
-  pub sorted-wrote : {before after : List ℕ} {at next : ℕ} → Wrote before after at (joined_by_commas (key_texts page o)) next
+  pub sorted-wrote : {before after : List ℕ} {at next : ℕ} → Wrote before after at (joined_by_commas (printed_texts page o)) next
       → Wrote before after at (display_matchers ms) next
   sorted-wrote w = rw (← sorted-display) w

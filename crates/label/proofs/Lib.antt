@@ -2,7 +2,7 @@ pub mod LabelLaws
 pub mod SymbolLaws
 pub mod WalkLaws
 pub mod MatcherLaws
-pub mod KeyLaws
+pub mod PrintedLaws
 pub mod SortLaws
 pub mod CollectLaws
 pub mod JoinLaws

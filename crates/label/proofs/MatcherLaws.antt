@@ -9,11 +9,12 @@ use borrow.Author.Tests.{ne_eqb}
 use lib.ListN.{get_or-append, length, get_or, length-append, length-map}
 use lib.Seq.{get_or-append-add}
 use Rattle.base.proofs.Cases.{by_flag, by-eq}
-use Rattle.page.specs.Bytes.{bytes, pick, all}
+use Rattle.page.specs.Bytes.{pick, all}
 use Rattle.page.specs.Text.{is_alpha, is_alpha_numeric, is_label}
 use Rattle.leaves.specs.Escape.{escape_byte, escape}
-use Rattle.label.specs.Label.{display_label, at_most}
-use Rattle.label.specs.Symbols.{symbol, symbols, operator_token, matcher_text, name_symbols, matcher_symbols}
+use Rattle.records.specs.Matcher.{MatchOp, equal, not_equal, re, not_re}
+use Rattle.label.specs.Label.{display_label, match_op_token, at_most}
+use Rattle.label.specs.Symbols.{symbol, symbols, matcher_text, name_symbols, matcher_symbols}
 use Rattle.label.proofs.SymbolLaws.{flat, flat-order, flat_append, flat-plain, flat-quoted, Valids}
 use Rattle.label.proofs.SymbolLaws.{valids-append, valids-plain, valids-quoted, symbols-length}
 
@@ -57,14 +58,13 @@ label-plain (b ∷ t) h =
     let p = both (is_alpha b) (all is_alpha_numeric t) h in
     escape-more b t (plain is_alpha b refl refl refl refl refl p.0) (tokens-plain t p.1)
 
--- an operator neither: its number is 0 to 3
-op-plain : (op : ℕ) → escape (operator_token op) ≡ operator_token op
-unfolding operator_token escape escape_byte
-op-plain zero = refl
-op-plain (suc zero) = refl
-op-plain (suc (suc zero)) = refl
-op-plain (suc (suc (suc zero))) = refl
-op-plain (suc (suc (suc (suc op)))) = refl
+-- an operator neither
+op-plain : (op : MatchOp) → escape (match_op_token op) ≡ match_op_token op
+unfolding escape escape_byte
+op-plain equal = refl
+op-plain not_equal = refl
+op-plain (re b) = refl
+op-plain (not_re b) = refl
 
 -- ## the text is its symbols
 
@@ -78,21 +78,21 @@ unfolding name_symbols
 valids-name true t = valids-plain t
 valids-name false t = valids-quoted t
 
-flat-matcher : (bare : Bool) (name : List ℕ) (op : ℕ) (value : List ℕ) → bare ≡ is_label name
+flat-matcher : (bare : Bool) (name : List ℕ) (op : MatchOp) (value : List ℕ) → bare ≡ is_label name
     → flat (matcher_symbols bare name op value) ≡ matcher_text name op value
 unfolding matcher_symbols matcher_text
 flat-matcher bare name op value e =
-    flat_append (name_symbols bare name) (map symbol (operator_token op) ++ symbols value)
-    ∙ rw (flat-name bare name e, flat_append (map symbol (operator_token op)) (symbols value), flat-plain (operator_token op), op-plain op, flat-quoted value)
+    flat_append (name_symbols bare name) (map symbol (match_op_token op) ++ symbols value)
+    ∙ rw (flat-name bare name e, flat_append (map symbol (match_op_token op)) (symbols value), flat-plain (match_op_token op), op-plain op, flat-quoted value)
 
-valids-matcher : (bare : Bool) (name : List ℕ) (op : ℕ) (value : List ℕ) → Valids (matcher_symbols bare name op value)
+valids-matcher : (bare : Bool) (name : List ℕ) (op : MatchOp) (value : List ℕ) → Valids (matcher_symbols bare name op value)
 unfolding matcher_symbols
 valids-matcher bare name op value =
     valids-append (name_symbols bare name) _ (valids-name bare name)
-    (valids-append (map symbol (operator_token op)) _ (valids-plain (operator_token op)) (valids-quoted value))
+    (valids-append (map symbol (match_op_token op)) _ (valids-plain (match_op_token op)) (valids-quoted value))
 
 -- the order of two matchers' texts is that of their symbols
-pub matcher-order : (bare : Bool) (name : List ℕ) (op : ℕ) (value : List ℕ) (bare' : Bool) (name' : List ℕ) (op' : ℕ) (value' : List ℕ)
+pub matcher-order : (bare : Bool) (name : List ℕ) (op : MatchOp) (value : List ℕ) (bare' : Bool) (name' : List ℕ) (op' : MatchOp) (value' : List ℕ)
     → bare ≡ is_label name → bare' ≡ is_label name'
     → at_most (matcher_text name op value) (matcher_text name' op' value')
     ≡ at_most (matcher_symbols bare name op value) (matcher_symbols bare' name' op' value')
@@ -102,19 +102,19 @@ matcher-order bare name op value bare' name' op' value' e e' =
 
 -- ## the symbols by index: three segments
 
-pub matcher-count : (bare : Bool) (name : List ℕ) (op : ℕ) (value : List ℕ) (n o : ℕ) → n ≡ length (name_symbols bare name) → o ≡ length (operator_token op)
+pub matcher-count : (bare : Bool) (name : List ℕ) (op : MatchOp) (value : List ℕ) (n o : ℕ) → n ≡ length (name_symbols bare name) → o ≡ length (match_op_token op)
     → n + o + length value + 2 ≡ length (matcher_symbols bare name op value)
 unfolding matcher_symbols
 matcher-count bare name op value n o en eo =
     omega (
       arith,
-      length-append (name_symbols bare name) (map symbol (operator_token op) ++ symbols value),
-      length-append (map symbol (operator_token op)) (symbols value),
-      length-map (operator_token op) symbol,
+      length-append (name_symbols bare name) (map symbol (match_op_token op) ++ symbols value),
+      length-append (map symbol (match_op_token op)) (symbols value),
+      length-map (match_op_token op) symbol,
       symbols-length value,
     )
 
-pub segment-name : (bare : Bool) (name : List ℕ) (op : ℕ) (value : List ℕ) (j n r : ℕ) → n ≡ length (name_symbols bare name) → j < n
+pub segment-name : (bare : Bool) (name : List ℕ) (op : MatchOp) (value : List ℕ) (j n r : ℕ) → n ≡ length (name_symbols bare name) → j < n
     → r ≡ get_or (name_symbols bare name) j 0 → r ≡ get_or (matcher_symbols bare name op value) j 0
 unfolding matcher_symbols
 segment-name bare name op value j n r en h e = e ∙ sym (get_or-append (name_symbols bare name) _ 0 j (omega arith))
@@ -124,22 +124,22 @@ behind a b n j e h =
     let k : length a + (j - n) ≡ j = omega arith in
     subst (λ (i : ℕ). get_or (a ++ b) i 0 ≡ get_or b (j - n) 0) k (get_or-append-add a b (j - n) 0)
 
-pub segment-op : (bare : Bool) (name : List ℕ) (op : ℕ) (value : List ℕ) (j n o r : ℕ) → n ≡ length (name_symbols bare name) → n ≤ j
-    → o ≡ length (operator_token op) → j - n < o → r ≡ get_or (map symbol (operator_token op)) (j - n) 0 → r ≡ get_or (matcher_symbols bare name op value) j 0
+pub segment-op : (bare : Bool) (name : List ℕ) (op : MatchOp) (value : List ℕ) (j n o r : ℕ) → n ≡ length (name_symbols bare name) → n ≤ j
+    → o ≡ length (match_op_token op) → j - n < o → r ≡ get_or (map symbol (match_op_token op)) (j - n) 0 → r ≡ get_or (matcher_symbols bare name op value) j 0
 unfolding matcher_symbols
 segment-op bare name op value j n o r en h eo k e =
-    let m = length-map (operator_token op) symbol in
-    e ∙ sym (behind (name_symbols bare name) _ n j en h ∙ get_or-append (map symbol (operator_token op)) (symbols value) 0 (j - n) (omega arith))
+    let m = length-map (match_op_token op) symbol in
+    e ∙ sym (behind (name_symbols bare name) _ n j en h ∙ get_or-append (map symbol (match_op_token op)) (symbols value) 0 (j - n) (omega arith))
 
-pub segment-value : (bare : Bool) (name : List ℕ) (op : ℕ) (value : List ℕ) (j n o r : ℕ) → n ≡ length (name_symbols bare name) → n ≤ j
-    → o ≡ length (operator_token op) → o ≤ j - n → r ≡ get_or (symbols value) (j - n - o) 0 → r ≡ get_or (matcher_symbols bare name op value) j 0
+pub segment-value : (bare : Bool) (name : List ℕ) (op : MatchOp) (value : List ℕ) (j n o r : ℕ) → n ≡ length (name_symbols bare name) → n ≤ j
+    → o ≡ length (match_op_token op) → o ≤ j - n → r ≡ get_or (symbols value) (j - n - o) 0 → r ≡ get_or (matcher_symbols bare name op value) j 0
 unfolding matcher_symbols
 segment-value bare name op value j n o r en h eo k e =
-    let m = length-map (operator_token op) symbol in
-    e ∙ sym (behind (name_symbols bare name) _ n j en h ∙ behind (map symbol (operator_token op)) (symbols value) o (j - n) (eo ∙ sym m) k)
+    let m = length-map (match_op_token op) symbol in
+    e ∙ sym (behind (name_symbols bare name) _ n j en h ∙ behind (map symbol (match_op_token op)) (symbols value) o (j - n) (eo ∙ sym m) k)
 
 -- what is left for the value
-pub value_room : (bare : Bool) (name : List ℕ) (op : ℕ) (value : List ℕ) (j n o : ℕ) → n ≡ length (name_symbols bare name) → o ≡ length (operator_token op)
+pub value_room : (bare : Bool) (name : List ℕ) (op : MatchOp) (value : List ℕ) (j n o : ℕ) → n ≡ length (name_symbols bare name) → o ≡ length (match_op_token op)
     → n ≤ j → o ≤ j - n → j < length (matcher_symbols bare name op value) → j - n - o < length value + 2
 value_room bare name op value j n o en eo h k l = omega (arith, matcher-count bare name op value n o en eo)
 
@@ -181,47 +181,19 @@ unfolding name_symbols
 quoted-symbol true t j r e is = never (sym e)
 quoted-symbol false t j r e is = is
 
--- ## An operator's bytes, by its number
+-- ## An operator's bytes
 
-pub op-symbol : (op j o b r : ℕ) → o ≡ length (operator_token op) → j < o → b ≡ get_or (operator_token op) j 0
-    → r ≡ symbol b → r ≡ get_or (map symbol (operator_token op)) j 0
-op-symbol op j o b r eo h e is = is ∙ ap symbol e ∙ sym (bare-at (operator_token op) j (omega arith))
+pub op-symbol : (op : MatchOp) (j o b r : ℕ) → o ≡ length (match_op_token op) → j < o → b ≡ get_or (match_op_token op) j 0
+    → r ≡ symbol b → r ≡ get_or (map symbol (match_op_token op)) j 0
+op-symbol op j o b r eo h e is = is ∙ ap symbol e ∙ sym (bare-at (match_op_token op) j (omega arith))
 
--- the words as lists of bytes
-pub record MatchOpTokens (op : ℕ) : Type 0 where
-  pub equal : op ≡ 0 → operator_token op ≡ 61 ∷ []
-  pub not_equal : op ≡ 1 → operator_token op ≡ bytes "!="
-  pub re : op ≡ 2 → operator_token op ≡ bytes "=~"
-  pub not_re : op ≡ 3 → operator_token op ≡ bytes "!~"
+-- the only byte
+pub op-only : (a j : ℕ) → j < 1 → a ≡ get_or (a ∷ []) j 0
+op-only a zero h = refl
+op-only a (suc j) h = absurd (omega arith)
 
-pub tokens : (op : ℕ) → MatchOpTokens op
-unfolding operator_token
-tokens op = record { equal = λ e. rw e; not_equal = λ e. rw e; re = λ e. rw e; not_re = λ e. rw e }
-
-pub op-last : (op : ℕ) → op < 4 → (op ≡ 0 → ⊥) → (op ≡ 1 → ⊥) → (op ≡ 2 → ⊥) → op ≡ 3
-op-last zero h a b d = absurd (a refl)
-op-last (suc zero) h a b d = absurd (b refl)
-op-last (suc (suc zero)) h a b d = absurd (d refl)
-op-last (suc (suc (suc zero))) h a b d = refl
-op-last (suc (suc (suc (suc op)))) h a b d = absurd (omega arith)
-
-pub op-first : (op j a : ℕ) (more : List ℕ) → operator_token op ≡ a ∷ more → j ≡ 0 → a ≡ get_or (operator_token op) j 0
-op-first op j a more e h = rw (e, h)
-
-pub op-only : (op j a : ℕ) → operator_token op ≡ a ∷ [] → j < length (operator_token op) → a ≡ get_or (operator_token op) j 0
-op-only op j a e h = op-first op j a [] e (let k : j < 1 = (rw e at h) in omega arith)
-
-pub op-second : (op j a b : ℕ) → operator_token op ≡ a ∷ b ∷ [] → (j ≡ 0 → ⊥) → j < length (operator_token op) → b ≡ get_or (operator_token op) j 0
-op-second op zero a b e n h = absurd (n refl)
-op-second op (suc j) a b e n h = let k : suc j < 2 = (rw e at h) in let z : j ≡ 0 = omega arith in rw (e, z)
-
-pub one_byte : (op : ℕ) → op ≡ 0 → 1 ≡ length (operator_token op)
-one_byte op e = rw ((tokens op).equal e)
-
-pub two_bytes : (op : ℕ) → op < 4 → (op ≡ 0 → ⊥) → 2 ≡ length (operator_token op)
-two_bytes op h n =
-    by-eq op 1 (λ e. rw ((tokens op).not_equal e))
-    (λ m. by-eq op 2 (λ e. rw ((tokens op).re e)) (λ k. rw ((tokens op).not_re (op-last op h n m k))))
-
-pub op-short : (op : ℕ) → op < 4 → length (operator_token op) ≤ 2
-op-short op h = by-eq op 0 (λ e. omega (arith, one_byte op e)) (λ n. omega (arith, two_bytes op h n))
+pub op-short : (op : MatchOp) → length (match_op_token op) ≤ 2
+op-short equal = omega arith
+op-short not_equal = omega arith
+op-short (re b) = omega arith
+op-short (not_re b) = omega arith

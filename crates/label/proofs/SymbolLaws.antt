@@ -6,13 +6,13 @@ use native.Mathlib.Omega.{arith}
 use mathlib.Core.Bool.{true, false}
 use mathlib.Core.List.{List, [], ◌∷◌, ◌++◌, map, append_assoc}
 use mathlib.Core.Path.{◌≡◌, refl, sym, ap, ◌∙◌}
+use Rattle.std.specs.Prelude.{Some, None}
 use borrow.Author.Tests.{lt-ltb, le-ltb, eq-eqb, ne_eqb}
 use lib.Dec.{eqb}
 use lib.ListN.{length, get_or, length-append, length-map}
 use Rattle.base.proofs.Cases.{by-lt, by-eq}
 use Rattle.page.specs.Bytes.{pick}
 use Rattle.leaves.specs.Escape.{escape_byte, escape_with, escape, quote}
-use Rattle.leaves.proofs.EscapeLaws.{escape_byte-stands, escape_byte-letter}
 use Rattle.label.specs.Label.{at_most}
 use Rattle.label.specs.Symbols.{symbol_of, symbol, symbols}
 
@@ -122,13 +122,13 @@ shape b =
     stands (simp (ne_eqb b 92 n₁, ne_eqb b 34 n₂, ne_eqb b 10 n₃, ne_eqb b 13 n₄, ne_eqb b 9 n₅)) n₁)))))
 
 -- r is what `escape_letter` answered
-pub symbol-stands : (b r : ℕ) → escape_with b r ≡ escape_byte b → r ≡ 0 → b * 256 ≡ symbol b
+pub symbol-stands : (b : ℕ) → escape_with b None ≡ escape_byte b → b * 256 ≡ symbol b
 unfolding symbol
-symbol-stands b r is e = sym (ap symbol_of (escape_byte-stands b r is e))
+symbol-stands b is = ap symbol_of is
 
-pub symbol-escapes : (b r : ℕ) → escape_with b r ≡ escape_byte b → (r ≡ 0 → ⊥) → 23552 + r ≡ symbol b
+pub symbol-escapes : (b r : ℕ) → escape_with b (Some r) ≡ escape_byte b → 23552 + r ≡ symbol b
 unfolding symbol
-symbol-escapes b r is n = sym (ap symbol_of (escape_byte-letter b r is n).is)
+symbol-escapes b r is = ap symbol_of is
 
 symbol-plain : (b : ℕ) → escape_byte b ≡ b ∷ [] → symbol b ≡ b * 256
 unfolding symbol

@@ -1,3 +1,3 @@
 pub mod Label
 pub mod Symbols
-pub mod Key
+pub mod Printed

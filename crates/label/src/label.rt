@@ -35,8 +35,7 @@ fn more_labels_len(page: &[u8], start: usize, count: usize, cap: usize) -> usize
 {
     let mut total: usize = 0;
     let mut from = start;
-    let mut left = count;
-    while 0 < left {
+    for _ in 0..count {
         if cap <= total {
             return cap;
         }
@@ -44,7 +43,6 @@ fn more_labels_len(page: &[u8], start: usize, count: usize, cap: usize) -> usize
         let label = label_len(text_at(page, span), cap);
         total = capped_add(total, capped_add(2, label, cap), cap);
         from = span.end;
-        left = left - 1;
     }
     total
 }
@@ -69,13 +67,11 @@ fn put_more_labels(page: &[u8], start: usize, count: usize, out: &mut [u8], at: 
 {
     let mut pos = at;
     let mut from = start;
-    let mut left = count;
-    while 0 < left {
+    for _ in 0..count {
         let span = stored_text(page, from);
         let behind = put_bytes(b", ", out, pos);
         pos = put_label(text_at(page, span), out, behind);
         from = span.end;
-        left = left - 1;
     }
     pos
 }

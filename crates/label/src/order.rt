@@ -1,22 +1,24 @@
 // The order of two matchers' texts, with neither text stored: they are compared symbol by symbol, where a symbol is a
 // byte that stands for itself or a backslash with its letter. A larger symbol has larger bytes, and no symbol's bytes
 // begin another's.
-ghost use Rattle.std.specs.Prelude.{◌≡◌, ◌+◌, ◌≤◌, ◌<◌, length, get_or};
-ghost use Rattle.page.specs.Text.{is_label};
-ghost use Rattle.label.specs.Label.{at_most};
-ghost use Rattle.label.specs.Symbols.{symbol, symbols, operator_token, matcher_text, name_symbols, matcher_symbols};
+ghost use Rattle.std.specs.Prelude.{◌≡◌, ◌+◌, ◌<◌, length, get_or};
+ghost use Rattle.records.specs.Answers.{op_of};
+ghost use Rattle.label.specs.Label.{match_op_token, at_most};
+ghost use Rattle.label.specs.Symbols.{symbol, symbols, name_symbols};
+ghost use Rattle.label.specs.Printed.{parts_text, parts_symbols};
 
+use crate::parts::Parts;
 use leaves::escape_letter;
+use records::MatchOp;
 
 // 256 times the first byte that stands for b, and the second or 0.
 fn symbol(b: u8) -> usize
     ensures { result ≡ symbol b }
 {
-    let letter = escape_letter(b);
-    if letter == 0 {
-        return b as usize * 256;
+    match escape_letter(b) {
+        None => b as usize * 256,
+        Some(letter) => 23552 + letter as usize,
     }
-    23552 + letter as usize
 }
 
 // Symbol j of a quoted text: a quote, the text's own, a quote.
@@ -53,81 +55,68 @@ fn name_symbol(name: &[u8], bare: bool, j: usize) -> usize
     quoted_symbol(name, j)
 }
 
-pub fn operator_count(op: u8) -> usize
-    requires { op < 4 }
-    ensures { result ≡ length (operator_token op) }
+pub fn operator_count(op: MatchOp) -> usize
+    ensures { result ≡ length (match_op_token (op_of op)) }
 {
-    if op == 0 {
-        return 1;
+    match op {
+        MatchOp::Equal => 1,
+        MatchOp::NotEqual | MatchOp::Re(_) | MatchOp::NotRe(_) => 2,
     }
-    2
 }
 
 // Byte j of an operator: =, !=, =~ or !~.
-pub fn operator_byte(op: u8, j: usize) -> u8
-    requires { (op < 4) × (j < length (operator_token op)) }
-    ensures { result ≡ get_or (operator_token op) j 0 }
+pub fn operator_byte(op: MatchOp, j: usize) -> u8
+    requires { j < length (match_op_token (op_of op)) }
+    ensures { result ≡ get_or (match_op_token (op_of op)) j 0 }
 {
     match op {
-        0 => b'=',
-        1 => if j == 0 { b'!' } else { b'=' },
-        2 => if j == 0 { b'=' } else { b'~' },
-        _ => if j == 0 { b'!' } else { b'~' },
+        MatchOp::Equal => b'=',
+        MatchOp::NotEqual => if j == 0 { b'!' } else { b'=' },
+        MatchOp::Re(_) => if j == 0 { b'=' } else { b'~' },
+        MatchOp::NotRe(_) => if j == 0 { b'!' } else { b'~' },
     }
 }
 
-fn matcher_count(name: &[u8], bare: bool, op: u8, value: &[u8]) -> usize
-    requires { (op < 4) × (length name.now ≤ 255) × (length value.now ≤ 255) }
-    ensures { result ≡ length (matcher_symbols bare name.now op value.now) }
-{
-    name_count(name, bare) + operator_count(op) + value.len() + 2
-}
-
-fn matcher_symbol(name: &[u8], bare: bool, op: u8, value: &[u8], j: usize) -> usize
-    requires { (op < 4) × (j < length (matcher_symbols bare name.now op value.now)) }
-    ensures { result ≡ get_or (matcher_symbols bare name.now op value.now) j 0 }
-{
-    let n = name_count(name, bare);
-    if j < n {
-        return name_symbol(name, bare, j);
+impl<'a> Parts<'a> {
+    // How many symbols the text has.
+    fn symbol_count(&self) -> usize
+        ensures { result ≡ length (parts_symbols self.now) }
+    {
+        name_count(self.name, self.bare) + operator_count(self.op) + self.value.len() + 2
     }
-    let k = j - n;
-    let o = operator_count(op);
-    if k < o {
-        return symbol(operator_byte(op, k));
-    }
-    quoted_symbol(value, k - o)
-}
 
-// Whether the first matcher's text comes no later than the second's; `bare1` and `bare2` say whether the names are
-// labels.
-pub fn matcher_at_most(
-    name1: &[u8],
-    bare1: bool,
-    op1: u8,
-    value1: &[u8],
-    name2: &[u8],
-    bare2: bool,
-    op2: u8,
-    value2: &[u8],
-) -> bool
-    requires first { (bare1 ≡ is_label name1.now) × (op1 < 4) × (length name1.now ≤ 255) × (length value1.now ≤ 255) }
-    requires second { (bare2 ≡ is_label name2.now) × (op2 < 4) × (length name2.now ≤ 255) × (length value2.now ≤ 255) }
-    ensures { result ≡ at_most (matcher_text name1.now op1 value1.now) (matcher_text name2.now op2 value2.now) }
-{
-    let n = matcher_count(name1, bare1, op1, value1);
-    let m = matcher_count(name2, bare2, op2, value2);
-    let mut j: usize = 0;
-    while j < n {
-        if m <= j {
-            return false;
+    fn symbol(&self, j: usize) -> usize
+        requires { j < length (parts_symbols self.now) }
+        ensures { result ≡ get_or (parts_symbols self.now) j 0 }
+    {
+        let n = name_count(self.name, self.bare);
+        if j < n {
+            return name_symbol(self.name, self.bare, j);
         }
-        let x = matcher_symbol(name1, bare1, op1, value1, j);
-        let y = matcher_symbol(name2, bare2, op2, value2, j);
-        if x != y {
-            return x < y;
+        let k = j - n;
+        let o = operator_count(self.op);
+        if k < o {
+            return symbol(operator_byte(self.op, k));
         }
-        j = j + 1;
+        quoted_symbol(self.value, k - o)
     }
-    true
+
+    // Whether the text comes no later than the other's.
+    pub fn is_at_most(&self, other: &Parts<'a>) -> bool
+        ensures { result ≡ at_most (parts_text self.now) (parts_text other.now) }
+    {
+        let n = self.symbol_count();
+        let m = other.symbol_count();
+        for j in 0..n {
+            if m <= j {
+                return false;
+            }
+            let x = self.symbol(j);
+            let y = other.symbol(j);
+            if x != y {
+                return x < y;
+            }
+        }
+        true
+    }
 }

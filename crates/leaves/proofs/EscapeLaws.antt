@@ -1,27 +1,19 @@
 -- Laws of `escape`, a byte at a time. Assumes nothing.
-use Prim.Native.Nat.{ℕ, zero, suc, ◌+◌, ◌≤◌, ◌<◌}
+use Prim.Native.Nat.{ℕ, ◌+◌, ◌≤◌, ◌<◌}
 use native.Mathlib.Numerals.{add-one}
 use native.Mathlib.Omega.{arith}
 use mathlib.Core.List.{List, [], ◌∷◌}
-use mathlib.Core.Path.{◌≡◌, refl, sym, ap, ◌∙◌}
+use mathlib.Core.Path.{◌≡◌, sym}
+use Rattle.std.specs.Prelude.{Some}
 use lib.ListN.{length, get_or, drop, drop_of_length-le, length-append}
 use lib.Seq.{drop-cons}
-use Rattle.base.proofs.SpliceLaws.{Cut}
+use Rattle.base.proofs.SpliceLaws.{Cut, cut-length}
 use Rattle.leaves.specs.Escape.{escape_byte, escape_with, escape, quote}
 
--- ## escape_byte: r is what `escape_letter` answered
+-- ## escape_byte, as `escape_letter` answers
 
-pub escape_byte-stands : (b r : ℕ) → escape_with b r ≡ escape_byte b → r ≡ 0 → escape_byte b ≡ b ∷ []
-unfolding escape_with
-escape_byte-stands b r is none = sym is ∙ rw none
-
-with-letter : (b r : ℕ) → (r ≡ 0 → ⊥) → escape_with b r ≡ 92 ∷ r ∷ []
-unfolding escape_with
-with-letter b zero some' = absurd (some' refl)
-with-letter b (suc r) some' = refl
-
-pub escape_byte-letter : (b r : ℕ) → escape_with b r ≡ escape_byte b → (r ≡ 0 → ⊥) → Cut (escape_byte b) (92 ∷ []) (r ∷ [])
-escape_byte-letter b r is some' = record { is = sym is ∙ with-letter b r some' }
+pub escape_byte-letter : (b letter : ℕ) → escape_with b (Some letter) ≡ escape_byte b → Cut (escape_byte b) (92 ∷ []) (letter ∷ [])
+escape_byte-letter b letter is = record { is = sym is }
 
 -- ## escape
 
@@ -34,13 +26,9 @@ unfolding escape
 escape_end l i h = rw (drop_of_length-le l h)
 
 -- how much a byte adds to the length
-pub escape-adds-one : (l : List ℕ) (i r : ℕ) → i < length l → escape_with (get_or l i 0) r ≡ escape_byte (get_or l i 0) → r ≡ 0
-    → length (escape (drop i l)) ≡ 1 + length (escape (drop (i + 1) l))
-escape-adds-one l i r h is none = ap length (escape-next l i h).is ∙ rw (escape_byte-stands (get_or l i 0) r is none) (omega arith)
-
-pub escape-adds-two : (l : List ℕ) (i r : ℕ) → i < length l → escape_with (get_or l i 0) r ≡ escape_byte (get_or l i 0) → (r ≡ 0 → ⊥)
-    → length (escape (drop i l)) ≡ 2 + length (escape (drop (i + 1) l))
-escape-adds-two l i r h is some' = ap length (escape-next l i h).is ∙ rw (escape_byte-letter (get_or l i 0) r is some').is (omega arith)
+pub escape-adds : (l : List ℕ) (i : ℕ) → i < length l
+    → length (escape (drop i l)) ≡ length (escape_byte (get_or l i 0)) + length (escape (drop (i + 1) l))
+escape-adds l i h = cut-length (escape-next l i h)
 
 -- ## quote
 

@@ -1,5 +1,5 @@
 -- Escaped and quoted texts (util/string.rs, `escape_string`).
-use Rattle.std.specs.Prelude.{ℕ, zero, suc, List, [], ◌∷◌, ◌++◌, eqb}
+use Rattle.std.specs.Prelude.{ℕ, List, [], ◌∷◌, ◌++◌, eqb, Option, Some, None}
 use Rattle.page.specs.Bytes.{pick, bytes}
 use Rattle.page.specs.Text.{Text}
 
@@ -13,10 +13,10 @@ escape_byte c =
     (pick (eqb c 9) (bytes "\\t")
     (c ∷ [])))))
 
--- a byte that stands for itself (letter 0), or a backslash and a letter
-unfoldable pub escape_with : ℕ → ℕ → List ℕ
-escape_with c zero = c ∷ []
-escape_with c (suc letter) = bytes "\\" ++ (suc letter ∷ [])
+-- a byte that stands for itself, or a backslash and a letter
+abbrev pub escape_with : ℕ → Option ℕ → List ℕ
+escape_with c None = c ∷ []
+escape_with c (Some letter) = bytes "\\" ++ (letter ∷ [])
 
 unfoldable pub escape : Text → List ℕ
 escape [] = []

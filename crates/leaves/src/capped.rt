@@ -5,11 +5,5 @@ ghost use Rattle.std.specs.Prelude.{◌≡◌, ◌+◌, min};
 pub fn capped_add(a: usize, b: usize, cap: usize) -> usize
     ensures { result ≡ min (a + b) cap }
 {
-    if cap <= a {
-        return cap;
-    }
-    if cap - a <= b {
-        return cap;
-    }
-    a + b
+    a.saturating_add(b).min(cap)
 }

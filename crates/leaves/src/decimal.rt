@@ -10,10 +10,10 @@ pub fn decimal_len(n: u64) -> usize
     ensures { (result ≡ length (decimal n)) × (result ≤ 20) }
 {
     let mut left = n;
-    let mut count: usize = 1;
+    let mut count = 1;
     while 10 <= left {
-        left = left / 10;
-        count = count + 1;
+        left /= 10;
+        count += 1;
     }
     count
 }

@@ -27,13 +27,10 @@ pub fn breakdown(ms: u64) -> [u64; 7]
 {
     let mut counts = [0u64; 7];
     let mut rest = ms;
-    let mut i: usize = 0;
-    while i < 7 {
-        let unit = UNITS[i];
+    for (i, &unit) in UNITS.iter().enumerate() {
         let count = count_of(i < 2, unit, rest);
         counts[i] = count;
-        rest = rest - count * unit;
-        i = i + 1;
+        rest -= count * unit;
     }
     counts
 }
@@ -84,12 +81,9 @@ pub fn duration_len(ms: u64) -> usize
     if ms == 0 {
         return 2;
     }
-    let counts = breakdown(ms);
-    let mut sum: usize = 0;
-    let mut i: usize = 0;
-    while i < 7 {
-        sum = sum + count_len(counts[i], i);
-        i = i + 1;
+    let mut sum = 0;
+    for (unit, &count) in breakdown(ms).iter().enumerate() {
+        sum += count_len(count, unit);
     }
     sum
 }
@@ -101,12 +95,9 @@ pub fn put_duration(ms: u64, out: &mut [u8], at: usize) -> usize
     if ms == 0 {
         return put_bytes(b"0s", out, at);
     }
-    let counts = breakdown(ms);
     let mut pos = at;
-    let mut i: usize = 0;
-    while i < 7 {
-        pos = put_count(counts[i], i, out, pos);
-        i = i + 1;
+    for (unit, &count) in breakdown(ms).iter().enumerate() {
+        pos = put_count(count, unit, out, pos);
     }
     pos
 }

@@ -65,16 +65,6 @@ fn measure(
     width
 }
 
-// What so many bytes leave of a cap: nothing where they use it up.
-fn room_after(cap: usize, bytes: usize) -> usize
-    ensures { result ≡ cap - bytes }
-{
-    if cap <= bytes {
-        return 0;
-    }
-    cap - bytes
-}
-
 // Measures the newest expressions after the first `end` records, `count` of them, and returns the length of their texts
 // with so many bytes between each two, or `cap` where it is more. `numberless` is said of the last one.
 #[cycle(measure_measure_operands)]
@@ -108,7 +98,7 @@ fn measure_operands(
     }
     let first = firsts[root] as usize;
     let left = cap - last;
-    let room = room_after(left, gap);
+    let room = left.saturating_sub(gap);
     let fewer = count - 1;
     let rest = measure_operands(page, starts, firsts, first, fewer, false, gap, room, widths);
     if left <= gap {

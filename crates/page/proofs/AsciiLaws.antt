@@ -8,7 +8,8 @@ use native.Mathlib.Omega.{arith}
 use native.Mathlib.Nat.{lt_of_not-le}
 use native.Mathlib.Decide.{dec_le}
 use lib.ListN.{length, take, drop, get_or, take-append-drop}
-use lib.Seq.{drop-cons, drop-drop}
+use lib.Seq.{drop-cons, drop-drop, take_all}
+use Rattle.std.specs.Int.{from_le_bytes, w64}
 use lib.Dec.{eqb, ltb, lit<}
 use lib.Bits.{bit_and, and_block, and_comm, and_shifted}
 use borrow.Author.Tests.{not-true, not-false, ne_eqb, eq-eqb, lt-ltb, le-ltb}
@@ -77,6 +78,17 @@ take-eight l i h =
   where
     next : (j k : ℕ) → suc j ≡ k → j < length l → drop j l ≡ get_or l j 0 ∷ drop k l
     next j k e h = drop-cons l j 0 h ∙ ap (λ (n : ℕ). get_or l j 0 ∷ drop n l) e
+
+-- a word as std makes it of eight bytes
+pub eight-passes : (bs : List ℕ) → length bs ≡ 8 → ((i : ℕ) → get_or bs i 0 < 256) → (n : ℕ) → n ≡ from_le_bytes w64 bs
+    → eqb (bit_and n 0x8080_8080_8080_8080) 0 ≡ is_ascii bs
+eight-passes bs e f n is =
+    let at = λ (i : ℕ). get_or bs i 0 in
+    let eight = at 0 ∷ at 1 ∷ at 2 ∷ at 3 ∷ at 4 ∷ at 5 ∷ at 6 ∷ at 7 ∷ [] in
+    let whole : bs ≡ eight = sym (take_all 8 bs (omega arith)) ∙ take-eight bs 0 (omega arith) in
+    let same : n ≡ word_of eight = omega (arith, is) in
+    ap (λ (m : ℕ). eqb (bit_and m 0x8080_8080_8080_8080) 0) same
+    ∙ word-passes eight (f 0, (f 1, (f 2, (f 3, (f 4, (f 5, (f 6, (f 7, tt)))))))) ∙ ap is_ascii (sym whole)
 
 -- a word, and what stands after it
 pub word-apart : (l : List ℕ) (i : ℕ) → drop i l ≡ take 8 (drop i l) ++ drop (i + 8) l

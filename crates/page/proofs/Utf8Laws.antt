@@ -1,6 +1,8 @@
 -- A text of UTF-8 by positions: after a byte that is due, after a character, after a word of bytes below 128. What is
 -- left from there decides. Assumes nothing.
-use Prim.Native.Nat.{ℕ, zero, suc, ◌+◌, ◌-◌, ◌≤◌, ◌<◌}
+use Rattle.std.specs.Prelude.{Some, None}
+use Rattle.std.specs.Prelude.{Option as Given}
+use Prim.Native.Nat.{ℕ, suc, ◌+◌, ◌-◌, ◌≤◌, ◌<◌}
 use mathlib.Core.Path.{◌≡◌, refl, sym, ap, ◌∙◌}
 use mathlib.Core.Bool.{Bool, true, false, ◌&&◌, true≢false}
 use mathlib.Core.List.{List, [], ◌∷◌, ◌++◌, append-nil}
@@ -20,12 +22,6 @@ use Rattle.page.specs.declared.utf8.Due.{Due}
 use Rattle.page.specs.declared.utf8.Due.TheVariants.{NoCharacter, Zero}
 use Rattle.page.proofs.NumberLaws.{left-of, right_of}
 use Rattle.page.proofs.AsciiLaws.{word-apart}
-
--- a later position with the same answer
-ends-to : (due : List Range) (text : List ℕ) (at n : ℕ) → at < n → n ≤ length text
-    → is_utf8_after due (drop at text) ≡ is_utf8 (drop n text) → Ends due text at n
-ends-to due text at zero l h e = absurd (omega arith)
-ends-to due text at (suc n) l h e = (omega arith, h, e)
 
 -- ## Ranges
 
@@ -96,13 +92,12 @@ module _ (r : Range) (text : List ℕ) (at : ℕ) where
         let inside : at < length text = first-inside yes' in
         rw (add-one, drop-cons text at 0 inside, first_byte inside ∙ sym is ∙ yes')
 
-    pub ends_last : b ≡ true → Ends (r ∷ []) text at (at + 1)
-    ends_last yes' =
-        ends-to (r ∷ []) text at (at + 1) (omega arith) (omega (arith, first-inside yes')) (due-step [] yes')
+    pub ends_last : b ≡ true → Ends (r ∷ []) text at (Some (at + 1))
+    ends_last yes' = (omega arith, omega (arith, first-inside yes'), due-step [] yes')
 
-    pub ends_more : (due : List Range) (n : ℕ) → b ≡ true → Ends due text (at + 1) n → Ends (r ∷ due) text at n
-    ends_more due zero yes' more = due-step due yes' ∙ more
-    ends_more due (suc n) yes' more = (omega (arith, more.0), more.1, due-step due yes' ∙ more.2)
+    pub ends_more : (due : List Range) (n : Given ℕ) → b ≡ true → Ends due text (at + 1) n → Ends (r ∷ due) text at n
+    ends_more due None yes' more = due-step due yes' ∙ more
+    ends_more due (Some n) yes' more = (omega (arith, more.0), more.1, due-step due yes' ∙ more.2)
 
 -- ## A character
 
@@ -118,20 +113,20 @@ module _ (text : List ℕ) (i : ℕ) (d : Due) (h : i < length text) (m : due_me
   unfolding left-due
   character-none e = character-step ∙ ap left-due e
 
-  pub character-whole : d ≡ Zero → Ends [] text i (i + 1)
+  pub character-whole : d ≡ Zero → Ends [] text i (Some (i + 1))
   unfolding left-due
-  character-whole e = ends-to [] text i (i + 1) (omega arith) (omega (arith, h)) (character-step ∙ ap left-due e)
+  character-whole e = (omega arith, omega (arith, h), character-step ∙ ap left-due e)
 
-  pub character-ends : (due : List Range) (n : ℕ) → due_meant d ≡ some due → Ends due text (i + 1) n → Ends [] text i n
+  pub character-ends : (due : List Range) (n : Given ℕ) → due_meant d ≡ some due → Ends due text (i + 1) n → Ends [] text i n
   unfolding left-due
   character-ends due n e more = by n more
     where
       one : is_utf8 (drop i text) ≡ is_utf8_after due (drop (i + 1) text)
       one = character-step ∙ ap (λ (x : Option (List Range)). begun x (λ due. is_utf8_after due (drop (i + 1) text))) e
 
-      by : (n : ℕ) → Ends due text (i + 1) n → Ends [] text i n
-      by zero k = one ∙ k
-      by (suc n) k = (omega (arith, k.0), k.1, one ∙ k.2)
+      by : (n : Given ℕ) → Ends due text (i + 1) n → Ends [] text i n
+      by None k = one ∙ k
+      by (Some n) k = (omega (arith, k.0), k.1, one ∙ k.2)
 
 -- ## Bytes below 128
 
@@ -153,31 +148,21 @@ ascii-utf8 text r is yes' =
     sym (ap is_utf8 (sym (append-nil text)) ∙ ascii-skip text [] (sym is ∙ yes'))
 
 pub word-ends : (text : List ℕ) (i : ℕ) (r : Bool) → 8 ≤ length text - i → r ≡ is_ascii (take 8 (drop i text))
-    → r ≡ true → Ends [] text i (i + 8)
-word-ends text i r h is yes' =
-    ends-to [] text i (i + 8) (omega arith) (omega arith)
-    (ap is_utf8 (word-apart text i) ∙ ascii-skip (take 8 (drop i text)) (drop (i + 8) text) (sym is ∙ yes'))
+    → r ≡ true → Ends [] text i (Some (i + 8))
+word-ends text i r h is yes' = (
+  omega arith,
+  omega arith,
+  ap is_utf8 (word-apart text i) ∙ ascii-skip (take 8 (drop i text)) (drop (i + 8) text) (sym is ∙ yes'),
+)
 
-pub byte-ends : (text : List ℕ) (i : ℕ) → i < length text → get_or text i 0 < 128 → Ends [] text i (i + 1)
-byte-ends text i h k =
-    ends-to [] text i (i + 1) (omega arith) (omega arith)
-    (ap is_utf8 (drop-cons text i 0 h) ∙ rw (byte-skip (get_or text i 0) (drop (suc i) text) k, add-one))
+pub byte-ends : (text : List ℕ) (i : ℕ) → i < length text → get_or text i 0 < 128 → Ends [] text i (Some (i + 1))
+byte-ends text i h k = (
+  omega arith,
+  omega arith,
+  ap is_utf8 (drop-cons text i 0 h) ∙ rw (byte-skip (get_or text i 0) (drop (suc i) text) k, add-one),
+)
 
 -- ## The loop
 
--- x is the answer that is due
-module _ (text : List ℕ) (i : ℕ) (x : Bool) (inv : x ≡ is_utf8 (drop i text)) where
-  pub ends-stop : (r : ℕ) → Ends [] text i r → r ≡ 0 → false ≡ x
-  ends-stop zero s e = sym (inv ∙ s)
-  ends-stop (suc r) s e = absurd (omega (arith, e))
-
-  pub ends-go : (r : ℕ) → Ends [] text i r → (r ≡ 0 → ⊥) → x ≡ is_utf8 (drop r text)
-  ends-go zero s e = absurd (e refl)
-  ends-go (suc r) s e = inv ∙ s.2
-
-  pub ends-all : length text ≤ i → true ≡ x
-  ends-all h = sym (inv ∙ rw (drop_of_length-le text h))
-
-pub ends-less : (text : List ℕ) (i r : ℕ) → Ends [] text i r → (r ≡ 0 → ⊥) → i < r
-ends-less text i zero s e = absurd (e refl)
-ends-less text i (suc r) s e = omega (arith, s.0)
+pub ends-all : (text : List ℕ) (i : ℕ) (x : Bool) → x ≡ is_utf8 (drop i text) → length text ≤ i → true ≡ x
+ends-all text i x inv h = sym (inv ∙ rw (drop_of_length-le text h))

@@ -1,29 +1,13 @@
 // Whether all bytes of a text are below 128 (document 02, No. 4): a word of eight bytes at a time, what is left of the
 // text singly. No byte outside the text is read, wherever it starts.
-ghost use Rattle.std.specs.Prelude.{◌≡◌, [], ◌∷◌, ◌-◌, ◌≤◌, length, take, drop};
+ghost use Rattle.std.specs.Prelude.{◌≡◌, ◌-◌, ◌≤◌, length, take, drop};
 ghost use Rattle.page.specs.Text.{is_ascii};
-ghost use Rattle.page.specs.Word.{word_of};
 
-fn wide(b: u8) -> u64
-    ensures { result ≡ b }
+// A word passes exactly when its eight bytes do: none of them has its highest bit set. The first byte is the lowest.
+pub fn word_passes(bytes: &[u8; 8]) -> bool
+    ensures { result ≡ is_ascii bytes.now }
 {
-    b as u64
-}
-
-// Eight bytes as one number, the first the lowest: one load, where they stand side by side.
-fn word(b0: u8, b1: u8, b2: u8, b3: u8, b4: u8, b5: u8, b6: u8, b7: u8) -> u64
-    ensures { result ≡ word_of (b0 ∷ b1 ∷ b2 ∷ b3 ∷ b4 ∷ b5 ∷ b6 ∷ b7 ∷ []) }
-{
-    let low = wide(b0) + wide(b1) * 0x100 + wide(b2) * 0x1_0000 + wide(b3) * 0x100_0000;
-    let high = wide(b4) + wide(b5) * 0x100 + wide(b6) * 0x1_0000 + wide(b7) * 0x100_0000;
-    low + high * 0x1_0000_0000
-}
-
-// A word passes exactly when its eight bytes do: none of them has its highest bit set.
-pub fn word_passes(b0: u8, b1: u8, b2: u8, b3: u8, b4: u8, b5: u8, b6: u8, b7: u8) -> bool
-    ensures { result ≡ is_ascii (b0 ∷ b1 ∷ b2 ∷ b3 ∷ b4 ∷ b5 ∷ b6 ∷ b7 ∷ []) }
-{
-    word(b0, b1, b2, b3, b4, b5, b6, b7) & 0x8080_8080_8080_8080 == 0
+    u64::from_le_bytes(*bytes) & 0x8080_8080_8080_8080 == 0
 }
 
 // The bytes from a position on, one at a time; there are none past the text's end. The loop asks with `!=` whether it
@@ -49,16 +33,9 @@ pub fn word_passes_at(text: &[u8], i: usize) -> bool
     requires { 8 ≤ length text.now - i }
     ensures { result ≡ is_ascii (take 8 (drop i text.now)) }
 {
-    word_passes(
-        text[i],
-        text[i + 1],
-        text[i + 2],
-        text[i + 3],
-        text[i + 4],
-        text[i + 5],
-        text[i + 6],
-        text[i + 7],
-    )
+    text[i..]
+        .split_first_chunk()
+        .is_some_and(|(word, _)| word_passes(word))
 }
 
 // Whole words first, then what is left.

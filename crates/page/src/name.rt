@@ -19,13 +19,13 @@ pub enum ByteClass {
 fn is_digit(b: u8) -> bool
     ensures { result ≡ is_digit b }
 {
-    (b'0' <= b) & (b <= b'9')
+    b.is_ascii_digit()
 }
 
 fn is_alpha(b: u8) -> bool
     ensures { result ≡ is_alpha b }
 {
-    ((b'A' <= b) & (b <= b'Z')) | ((b'a' <= b) & (b <= b'z')) | (b == b'_')
+    b.is_ascii_alphabetic() | (b == b'_')
 }
 
 pub fn byte_is(class: ByteClass, b: u8) -> bool
@@ -43,14 +43,7 @@ pub fn byte_is(class: ByteClass, b: u8) -> bool
 pub fn all_in(text: &[u8], class: ByteClass) -> bool
     ensures { result ≡ all (in_class class) text.now }
 {
-    let mut i = 0;
-    while i < text.len() {
-        if !byte_is(class, text[i]) {
-            return false;
-        }
-        i = i + 1;
-    }
-    true
+    text.iter().all(|b| byte_is(class, *b))
 }
 
 // The one test of texts that are no names. Most of them are ASCII, and are tested by words alone.
@@ -67,13 +60,10 @@ pub fn is_text(text: &[u8]) -> bool
 pub fn is_name_of(text: &[u8], first: ByteClass, other: ByteClass) -> bool
     ensures { result ≡ is_name (in_class first) (in_class other) text.now }
 {
-    if text.len() == 0 {
-        return false;
+    match text {
+        [] => false,
+        [b, rest @ ..] => byte_is(first, *b) && all_in(rest, other),
     }
-    if !byte_is(first, text[0]) {
-        return false;
-    }
-    all_in(&text[1..], other)
 }
 
 pub fn is_metric_name(text: &[u8]) -> bool

@@ -4,14 +4,15 @@ ghost use Rattle.page.specs.Bytes.{equal};
 ghost use Rattle.page.specs.Read.{got};
 ghost use Rattle.page.specs.Text.{is_selector_name, read_any_text};
 ghost use Rattle.page.specs.Listed.{Readable};
-ghost use Rattle.page.specs.Answers.{limit_of, allowed_by, read_text_of, span_on, Lies, text_at, text_lies, SizeEnds};
-ghost use Rattle.page.specs.Answers.{TextEnds, Within};
+ghost use Rattle.page.specs.Answers.{field_at, limit_of, allowed_by, read_text_of, span_on, Lies, text_lies, SizeEnds};
+ghost use Rattle.page.specs.Answers.{EverydayText, Within};
 
 use crate::ascii::is_ascii;
 use crate::fault::Fault;
+use crate::field::Field;
 use crate::limit::{FUNCTION_NAME_LIMIT, TEXT_LIMIT};
 use crate::name::{is_label, is_metric_name, is_text};
-use crate::number::{Number, read_number};
+use crate::number::read_number;
 
 // A part of the page, from its first byte to the position after its last.
 #[derive(Clone, Copy)]
@@ -68,101 +69,75 @@ pub fn text_allowed(text: &[u8], class: TextClass) -> bool
     }
 }
 
-// A text's part of the page. The next field starts at its end.
-#[derive(Clone, Copy)]
-pub enum Text {
-    Got(Span),
-    Bad(Fault),
-}
-
 // Any text, by its class: its length, that it is whole, its limit, its test.
-fn read_by_class(page: &[u8], at: usize, class: TextClass) -> Text
-    ensures reads { text_at page.now result ≡ read_text_of class (drop at page.now) }
+fn read_by_class(page: &[u8], at: usize, class: TextClass) -> Field<Span>
+    ensures reads { field_at (span_on page.now) page.now result ≡ read_text_of class (drop at page.now) }
     ensures lies { text_lies page.now result }
 {
-    match read_number(page, at) {
-        Number::Got {
-            number: n,
-            next: start,
-        } => {
-            let size = n as usize;
-            if page.len() - start < size {
-                return Text::Bad(Fault::BadField);
-            }
-            if text_limit(class) < size {
-                return Text::Bad(Fault::PastLimit);
-            }
-            let end = start + size;
-            if text_allowed(&page[start..end], class) {
-                Text::Got(Span {
-                    start: start,
-                    end: end,
-                })
-            } else {
-                Text::Bad(Fault::BadText)
-            }
-        }
-        Number::Bad => Text::Bad(Fault::BadField),
+    let (n, start) = read_number(page, at)?;
+    let size = n as usize;
+    if page.len() - start < size {
+        return Err(Fault::BadField);
+    }
+    if text_limit(class) < size {
+        return Err(Fault::PastLimit);
+    }
+    let end = start + size;
+    if text_allowed(&page[start..end], class) {
+        Ok((Span { start, end }, end))
+    } else {
+        Err(Fault::BadText)
     }
 }
 
 // Where the bytes of a text start whose length has one byte, or two with 1 for the second: the first byte is then its
-// size. 0 where its length is another, or none.
-fn size_end(page: &[u8], at: usize) -> usize
+// size. None where its length is another, or there is none.
+fn size_end(page: &[u8], at: usize) -> Option<usize>
     ensures { SizeEnds page.now at result }
 {
     if page.len() <= at {
-        return 0;
+        return None;
     }
     if page[at] < 128 {
-        return at + 1;
+        return Some(at + 1);
     }
     if page.len() <= at + 1 {
-        return 0;
+        return None;
     }
     if page[at + 1] == 1 {
-        return at + 2;
+        return Some(at + 2);
     }
-    0
+    None
 }
 
-// The end of such a text where it is whole and ASCII, else 0.
-fn ascii_end(page: &[u8], at: usize, start: usize) -> usize
-    requires { SizeEnds page.now at start }
-    ensures { TextEnds page.now at start result }
+// Where such a text lies that is whole and ASCII.
+fn everyday_text(page: &[u8], at: usize) -> Option<Span>
+    ensures { EverydayText page.now at result }
 {
-    if start == 0 {
-        return 0;
-    }
+    let start = size_end(page, at)?;
     let size = page[at] as usize;
     if page.len() - start < size {
-        return 0;
+        return None;
     }
     let end = start + size;
     if is_ascii(&page[start..end]) {
-        return end;
+        Some(Span { start, end })
+    } else {
+        None
     }
-    0
 }
 
 // Texts that are no names are ASCII and at most 255 bytes long every day: this part is small enough for the compiler to
 // put it into each reader. All else goes the long way.
-pub fn read_text(page: &[u8], at: usize, class: TextClass) -> Text
-    ensures reads { text_at page.now result ≡ read_text_of class (drop at page.now) }
+pub fn read_text(page: &[u8], at: usize, class: TextClass) -> Field<Span>
+    ensures reads { field_at (span_on page.now) page.now result ≡ read_text_of class (drop at page.now) }
     ensures lies { text_lies page.now result }
 {
     match class {
-        TextClass::Any => {
-            let start = size_end(page, at);
-            let end = ascii_end(page, at, start);
-            if end == 0 {
-                return read_by_class(page, at, class);
-            }
-            Text::Got(Span {
-                start: start,
-                end: end,
-            })
-        }
+        TextClass::Any => match everyday_text(page, at) {
+            Some(span) => Ok((span, span.end)),
+            None => read_by_class(page, at, class),
+        },
         TextClass::MetricName => read_by_class(page, at, class),
         TextClass::FunctionName => read_by_class(page, at, class),
     }
@@ -175,14 +150,11 @@ pub fn stored_text(page: &[u8], at: usize) -> Span
     ensures lies { Lies page.now result }
 {
     match read_number(page, at) {
-        Number::Got {
-            number: n,
-            next: start,
-        } => Span {
-            start: start,
+        Ok((n, start)) => Span {
+            start,
             end: start + n as usize,
         },
-        Number::Bad => Span { start: at, end: at },
+        Err(_) => Span { start: at, end: at },
     }
 }
 
@@ -190,17 +162,7 @@ pub fn stored_text(page: &[u8], at: usize) -> Span
 pub fn same_text(a: &[u8], b: &[u8]) -> bool
     ensures { result ≡ equal a.now b.now }
 {
-    if a.len() != b.len() {
-        return false;
-    }
-    let mut i = 0;
-    while i < a.len() {
-        if a[i] != b[i] {
-            return false;
-        }
-        i = i + 1;
-    }
-    true
+    a == b
 }
 
 // A position of the page that stands for the same bytes: what is past the end is the end.

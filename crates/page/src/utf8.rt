@@ -62,50 +62,53 @@ fn holds_at(text: &[u8], at: usize, low: u8, high: u8) -> bool
     (low <= b) & (b <= high)
 }
 
-// The position after the bytes that are due at a position, one, two or three, or 0 where they do not stand there.
-fn end_of_one(text: &[u8], at: usize) -> usize
+// The position after the bytes that are due at a position, one, two or three, or none where they do not stand there.
+fn end_of_one(text: &[u8], at: usize) -> Option<usize>
     ensures { Ends (tail ∷ []) text.now at result }
 {
     if holds_at(text, at, 0x80, 0xbf) {
-        return at + 1;
+        Some(at + 1)
+    } else {
+        None
     }
-    0
 }
 
-fn end_of_two(text: &[u8], at: usize, low: u8, high: u8) -> usize
+fn end_of_two(text: &[u8], at: usize, low: u8, high: u8) -> Option<usize>
     ensures { Ends (from low high ∷ tail ∷ []) text.now at result }
 {
     if holds_at(text, at, low, high) {
-        return end_of_one(text, at + 1);
+        end_of_one(text, at + 1)
+    } else {
+        None
     }
-    0
 }
 
-fn end_of_three(text: &[u8], at: usize, low: u8, high: u8) -> usize
+fn end_of_three(text: &[u8], at: usize, low: u8, high: u8) -> Option<usize>
     ensures { Ends (from low high ∷ tail ∷ tail ∷ []) text.now at result }
 {
     if holds_at(text, at, low, high) {
-        return end_of_two(text, at + 1, 0x80, 0xbf);
+        end_of_two(text, at + 1, 0x80, 0xbf)
+    } else {
+        None
     }
-    0
 }
 
-// The position after the character at i, or 0 where none stands there.
-fn character_end(text: &[u8], i: usize) -> usize
+// The position after the character at i, or none where none stands there.
+fn character_end(text: &[u8], i: usize) -> Option<usize>
     requires { i < length text.now }
     ensures { Ends [] text.now i result }
 {
     match due_of(text[i]) {
-        Due::NoCharacter => 0,
-        Due::Zero => i + 1,
+        Due::NoCharacter => None,
+        Due::Zero => Some(i + 1),
         Due::One => end_of_one(text, i + 1),
         Due::Two(low, high) => end_of_two(text, i + 1, low, high),
         Due::Three(low, high) => end_of_three(text, i + 1, low, high),
     }
 }
 
-// The position after a word of bytes below 128 or after one character, or 0 where none stands at i.
-fn next_end(text: &[u8], i: usize) -> usize
+// The position after a word of bytes below 128 or after one character, or none where none stands at i.
+fn next_end(text: &[u8], i: usize) -> Option<usize>
     requires { i < length text.now }
     ensures { Ends [] text.now i result }
 {
@@ -114,10 +117,10 @@ fn next_end(text: &[u8], i: usize) -> usize
     }
     if 8 <= text.len() - i {
         if word_passes_at(text, i) {
-            return i + 8;
+            return Some(i + 8);
         }
     }
-    i + 1
+    Some(i + 1)
 }
 
 // Words and characters one after another, to the text's end.
@@ -126,10 +129,9 @@ pub fn is_utf8(text: &[u8]) -> bool
 {
     let mut i = 0;
     while i < text.len() {
-        let next = next_end(text, i);
-        if next == 0 {
+        let Some(next) = next_end(text, i) else {
             return false;
-        }
+        };
         i = next;
     }
     true

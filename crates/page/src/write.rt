@@ -16,11 +16,9 @@ pub fn put_bytes(text: &[u8], out: &mut [u8], at: usize) -> usize
     requires { at + length text.now ≤ length out.old }
     ensures { Wrote out.old out.new at text.now result }
 {
-    let mut i = 0;
     let mut pos = at;
-    while i < text.len() {
-        pos = put_byte(text[i], out, pos);
-        i = i + 1;
+    for b in text {
+        pos = put_byte(*b, out, pos);
     }
     pos
 }

@@ -76,9 +76,6 @@ pub record ItemsSoFar (p : List ℕ) (at : ℕ) (empty : Bool) (here : ℕ) : Ty
   pub low : at ≤ here
   pub high : here ≤ length p
 
-pub items-begin : (p : List ℕ) (at : ℕ) → at ≤ length p → ItemsSoFar p at true at
-items-begin p at h = record { further = λ e next s. s; no-further = λ f. f; low = omega arith; high = h }
-
 module _ {p : List ℕ} {at : ℕ} {empty : Bool} {here : ℕ} (so_far : ItemsSoFar p at empty here) where
   pub items_more : (one : Bool) (next : ℕ) → ItemFound p here one next → ItemsSoFar p at (empty && one) next
   items_more one next i =

@@ -1,14 +1,9 @@
 -- What the answers of the functions mean: a tree that is written from a position on, and whether empty text is in its
 -- language; or that there is no such tree.
-use Rattle.std.specs.Prelude.{ℕ, ◌+◌, ◌≤◌, ◌≡◌, Bool, List, ◌++◌, length, drop, T}
-use Rattle.std.proofs.Math.Option.{Option, none, some}
+use Rattle.std.specs.Prelude.{ℕ, ◌+◌, ◌≤◌, ◌≡◌, Bool, List, ◌++◌, length, drop, T, Option, Some, None}
 use Rattle.patterns.specs.Pattern.{write_repeat, write_choice, write_sequence, write_item}
 use Rattle.patterns.specs.Search.{empty_repeated, empty_choice, empty_sequence, empty_item}
 use Rattle.patterns.specs.Tree.{ends_sequence, ends_choice, repeat_of, takes_all}
-use Rattle.patterns.specs.declared.PatternPart.{PatternPart}
-use Rattle.patterns.specs.declared.PatternPart.TheVariants.{Got, Bad}
-use Rattle.patterns.specs.declared.EmptyText.{EmptyText}
-use Rattle.patterns.specs.declared.EmptyText.TheVariants as empty-text
 
 -- ## A part of a pattern
 
@@ -28,9 +23,9 @@ module _ {A : Type 0} (write : A → List ℕ) (ends_before : A → List ℕ →
       pub low : at + least ≤ next
       pub high : next ≤ length p
 
-    abbrev pub PartAt : List ℕ → ℕ → PatternPart → Type 0
-    PartAt p at (Got e next) = PartFound p at e next
-    PartAt p at Bad = NoPart (drop at p)
+    abbrev pub PartAt : List ℕ → ℕ → Option (Bool × ℕ) → Type 0
+    PartAt p at (Some part) = PartFound p at part.0 part.1
+    PartAt p at None = NoPart (drop at p)
 
 -- ## Choices, sequences and items
 
@@ -40,7 +35,7 @@ ChoiceFound = PartFound write_choice (λ c rest. ends_choice rest) empty_choice 
 abbrev pub NoChoice : List ℕ → Type 0
 NoChoice = NoPart write_choice (λ c rest. ends_choice rest)
 
-abbrev pub ChoiceAt : List ℕ → ℕ → PatternPart → Type 0
+abbrev pub ChoiceAt : List ℕ → ℕ → Option (Bool × ℕ) → Type 0
 ChoiceAt = PartAt write_choice (λ c rest. ends_choice rest) empty_choice 0
 
 abbrev pub SequenceFound : List ℕ → ℕ → Bool → ℕ → Type 0
@@ -49,7 +44,7 @@ SequenceFound = PartFound write_sequence (λ s rest. ends_sequence rest) empty_s
 abbrev pub NoSequence : List ℕ → Type 0
 NoSequence = NoPart write_sequence (λ s rest. ends_sequence rest)
 
-abbrev pub SequenceAt : List ℕ → ℕ → PatternPart → Type 0
+abbrev pub SequenceAt : List ℕ → ℕ → Option (Bool × ℕ) → Type 0
 SequenceAt = PartAt write_sequence (λ s rest. ends_sequence rest) empty_sequence 0
 
 -- an item has a byte at least
@@ -59,19 +54,12 @@ ItemFound = PartFound write_item (λ i rest. takes_all (repeat_of i) rest) empty
 abbrev pub NoItem : List ℕ → Type 0
 NoItem = NoPart write_item (λ i rest. takes_all (repeat_of i) rest)
 
-abbrev pub ItemAt : List ℕ → ℕ → PatternPart → Type 0
+abbrev pub ItemAt : List ℕ → ℕ → Option (Bool × ℕ) → Type 0
 ItemAt = PartAt write_item (λ i rest. takes_all (repeat_of i) rest) empty_item 1
 
 -- the repeat after an item, of whose language empty text is a part or not
 abbrev pub RepeatFound : List ℕ → ℕ → Bool → Bool → ℕ → Type 0
 RepeatFound p at b = PartFound write_repeat takes_all (λ r. empty_repeated r b) 0 p at
 
-abbrev pub RepeatAt : List ℕ → ℕ → Bool → PatternPart → Type 0
-RepeatAt p at b (Got e next) = RepeatFound p at b e next
-RepeatAt p at b Bad = ⊥
-
--- ## The whole pattern
-
-abbrev pub empty_text_of : EmptyText → Option Bool
-empty_text_of (empty-text.Covered b) = some b
-empty_text_of empty-text.Uncovered = none
+abbrev pub RepeatAt : List ℕ → ℕ → Bool → Bool × ℕ → Type 0
+RepeatAt p at b part = RepeatFound p at b part.0 part.1

@@ -4,16 +4,13 @@
 #![tactic(auto)]
 
 ghost use Rattle.std.specs.Prelude.{◌≤◌, ◌≡◌, length};
+ghost use Rattle.page.specs.Answers.{itself, option_of};
 ghost use Rattle.patterns.specs.Pattern.{is_single};
 ghost use Rattle.patterns.specs.Search.{matches_empty_text};
-ghost use Rattle.patterns.specs.Answers.{ChoiceAt, SequenceAt, ItemAt, RepeatAt, empty_text_of};
+ghost use Rattle.patterns.specs.Answers.{ChoiceAt, SequenceAt, ItemAt, RepeatAt};
 
 // What stands at a position of a pattern: whether empty text is in its language, and the position after it.
-#[derive(Clone, Copy)]
-pub enum PatternPart {
-    Got { empty: bool, next: usize },
-    Bad,
-}
+type PatternPart = Option<(bool, usize)>;
 
 // A letter, a digit, `_` or `-`.
 fn is_single(b: u8) -> bool
@@ -23,23 +20,17 @@ fn is_single(b: u8) -> bool
 }
 
 // What an item becomes with the `*`, `+` or `?` after it, if there is one.
-fn repeated(pattern: &[u8], at: usize, empty: bool) -> PatternPart
+fn repeated(pattern: &[u8], at: usize, empty: bool) -> (bool, usize)
     requires { at ≤ length pattern.now }
     ensures { RepeatAt pattern.now at empty result }
 {
     if pattern.len() <= at {
-        return PatternPart::Got { empty, next: at };
+        return (empty, at);
     }
     match pattern[at] {
-        b'*' | b'?' => PatternPart::Got {
-            empty: true,
-            next: at + 1,
-        },
-        b'+' => PatternPart::Got {
-            empty,
-            next: at + 1,
-        },
-        _ => PatternPart::Got { empty, next: at },
+        b'*' | b'?' => (true, at + 1),
+        b'+' => (empty, at + 1),
+        _ => (empty, at),
     }
 }
 
@@ -50,27 +41,23 @@ fn item(pattern: &[u8], at: usize) -> PatternPart
     ensures { ItemAt pattern.now at result }
 {
     if pattern.len() <= at {
-        return PatternPart::Bad;
+        return None;
     }
     let b = pattern[at];
     if b == b'(' {
-        return match choice(pattern, at + 1) {
-            PatternPart::Got { empty, next } => {
-                if pattern.len() <= next {
-                    return PatternPart::Bad;
-                }
-                repeated(pattern, next + 1, empty)
-            }
-            PatternPart::Bad => PatternPart::Bad,
-        };
+        let (empty, next) = choice(pattern, at + 1)?;
+        if pattern.len() <= next {
+            return None;
+        }
+        return Some(repeated(pattern, next + 1, empty));
     }
     if b == b'.' {
-        return repeated(pattern, at + 1, false);
+        return Some(repeated(pattern, at + 1, false));
     }
     if is_single(b) {
-        return repeated(pattern, at + 1, false);
+        return Some(repeated(pattern, at + 1, false));
     }
-    PatternPart::Bad
+    None
 }
 
 // Items one after the other, to the pattern's end, a `|` or a `)`.
@@ -84,19 +71,13 @@ fn sequence(pattern: &[u8], at: usize) -> PatternPart
     while here < pattern.len() {
         let b = pattern[here];
         if (b == b'|') | (b == b')') {
-            return PatternPart::Got { empty, next: here };
+            return Some((empty, here));
         }
-        match item(pattern, here) {
-            PatternPart::Got { empty: one, next } => {
-                empty = empty & one;
-                here = next;
-            }
-            PatternPart::Bad => {
-                return PatternPart::Bad;
-            }
-        }
+        let (one, next) = item(pattern, here)?;
+        empty = empty & one;
+        here = next;
     }
-    PatternPart::Got { empty, next: here }
+    Some((empty, here))
 }
 
 // Sequences with `|` between them, to the pattern's end or a `)`.
@@ -105,46 +86,24 @@ fn choice(pattern: &[u8], at: usize) -> PatternPart
     requires { at ≤ length pattern.now }
     ensures { ChoiceAt pattern.now at result }
 {
-    match sequence(pattern, at) {
-        PatternPart::Got { empty: first, next } => {
-            if pattern.len() <= next {
-                return PatternPart::Got { empty: first, next };
-            }
-            if pattern[next] == b')' {
-                return PatternPart::Got { empty: first, next };
-            }
-            match choice(pattern, next + 1) {
-                PatternPart::Got {
-                    empty: rest,
-                    next: end,
-                } => PatternPart::Got {
-                    empty: first | rest,
-                    next: end,
-                },
-                PatternPart::Bad => PatternPart::Bad,
-            }
-        }
-        PatternPart::Bad => PatternPart::Bad,
+    let (first, next) = sequence(pattern, at)?;
+    if pattern.len() <= next {
+        return Some((first, next));
     }
+    if pattern[next] == b')' {
+        return Some((first, next));
+    }
+    let (rest, end) = choice(pattern, next + 1)?;
+    Some((first | rest, end))
 }
 
-// Whether a covered pattern matches empty text.
-#[derive(Clone, Copy)]
-pub enum EmptyText {
-    Covered(bool),
-    Uncovered,
-}
-
-pub fn matches_empty_text(pattern: &[u8]) -> EmptyText
-    ensures { empty_text_of result ≡ matches_empty_text pattern.now }
+// Whether a covered pattern matches empty text; nothing of any other.
+pub fn matches_empty_text(pattern: &[u8]) -> Option<bool>
+    ensures { option_of itself result ≡ matches_empty_text pattern.now }
 {
-    match choice(pattern, 0) {
-        PatternPart::Got { empty, next } => {
-            if next == pattern.len() {
-                return EmptyText::Covered(empty);
-            }
-            EmptyText::Uncovered
-        }
-        PatternPart::Bad => EmptyText::Uncovered,
+    let (empty, next) = choice(pattern, 0)?;
+    if next == pattern.len() {
+        return Some(empty);
     }
+    None
 }

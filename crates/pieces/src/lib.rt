@@ -6,7 +6,7 @@ pub mod times;
 
 ghost use Rattle.std.specs.Prelude.{◌≡◌, ◌++◌, ◌+◌, ◌≤◌, min, length};
 ghost use Rattle.base.specs.Splice.{Wrote};
-ghost use Rattle.records.specs.Answers.{optional_duration_of};
+ghost use Rattle.page.specs.Answers.{itself, option_of};
 ghost use Rattle.reader.specs.Answers.{selector_on};
 ghost use Rattle.text.specs.Display.{display_selector, display_times};
 ghost use Rattle.text.specs.Layout.{display_range, head, operator, suffix};
@@ -24,7 +24,7 @@ use view::{Foot, Node};
 // A selector with its range, @ and offset.
 fn selector_len(page: &[u8], selector: reader::Selector, attached: Attached, cap: usize) -> usize
     requires { SelectorLies page.now selector }
-    ensures { result ≡ min (length (display_selector (selector_on page.now selector) ++ (display_range (optional_duration_of attached.range) ++ display_times (times_of attached.times)))) cap }
+    ensures { result ≡ min (length (display_selector (selector_on page.now selector) ++ (display_range (option_of itself attached.range) ++ display_times (times_of attached.times)))) cap }
 {
     let range = attached.range;
     let times = attached.times;
@@ -40,8 +40,8 @@ fn put_selector(
     at: usize,
 ) -> usize
     requires lies { SelectorLies page.now selector }
-    requires room { at + length (display_selector (selector_on page.now selector) ++ (display_range (optional_duration_of attached.range) ++ display_times (times_of attached.times))) ≤ length out.old }
-    ensures { Wrote out.old out.new at (display_selector (selector_on page.now selector) ++ (display_range (optional_duration_of attached.range) ++ display_times (times_of attached.times))) result }
+    requires room { at + length (display_selector (selector_on page.now selector) ++ (display_range (option_of itself attached.range) ++ display_times (times_of attached.times))) ≤ length out.old }
+    ensures { Wrote out.old out.new at (display_selector (selector_on page.now selector) ++ (display_range (option_of itself attached.range) ++ display_times (times_of attached.times))) result }
 {
     let range = attached.range;
     let times = attached.times;

@@ -9,7 +9,6 @@ use calls::split;
 use leaves::decimal::put_decimal;
 use page::{put_byte, put_bytes};
 use rules::refusal::refusal_number;
-use walk::Outcome;
 
 fn put_refused(number: u64, index: usize, out: &mut [u8], at: usize) -> usize
     requires { at + length (refused_line number index) ≤ length out.old }
@@ -28,8 +27,8 @@ fn put_line(page: &[u8], out: &mut [u8]) -> usize
     ensures { Wrote out.old out.new 0 (program_output page.now) result }
 {
     match split(page, &mut out[..page::OUTPUT_LIMIT]) {
-        Outcome::Accepted { written: n, .. } => put_byte(b'\n', out, n),
-        Outcome::Refused(refusal, index) => { put_refused(refusal_number(refusal), index, out, 0) }
+        Ok(accepted) => put_byte(b'\n', out, accepted.written),
+        Err(refused) => put_refused(refusal_number(refused.refusal), refused.index, out, 0),
     }
 }
 

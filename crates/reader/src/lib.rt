@@ -3,37 +3,34 @@
 
 ghost use Rattle.std.specs.Prelude.{ℕ, List, ◌≡◌, drop};
 ghost use Rattle.page.specs.Read.{reader_at};
-ghost use Rattle.page.specs.Answers.{number_at};
+ghost use Rattle.page.specs.Answers.{field_at, itself};
 ghost use Rattle.records.specs.Record.{operands, read_code, record_forms, read_record};
-ghost use Rattle.reader.specs.Answers.{record_on, record_at, record_lies};
+ghost use Rattle.reader.specs.Answers.{record_on, record_lies};
 
+use page::{Fault, Field, Span, TextClass, read_count, read_number, read_text};
 use records::{
-    AtField, AtModifier, Function, FunctionField, LabelModifier, LabelModifierField, Literal,
-    LiteralField, Matchers, Modifier, ModifierField, Offset, OffsetField, OptionalDuration,
-    OptionalDurationField, read_at_modifier, read_function, read_label_modifier, read_literal,
-    read_matchers, read_modifier, read_offset, read_optional_duration,
+    AtModifier, BinModifier, Function, LabelModifier, Literal, MatcherFacts, Offset,
+    read_at_modifier, read_function, read_label_modifier, read_literal, read_matchers,
+    read_modifier, read_offset, read_optional_duration, wrapped,
 };
 
-// A selector: its name, a part without bytes where there is none, its matchers, and what the check asks of them:
-// whether one is named `__name__`, whether all accept empty text, and whether one has a wrong flag.
+// A selector: its name, a part without bytes where there is none, its matchers, and what the check asks of all of them.
 #[derive(Clone, Copy)]
 pub struct Selector {
-    pub name: page::Span,
+    pub name: Span,
     pub matchers: page::List,
-    pub named: bool,
-    pub empty: bool,
-    pub wrong_flag: bool,
+    pub facts: MatcherFacts,
 }
 
 #[derive(Clone, Copy)]
 pub enum Record {
     Number(Literal),
-    String(page::Span),
+    String(Span),
     Selector(Selector),
     Range(u64),
     Subquery {
         range: u64,
-        step: OptionalDuration,
+        step: Option<u64>,
     },
     At(AtModifier),
     Offset(Offset),
@@ -41,11 +38,11 @@ pub enum Record {
     Paren,
     Binary {
         code: u64,
-        modifier: Modifier,
+        modifier: Option<BinModifier>,
     },
     Aggregate {
         code: u64,
-        grouping: LabelModifier,
+        grouping: Option<LabelModifier>,
         count: usize,
     },
     Call {
@@ -74,237 +71,101 @@ pub fn operand_count(item: Record) -> usize
     }
 }
 
-// A record and the position after it.
-#[derive(Clone, Copy)]
-pub enum RecordField {
-    Got { item: Record, next: usize },
-    Bad(page::Fault),
-}
-
 // The code of an operator or an aggregator, 1 to 30.
-pub fn read_code(page: &[u8], at: usize) -> page::Number
-    ensures { number_at page.now result ≡ read_code (drop at page.now) }
+pub fn read_code(page: &[u8], at: usize) -> Field<u64>
+    ensures { field_at itself page.now result ≡ read_code (drop at page.now) }
 {
-    match page::read_number(page, at) {
-        page::Number::Got { number: code, next } => {
-            if (1 <= code) & (code <= 30) {
-                page::Number::Got { number: code, next }
-            } else {
-                page::Number::Bad
-            }
-        }
-        page::Number::Bad => page::Number::Bad,
+    let (code, next) = read_number(page, at)?;
+    if (1 <= code) & (code <= 30) {
+        Ok((code, next))
+    } else {
+        Err(Fault::BadField)
     }
 }
 
-fn read_number_record(page: &[u8], at: usize) -> RecordField
-    ensures reads { record_at page.now result ≡ reader_at record_forms 0 (drop at page.now) }
+fn read_selector(page: &[u8], at: usize) -> Field<Record>
+    ensures reads { field_at (record_on page.now) page.now result ≡ reader_at record_forms 2 (drop at page.now) }
     ensures lies { record_lies page.now result }
 {
-    match read_literal(page, at) {
-        LiteralField::Got { literal: l, next } => RecordField::Got {
-            item: Record::Number(l),
-            next,
-        },
-        LiteralField::Bad => RecordField::Bad(page::Fault::BadField),
-    }
+    let (name, next) = read_text(page, at, TextClass::MetricName)?;
+    let (matchers, next) = read_matchers(page, next)?;
+    let selector = Selector {
+        name,
+        matchers: matchers.list,
+        facts: matchers.facts,
+    };
+    Ok((Record::Selector(selector), next))
 }
 
-fn read_string(page: &[u8], at: usize) -> RecordField
-    ensures reads { record_at page.now result ≡ reader_at record_forms 1 (drop at page.now) }
+fn read_subquery(page: &[u8], at: usize) -> Field<Record>
+    ensures reads { field_at (record_on page.now) page.now result ≡ reader_at record_forms 4 (drop at page.now) }
     ensures lies { record_lies page.now result }
 {
-    match page::read_text(page, at, page::TextClass::Any) {
-        page::Text::Got(text) => RecordField::Got {
-            item: Record::String(text),
-            next: text.end,
-        },
-        page::Text::Bad(f) => RecordField::Bad(f),
-    }
+    let (range, next) = read_number(page, at)?;
+    let (step, next) = read_optional_duration(page, next)?;
+    Ok((Record::Subquery { range, step }, next))
 }
 
-fn read_selector(page: &[u8], at: usize) -> RecordField
-    ensures reads { record_at page.now result ≡ reader_at record_forms 2 (drop at page.now) }
+fn read_binary(page: &[u8], at: usize) -> Field<Record>
+    ensures reads { field_at (record_on page.now) page.now result ≡ reader_at record_forms 9 (drop at page.now) }
     ensures lies { record_lies page.now result }
 {
-    match page::read_text(page, at, page::TextClass::MetricName) {
-        page::Text::Got(name) => match read_matchers(page, name.end) {
-            Matchers::Got {
-                list: matchers,
-                named,
-                empty,
-                wrong_flag,
-                next,
-            } => RecordField::Got {
-                item: Record::Selector(Selector {
-                    name: name,
-                    matchers: matchers,
-                    named: named,
-                    empty: empty,
-                    wrong_flag: wrong_flag,
-                }),
-                next,
-            },
-            Matchers::Bad(f) => RecordField::Bad(f),
-        },
-        page::Text::Bad(f) => RecordField::Bad(f),
-    }
+    let (code, next) = read_code(page, at)?;
+    let (modifier, next) = read_modifier(page, next)?;
+    Ok((Record::Binary { code, modifier }, next))
 }
 
-fn read_range(page: &[u8], at: usize) -> RecordField
-    ensures reads { record_at page.now result ≡ reader_at record_forms 3 (drop at page.now) }
+fn read_aggregate(page: &[u8], at: usize) -> Field<Record>
+    ensures reads { field_at (record_on page.now) page.now result ≡ reader_at record_forms 10 (drop at page.now) }
     ensures lies { record_lies page.now result }
 {
-    match page::read_number(page, at) {
-        page::Number::Got {
-            number: range,
-            next,
-        } => RecordField::Got {
-            item: Record::Range(range),
-            next,
-        },
-        page::Number::Bad => RecordField::Bad(page::Fault::BadField),
-    }
+    let (code, next) = read_code(page, at)?;
+    let (grouping, next) = read_label_modifier(page, next)?;
+    let (count, next) = read_count(page, next)?;
+    let record = Record::Aggregate {
+        code,
+        grouping,
+        count,
+    };
+    Ok((record, next))
 }
 
-fn read_subquery(page: &[u8], at: usize) -> RecordField
-    ensures reads { record_at page.now result ≡ reader_at record_forms 4 (drop at page.now) }
+fn read_call(page: &[u8], at: usize) -> Field<Record>
+    ensures reads { field_at (record_on page.now) page.now result ≡ reader_at record_forms 11 (drop at page.now) }
     ensures lies { record_lies page.now result }
 {
-    match page::read_number(page, at) {
-        page::Number::Got {
-            number: range,
-            next,
-        } => match read_optional_duration(page, next) {
-            OptionalDurationField::Got { step, next } => RecordField::Got {
-                item: Record::Subquery { range, step },
-                next,
-            },
-            OptionalDurationField::Bad => RecordField::Bad(page::Fault::BadField),
-        },
-        page::Number::Bad => RecordField::Bad(page::Fault::BadField),
-    }
-}
-
-fn read_at(page: &[u8], at: usize) -> RecordField
-    ensures reads { record_at page.now result ≡ reader_at record_forms 5 (drop at page.now) }
-    ensures lies { record_lies page.now result }
-{
-    match read_at_modifier(page, at) {
-        AtField::Got { modifier, next } => RecordField::Got {
-            item: Record::At(modifier),
-            next,
-        },
-        AtField::Bad(f) => RecordField::Bad(f),
-    }
-}
-
-fn read_offset_record(page: &[u8], at: usize) -> RecordField
-    ensures reads { record_at page.now result ≡ reader_at record_forms 6 (drop at page.now) }
-    ensures lies { record_lies page.now result }
-{
-    match read_offset(page, at) {
-        OffsetField::Got { offset, next } => RecordField::Got {
-            item: Record::Offset(offset),
-            next,
-        },
-        OffsetField::Bad => RecordField::Bad(page::Fault::BadField),
-    }
-}
-
-fn read_binary(page: &[u8], at: usize) -> RecordField
-    ensures reads { record_at page.now result ≡ reader_at record_forms 9 (drop at page.now) }
-    ensures lies { record_lies page.now result }
-{
-    match read_code(page, at) {
-        page::Number::Got { number: code, next } => match read_modifier(page, next) {
-            ModifierField::Got { modifier: m, next } => RecordField::Got {
-                item: Record::Binary { code, modifier: m },
-                next,
-            },
-            ModifierField::Bad(f) => RecordField::Bad(f),
-        },
-        page::Number::Bad => RecordField::Bad(page::Fault::BadField),
-    }
-}
-
-fn read_aggregate(page: &[u8], at: usize) -> RecordField
-    ensures reads { record_at page.now result ≡ reader_at record_forms 10 (drop at page.now) }
-    ensures lies { record_lies page.now result }
-{
-    match read_code(page, at) {
-        page::Number::Got { number: code, next } => match read_label_modifier(page, next) {
-            LabelModifierField::Got {
-                modifier: m,
-                next: after,
-            } => match page::read_count(page, after) {
-                page::Count::Got { count: n, next } => RecordField::Got {
-                    item: Record::Aggregate {
-                        code,
-                        grouping: m,
-                        count: n,
-                    },
-                    next,
-                },
-                page::Count::Bad(f) => RecordField::Bad(f),
-            },
-            LabelModifierField::Bad(f) => RecordField::Bad(f),
-        },
-        page::Number::Bad => RecordField::Bad(page::Fault::BadField),
-    }
-}
-
-fn read_call(page: &[u8], at: usize) -> RecordField
-    ensures reads { record_at page.now result ≡ reader_at record_forms 11 (drop at page.now) }
-    ensures lies { record_lies page.now result }
-{
-    match read_function(page, at) {
-        FunctionField::Got { function, next } => match page::read_count(page, next) {
-            page::Count::Got { count: n, next } => RecordField::Got {
-                item: Record::Call { function, count: n },
-                next,
-            },
-            page::Count::Bad(f) => RecordField::Bad(f),
-        },
-        FunctionField::Bad(f) => RecordField::Bad(f),
-    }
+    let (function, next) = read_function(page, at)?;
+    let (count, next) = read_count(page, next)?;
+    Ok((Record::Call { function, count }, next))
 }
 
 // The record of a kind, after the kind's number.
-fn read_fields(page: &[u8], at: usize, kind: u64) -> RecordField
-    ensures reads { record_at page.now result ≡ reader_at record_forms kind (drop at page.now) }
+fn read_fields(page: &[u8], at: usize, kind: u64) -> Field<Record>
+    ensures reads { field_at (record_on page.now) page.now result ≡ reader_at record_forms kind (drop at page.now) }
     ensures lies { record_lies page.now result }
 {
     match kind {
-        0 => read_number_record(page, at),
-        1 => read_string(page, at),
+        0 => wrapped(read_literal(page, at), Record::Number),
+        1 => wrapped(read_text(page, at, TextClass::Any), Record::String),
         2 => read_selector(page, at),
-        3 => read_range(page, at),
+        3 => wrapped(read_number(page, at), Record::Range),
         4 => read_subquery(page, at),
-        5 => read_at(page, at),
-        6 => read_offset_record(page, at),
-        7 => RecordField::Got {
-            item: Record::Unary,
-            next: at,
-        },
-        8 => RecordField::Got {
-            item: Record::Paren,
-            next: at,
-        },
+        5 => wrapped(read_at_modifier(page, at), Record::At),
+        6 => wrapped(read_offset(page, at), Record::Offset),
+        7 => Ok((Record::Unary, at)),
+        8 => Ok((Record::Paren, at)),
         9 => read_binary(page, at),
         10 => read_aggregate(page, at),
         11 => read_call(page, at),
-        _ => RecordField::Bad(page::Fault::BadField),
+        _ => Err(Fault::BadField),
     }
 }
 
-// The record at a position: for every page and every position.
-pub fn read_record(page: &[u8], at: usize) -> RecordField
-    ensures reads { record_at page.now result ≡ read_record (drop at page.now) }
+// The record at a position and the position after it: for every page and every position.
+pub fn read_record(page: &[u8], at: usize) -> Field<Record>
+    ensures reads { field_at (record_on page.now) page.now result ≡ read_record (drop at page.now) }
     ensures lies { record_lies page.now result }
 {
-    match page::read_number(page, at) {
-        page::Number::Got { number: kind, next } => read_fields(page, next, kind),
-        page::Number::Bad => RecordField::Bad(page::Fault::BadField),
-    }
+    let (kind, next) = read_number(page, at)?;
+    read_fields(page, next, kind)
 }

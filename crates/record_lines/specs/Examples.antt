@@ -1,6 +1,6 @@
 -- A record of each of the twelve kinds and its line, as the oracle prints it of the same page (`oracle show`), proved
 -- together by one computed test; and lines that the contract rules out.
-use Rattle.std.specs.Prelude.{ℕ, Bool, true, false, ◌&&◌, List, [], ◌∷◌, T, length, replicate}
+use Rattle.std.specs.Prelude.{ℕ, Bool, true, false, ◌&&◌, List, [], ◌∷◌, T, length, replicate, Some, None}
 use Prim.Native.String.{String}
 use Rattle.std.proofs.Common.{subst}
 use Rattle.base.specs.Splice.{splice, join}
@@ -12,11 +12,8 @@ use Rattle.page.specs.declared.text.Span.{Span}
 use Rattle.leaves.specs.Decimal.{digits, decimal}
 use Rattle.records.specs.declared.kind.Kind.TheVariants.{Scalar}
 use Rattle.records.specs.declared.literal.Literal.TheVariants.{Whole, Negative, Fraction, NegativeFraction}
-use Rattle.records.specs.declared.literal.Fill.TheVariants as fill
 use Rattle.records.specs.declared.modifier.LabelModifier.TheVariants.{Include, Exclude}
 use Rattle.records.specs.declared.modifier.Cardinality.TheVariants.{OneToMany}
-use Rattle.records.specs.declared.modifier.Modifier.TheVariants as modifier
-use Rattle.records.specs.declared.time.OptionalDuration.TheVariants as step
 use Rattle.records.specs.declared.time.AtModifier.TheVariants.{Before}
 use Rattle.records.specs.declared.time.Offset.TheVariants.{Neg}
 use Rattle.records.specs.declared.signature.Variadic.TheVariants.{UpTo}
@@ -47,17 +44,17 @@ abbrev two_matchers : List ℕ
 two_matchers = hex "0200020101610162030161016201"
 
 abbrev selector : Record
-selector = code.Selector (record { name = span 2 2; matchers = list 3 2; named = false; empty = false; wrong_flag = false })
+selector = code.Selector (record { name = span 2 2; matchers = list 3 2; facts = record { named = false; empty = false; wrong_flag = false } })
 
 -- on (a), group_right (), a left fill of 5
 abbrev modified : Record
 modified =
-    code.Binary 1 (modifier.Some (record {
+    code.Binary 1 (Some (record {
       returns_bool = true;
-      matching = Include (list 6 1);
+      matching = Some (Include (list 6 1));
       card = OneToMany (list 10 0);
-      lhs = fill.Some (Whole 5);
-      rhs = fill.None;
+      lhs = Some (Whole 5);
+      rhs = None;
     }))
 
 -- vector and scalar, at most 3 more, a scalar
@@ -73,13 +70,13 @@ examples =
     ∷ example (hex "010161") (code.String (span 2 3)) 3 "3 1 2 1\n"
     ∷ example two_matchers selector 14 "14 2 2 0 2 1 5 1 7 1 3 10 1 12 1 1\n"
     ∷ example (hex "0305") (code.Range 5) 2 "2 3 5\n"
-    ∷ example (hex "04050107") (code.Subquery 5 (step.Some 7)) 4 "4 4 5 1 7\n"
+    ∷ example (hex "04050107") (code.Subquery 5 (Some 7)) 4 "4 4 5 1 7\n"
     ∷ example (hex "050307") (code.At (Before 7)) 3 "3 5 3 7\n"
     ∷ example (hex "060109") (code.Offset (Neg 9)) 3 "3 6 1 9\n"
     ∷ example (hex "07") code.Unary 1 "1 7\n"
     ∷ example (hex "08") code.Paren 1 "1 8\n"
     ∷ example (hex "0901010101010161020001000500") modified 14 "14 9 1 1 1 1 1 7 1 2 0 1 0 5 0\n"
-    ∷ example (hex "0a1b02020161016201") (code.Aggregate 27 (Exclude (list 4 2)) 1) 9 "9 10 27 2 2 5 1 7 1 1\n"
+    ∷ example (hex "0a1b02020161016201") (code.Aggregate 27 (Some (Exclude (list 4 2))) 1) 9 "9 10 27 2 2 5 1 7 1 1\n"
     ∷ example (hex "0b026c6e02000102030102") call 11 "11 11 2 2 2 0 1 2 3 1 2\n"
     ∷ []
 

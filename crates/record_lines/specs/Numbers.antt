@@ -1,7 +1,7 @@
 -- What stands in a record as numbers, in the order of the page (oracle/src/show.rs; in words at the head of the program
 -- show_records): a text is its start and its size, a list its count and its elements, a flag 0 or 1, a choice the
 -- number of its form and the fields of that form.
-use Rattle.std.specs.Prelude.{ℕ, ◌-◌, Bool, true, false, List, [], ◌∷◌, ◌++◌, leb, ltb, length, drop}
+use Rattle.std.specs.Prelude.{ℕ, ◌-◌, Bool, true, false, List, [], ◌∷◌, ◌++◌, leb, ltb, length, drop, Option, Some, None}
 use Rattle.base.specs.Splice.{join}
 use Rattle.page.specs.Bytes.{pick}
 use Rattle.page.specs.Read.{Reader, got, ◌>>=◌, return, ensure, bad_field}
@@ -14,17 +14,11 @@ use Rattle.records.specs.Field.{read_flag, read_kind}
 use Rattle.records.specs.Answers.{kind_of}
 use Rattle.records.specs.declared.literal.Literal.{Literal}
 use Rattle.records.specs.declared.literal.Literal.TheVariants.{Whole, Negative, Nan, Inf, NegInf, Fraction, NegativeFraction}
-use Rattle.records.specs.declared.literal.Fill.{Fill}
-use Rattle.records.specs.declared.literal.Fill.TheVariants as fill
 use Rattle.records.specs.declared.modifier.LabelModifier.{LabelModifier}
-use Rattle.records.specs.declared.modifier.LabelModifier.TheVariants as label-modifier
+use Rattle.records.specs.declared.modifier.LabelModifier.TheVariants.{Include, Exclude}
 use Rattle.records.specs.declared.modifier.Cardinality.{Cardinality}
 use Rattle.records.specs.declared.modifier.Cardinality.TheVariants.{OneToOne, ManyToOne, OneToMany, ManyToMany}
 use Rattle.records.specs.declared.modifier.BinModifier.{BinModifier}
-use Rattle.records.specs.declared.modifier.Modifier.{Modifier}
-use Rattle.records.specs.declared.modifier.Modifier.TheVariants as modifier
-use Rattle.records.specs.declared.time.OptionalDuration.{OptionalDuration}
-use Rattle.records.specs.declared.time.OptionalDuration.TheVariants as step
 use Rattle.records.specs.declared.time.AtModifier.{AtModifier}
 use Rattle.records.specs.declared.time.AtModifier.TheVariants.{Start, End, After, Before}
 use Rattle.records.specs.declared.time.Offset.{Offset}
@@ -54,9 +48,15 @@ literal_numbers NegInf = 4 ∷ []
 literal_numbers (Fraction p d) = 5 ∷ d ∷ p ∷ []
 literal_numbers (NegativeFraction p d) = 6 ∷ d ∷ p ∷ []
 
-abbrev pub fill_numbers : Fill → List ℕ
-fill_numbers fill.None = 0 ∷ []
-fill_numbers (fill.Some l) = 1 ∷ literal_numbers l
+-- 0, or 1 and what there is
+module _ {C : Type 0} where
+  abbrev pub option_numbers : (C → List ℕ) → Option C → List ℕ
+  option_numbers numbers None = 0 ∷ []
+  option_numbers numbers (Some x) = 1 ∷ numbers x
+
+-- a number that stands for itself
+abbrev pub itself_number : ℕ → List ℕ
+itself_number n = n ∷ []
 
 -- ## Lists, read again from their first element on
 
@@ -94,10 +94,10 @@ label_numbers page = list_numbers (read_label_numbers page) page
 
 -- ## Modifiers
 
-abbrev pub label_modifier_numbers : List ℕ → LabelModifier → List ℕ
-label_modifier_numbers page label-modifier.None = 0 ∷ []
-label_modifier_numbers page (label-modifier.Include list) = 1 ∷ label_numbers page list.start list.count
-label_modifier_numbers page (label-modifier.Exclude list) = 2 ∷ label_numbers page list.start list.count
+abbrev pub label_modifier_numbers : List ℕ → Option LabelModifier → List ℕ
+label_modifier_numbers page None = 0 ∷ []
+label_modifier_numbers page (Some (Include list)) = 1 ∷ label_numbers page list.start list.count
+label_modifier_numbers page (Some (Exclude list)) = 2 ∷ label_numbers page list.start list.count
 
 abbrev pub cardinality_numbers : List ℕ → Cardinality → List ℕ
 cardinality_numbers page OneToOne = 0 ∷ []
@@ -110,18 +110,10 @@ bin_modifier_numbers page m =
     flag_number m.returns_bool
     ∷ label_modifier_numbers page m.matching
     ++ cardinality_numbers page m.card
-    ++ fill_numbers m.lhs
-    ++ fill_numbers m.rhs
-
-abbrev pub modifier_numbers : List ℕ → Modifier → List ℕ
-modifier_numbers page modifier.None = 0 ∷ []
-modifier_numbers page (modifier.Some m) = 1 ∷ bin_modifier_numbers page m
+    ++ option_numbers literal_numbers m.lhs
+    ++ option_numbers literal_numbers m.rhs
 
 -- ## Times and signatures
-
-abbrev pub step_numbers : OptionalDuration → List ℕ
-step_numbers step.None = 0 ∷ []
-step_numbers (step.Some n) = 1 ∷ n ∷ []
 
 abbrev pub at_numbers : AtModifier → List ℕ
 at_numbers Start = 0 ∷ []
@@ -155,12 +147,12 @@ field_numbers page (code.Number l) = literal_numbers l
 field_numbers page (code.String s) = span_numbers s
 field_numbers page (code.Selector s) = selector_numbers page s
 field_numbers page (code.Range n) = n ∷ []
-field_numbers page (code.Subquery n s) = n ∷ step_numbers s
+field_numbers page (code.Subquery n s) = n ∷ option_numbers itself_number s
 field_numbers page (code.At a) = at_numbers a
 field_numbers page (code.Offset o) = offset_numbers o
 field_numbers page code.Unary = []
 field_numbers page code.Paren = []
-field_numbers page (code.Binary c m) = c ∷ modifier_numbers page m
+field_numbers page (code.Binary c m) = c ∷ option_numbers (bin_modifier_numbers page) m
 field_numbers page (code.Aggregate c m n) = c ∷ label_modifier_numbers page m ++ (n ∷ [])
 field_numbers page (code.Call f n) = function_numbers page f ++ (n ∷ [])
 

@@ -1,12 +1,12 @@
 // The elements of lists as numbers, read again where they stand: labels, matchers, kinds.
-ghost use Rattle.std.specs.Prelude.{◌≡◌, ◌∷◌, ◌++◌, drop};
-ghost use Rattle.page.specs.Read.{and_then, return};
-ghost use Rattle.record_lines.specs.Numbers.{span_numbers, read_label_numbers, read_kind_numbers, read_pattern_flag_numbers, read_matcher_texts, read_matcher_numbers};
-ghost use Rattle.record_lines.specs.Answers.{element_at, read_element};
+ghost use Rattle.std.specs.Prelude.{◌≡◌, drop};
+ghost use Rattle.page.specs.Answers.{field_at};
+ghost use Rattle.record_lines.specs.Numbers.{read_label_numbers, read_kind_numbers, read_pattern_flag_numbers};
+ghost use Rattle.record_lines.specs.Numbers.{read_matcher_texts, read_matcher_numbers};
+ghost use Rattle.record_lines.specs.Answers.{mark_numbers, element_numbers, read_element};
 
-use crate::number::{Numbers, flag_number};
-use page::{Fault, Span, Text, TextClass, read_text};
-use records::kind_number;
+use page::{Fault, Field, Span, TextClass, read_number, read_text};
+use records::{kind_number, read_flag};
 
 // A label where it stands; the number of a matcher's operator, where its name and its value stand, and the flag of a
 // pattern; the number of a kind.
@@ -17,99 +17,60 @@ pub enum Element {
         op: u64,
         name: Span,
         value: Span,
-        mark: Numbers,
+        mark: Option<bool>,
     },
     Kind(u64),
 }
 
-// An element and the position after it.
-#[derive(Clone, Copy)]
-pub enum ElementField {
-    Got { element: Element, next: usize },
-    Bad(Fault),
-}
-
-fn read_label(page: &[u8], at: usize) -> ElementField
-    ensures { element_at page.now result ≡ read_label_numbers page.now (drop at page.now) }
+fn read_label(page: &[u8], at: usize) -> Field<Element>
+    ensures { field_at element_numbers page.now result ≡ read_label_numbers page.now (drop at page.now) }
 {
-    match read_text(page, at, TextClass::Any) {
-        Text::Got(label) => ElementField::Got {
-            element: Element::Label(label),
-            next: label.end,
-        },
-        Text::Bad(f) => ElementField::Bad(f),
-    }
+    let (label, next) = read_text(page, at, TextClass::Any)?;
+    Ok((Element::Label(label), next))
 }
 
-fn read_kind(page: &[u8], at: usize) -> ElementField
-    ensures { element_at page.now result ≡ read_kind_numbers (drop at page.now) }
+fn read_kind(page: &[u8], at: usize) -> Field<Element>
+    ensures { field_at element_numbers page.now result ≡ read_kind_numbers (drop at page.now) }
 {
-    match records::read_kind(page, at) {
-        records::KindField::Got { kind: k, next } => ElementField::Got {
-            element: Element::Kind(kind_number(k)),
-            next,
-        },
-        records::KindField::Bad => ElementField::Bad(Fault::BadField),
-    }
+    let (kind, next) = records::read_kind(page, at)?;
+    Ok((Element::Kind(kind_number(kind)), next))
 }
 
-// The rest of a matcher, after its value: a pattern has a flag.
-fn read_pattern_flag(page: &[u8], op: u64, name: Span, value: Span) -> ElementField
-    ensures { element_at page.now result ≡ and_then (read_pattern_flag_numbers op (drop value.end page.now)) (λ mark. return (op ∷ span_numbers name ++ span_numbers value ++ mark)) }
+// The flag of a pattern, after its value.
+fn read_mark(page: &[u8], at: usize, op: u64) -> Field<Option<bool>>
+    ensures { field_at mark_numbers page.now result ≡ read_pattern_flag_numbers op (drop at page.now) }
 {
     if op < 2 {
-        let plain = Element::Matcher {
-            op,
-            name,
-            value,
-            mark: Numbers::None,
-        };
-        return ElementField::Got {
-            element: plain,
-            next: value.end,
-        };
+        return Ok((None, at));
     }
-    match records::read_flag(page, value.end) {
-        records::Flag::Got { flag: mark, next } => {
-            let flag = Numbers::One(flag_number(mark));
-            ElementField::Got {
-                element: Element::Matcher {
-                    op,
-                    name,
-                    value,
-                    mark: flag,
-                },
-                next,
-            }
-        }
-        records::Flag::Bad => ElementField::Bad(Fault::BadField),
-    }
+    let (flag, next) = read_flag(page, at)?;
+    Ok((Some(flag), next))
 }
 
 // The rest of a matcher, after its operator.
-fn read_texts(page: &[u8], at: usize, op: u64) -> ElementField
-    ensures { element_at page.now result ≡ read_matcher_texts page.now op (drop at page.now) }
+fn read_texts(page: &[u8], at: usize, op: u64) -> Field<Element>
+    ensures { field_at element_numbers page.now result ≡ read_matcher_texts page.now op (drop at page.now) }
 {
-    match read_text(page, at, TextClass::Any) {
-        Text::Got(name) => match read_text(page, name.end, TextClass::Any) {
-            Text::Got(value) => read_pattern_flag(page, op, name, value),
-            Text::Bad(f) => ElementField::Bad(f),
-        },
-        Text::Bad(f) => ElementField::Bad(f),
-    }
+    let (name, next) = read_text(page, at, TextClass::Any)?;
+    let (value, next) = read_text(page, next, TextClass::Any)?;
+    let (mark, next) = read_mark(page, next, op)?;
+    let matcher = Element::Matcher {
+        op,
+        name,
+        value,
+        mark,
+    };
+    Ok((matcher, next))
 }
 
-fn read_matcher(page: &[u8], at: usize) -> ElementField
-    ensures { element_at page.now result ≡ read_matcher_numbers page.now (drop at page.now) }
+fn read_matcher(page: &[u8], at: usize) -> Field<Element>
+    ensures { field_at element_numbers page.now result ≡ read_matcher_numbers page.now (drop at page.now) }
 {
-    match page::read_number(page, at) {
-        page::Number::Got { number: op, next } => {
-            if op <= 3 {
-                return read_texts(page, next, op);
-            }
-            ElementField::Bad(Fault::BadField)
-        }
-        page::Number::Bad => ElementField::Bad(Fault::BadField),
+    let (op, next) = read_number(page, at)?;
+    if op <= 3 {
+        read_texts(page, next, op)
+    } else {
+        Err(Fault::BadField)
     }
 }
 
@@ -121,8 +82,8 @@ pub enum Elements {
     Kinds,
 }
 
-pub fn read_element(page: &[u8], at: usize, elements: Elements) -> ElementField
-    ensures { element_at page.now result ≡ read_element elements page.now (drop at page.now) }
+pub fn read_element(page: &[u8], at: usize, elements: Elements) -> Field<Element>
+    ensures { field_at element_numbers page.now result ≡ read_element elements page.now (drop at page.now) }
 {
     match elements {
         Elements::Labels => read_label(page, at),

@@ -16,33 +16,35 @@ ghost use Rattle.record_lines.specs.Line.{Puts};
 ghost use Rattle.record_lines.specs.Lines.{record_line, fault_line, end_line};
 
 use line::{put_number, put_spaced, put_text};
+use page::Fault;
+use reader::Record;
 use record::put_record;
 
-fn fault_number(f: page::Fault) -> u64
-    ensures { result ≡ fault_number (fault_of f) }
+fn fault_number(fault: Fault) -> u64
+    ensures { result ≡ fault_number (fault_of fault) }
 {
-    match f {
-        page::Fault::BadField => 1,
-        page::Fault::PastLimit => 3,
-        page::Fault::BadText => 4,
+    match fault {
+        Fault::BadField => 1,
+        Fault::PastLimit => 3,
+        Fault::BadText => 4,
     }
 }
 
 // The line of a record, with the position after it.
-pub fn record_line(page: &[u8], r: reader::Record, next: usize, line: &mut [u8]) -> usize
-    ensures { Puts line.old 0 (record_line page.now r next) line.new result }
+pub fn record_line(page: &[u8], item: Record, next: usize, line: &mut [u8]) -> usize
+    ensures { Puts line.old 0 (record_line page.now item next) line.new result }
 {
     let first = put_number(next as u64, line, 0);
-    let last = put_record(page, r, line, first);
+    let last = put_record(page, item, line, first);
     put_text(b"\n", line, last)
 }
 
 // The line of a record that is refused.
-pub fn fault_line(f: page::Fault, index: u64, line: &mut [u8]) -> usize
-    ensures { Puts line.old 0 (fault_line (fault_of f) index) line.new result }
+pub fn fault_line(fault: Fault, index: u64, line: &mut [u8]) -> usize
+    ensures { Puts line.old 0 (fault_line (fault_of fault) index) line.new result }
 {
     let number = put_text(b"fault", line, 0);
-    let word = put_spaced(fault_number(f), line, number);
+    let word = put_spaced(fault_number(fault), line, number);
     let place = put_text(b" at", line, word);
     let last = put_spaced(index, line, place);
     put_text(b"\n", line, last)

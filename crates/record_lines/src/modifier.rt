@@ -1,95 +1,80 @@
 // Modifiers as numbers.
-ghost use Rattle.std.specs.Prelude.{◌≡◌, List, ℕ};
+ghost use Rattle.std.specs.Prelude.{◌∷◌};
 ghost use Rattle.record_lines.specs.Line.{Shows};
-ghost use Rattle.record_lines.specs.Numbers.{fill_numbers, label_modifier_numbers, cardinality_numbers, bin_modifier_numbers, modifier_numbers};
-ghost use Rattle.record_lines.specs.Answers.{form_numbers};
+ghost use Rattle.record_lines.specs.Numbers.{option_numbers, literal_numbers, label_numbers, label_modifier_numbers};
+ghost use Rattle.record_lines.specs.Numbers.{cardinality_numbers, bin_modifier_numbers};
 
 use crate::element::Elements;
 use crate::line::put_spaced;
 use crate::list::put_list;
-use crate::number::{flag_number, put_literal};
-use records::{BinModifier, Cardinality, Fill, LabelModifier, Modifier};
+use crate::number::{put_flag, put_literal};
+use page::List;
+use records::{BinModifier, Cardinality, LabelModifier, Literal};
 
-fn put_fill(fill: Fill, line: &mut [u8], at: usize) -> usize
-    ensures { Shows line.old at (fill_numbers fill) line.new result }
+fn put_fill(fill: Option<Literal>, line: &mut [u8], at: usize) -> usize
+    ensures { Shows line.old at (option_numbers literal_numbers fill) line.new result }
 {
     match fill {
-        Fill::None => put_spaced(0, line, at),
-        Fill::Some(literal) => {
+        None => put_spaced(0, line, at),
+        Some(literal) => {
             let next = put_spaced(1, line, at);
             put_literal(literal, line, next)
         }
     }
 }
 
-// A form alone, or with a list of labels.
-#[derive(Clone, Copy)]
-pub enum Form {
-    Plain(u64),
-    Labelled { number: u64, list: page::List },
+// A form with a list of labels.
+fn put_labelled(page: &[u8], form: u64, labels: List, line: &mut [u8], at: usize) -> usize
+    ensures { Shows line.old at (form ∷ label_numbers page.now labels.start labels.count) line.new result }
+{
+    let next = put_spaced(form, line, at);
+    put_list(Elements::Labels, page, labels, line, next)
 }
 
-fn put_form(page: &[u8], form: Form, line: &mut [u8], at: usize) -> usize
-    ensures { Shows line.old at (form_numbers page.now form) line.new result }
+pub fn put_label_modifier(
+    page: &[u8],
+    modifier: Option<LabelModifier>,
+    line: &mut [u8],
+    at: usize,
+) -> usize
+    ensures { Shows line.old at (label_modifier_numbers page.now modifier) line.new result }
 {
-    match form {
-        Form::Plain(n) => put_spaced(n, line, at),
-        Form::Labelled { number: n, list } => {
-            let next = put_spaced(n, line, at);
-            put_list(Elements::Labels, page, list.start, list.count, line, next)
-        }
+    match modifier {
+        None => put_spaced(0, line, at),
+        Some(LabelModifier::Include(labels)) => put_labelled(page, 1, labels, line, at),
+        Some(LabelModifier::Exclude(labels)) => put_labelled(page, 2, labels, line, at),
     }
 }
 
-fn label_modifier_form(m: LabelModifier) -> Form
-    ensures { (page : List ℕ) → form_numbers page result ≡ label_modifier_numbers page m }
+fn put_cardinality(page: &[u8], card: Cardinality, line: &mut [u8], at: usize) -> usize
+    ensures { Shows line.old at (cardinality_numbers page.now card) line.new result }
 {
-    match m {
-        LabelModifier::None => Form::Plain(0),
-        LabelModifier::Include(list) => Form::Labelled { number: 1, list },
-        LabelModifier::Exclude(list) => Form::Labelled { number: 2, list },
+    match card {
+        Cardinality::OneToOne => put_spaced(0, line, at),
+        Cardinality::ManyToOne(labels) => put_labelled(page, 1, labels, line, at),
+        Cardinality::OneToMany(labels) => put_labelled(page, 2, labels, line, at),
+        Cardinality::ManyToMany => put_spaced(3, line, at),
     }
 }
 
-fn cardinality_form(c: Cardinality) -> Form
-    ensures { (page : List ℕ) → form_numbers page result ≡ cardinality_numbers page c }
+fn put_bin_modifier(page: &[u8], modifier: BinModifier, line: &mut [u8], at: usize) -> usize
+    ensures { Shows line.old at (bin_modifier_numbers page.now modifier) line.new result }
 {
-    match c {
-        Cardinality::OneToOne => Form::Plain(0),
-        Cardinality::ManyToOne(list) => Form::Labelled { number: 1, list },
-        Cardinality::OneToMany(list) => Form::Labelled { number: 2, list },
-        Cardinality::ManyToMany => Form::Plain(3),
-    }
+    let after_flag = put_flag(modifier.returns_bool, line, at);
+    let after_matching = put_label_modifier(page, modifier.matching, line, after_flag);
+    let after_card = put_cardinality(page, modifier.card, line, after_matching);
+    let after_lhs = put_fill(modifier.lhs, line, after_card);
+    put_fill(modifier.rhs, line, after_lhs)
 }
 
-pub fn put_label_modifier(page: &[u8], m: LabelModifier, line: &mut [u8], at: usize) -> usize
-    ensures { Shows line.old at (label_modifier_numbers page.now m) line.new result }
+pub fn put_modifier(page: &[u8], modifier: Option<BinModifier>, line: &mut [u8], at: usize) -> usize
+    ensures { Shows line.old at (option_numbers (bin_modifier_numbers page.now) modifier) line.new result }
 {
-    put_form(page, label_modifier_form(m), line, at)
-}
-
-fn put_bin_modifier(page: &[u8], m: BinModifier, line: &mut [u8], at: usize) -> usize
-    ensures { Shows line.old at (bin_modifier_numbers page.now m) line.new result }
-{
-    let matching = m.matching;
-    let card = m.card;
-    let lhs = m.lhs;
-    let rhs = m.rhs;
-    let after_flag = put_spaced(flag_number(m.returns_bool), line, at);
-    let after_matching = put_label_modifier(page, matching, line, after_flag);
-    let after_card = put_form(page, cardinality_form(card), line, after_matching);
-    let after_lhs = put_fill(lhs, line, after_card);
-    put_fill(rhs, line, after_lhs)
-}
-
-pub fn put_modifier(page: &[u8], m: Modifier, line: &mut [u8], at: usize) -> usize
-    ensures { Shows line.old at (modifier_numbers page.now m) line.new result }
-{
-    match m {
-        Modifier::None => put_spaced(0, line, at),
-        Modifier::Some(b) => {
+    match modifier {
+        None => put_spaced(0, line, at),
+        Some(modifier) => {
             let next = put_spaced(1, line, at);
-            put_bin_modifier(page, b, line, next)
+            put_bin_modifier(page, modifier, line, next)
         }
     }
 }

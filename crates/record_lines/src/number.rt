@@ -1,119 +1,88 @@
 // Parts of a record that are one to three numbers.
-ghost use Rattle.std.specs.Prelude.{◌≡◌, ◌-◌};
+ghost use Rattle.std.specs.Prelude.{[], ◌∷◌};
 ghost use Rattle.record_lines.specs.Line.{Shows};
-ghost use Rattle.record_lines.specs.Numbers.{span_numbers, flag_number, literal_numbers, step_numbers, at_numbers, offset_numbers, variadic_numbers};
-ghost use Rattle.record_lines.specs.Answers.{numbers_of};
+ghost use Rattle.record_lines.specs.Numbers.{option_numbers, itself_number, flag_number, span_numbers, literal_numbers};
+ghost use Rattle.record_lines.specs.Numbers.{at_numbers, offset_numbers, variadic_numbers};
 
 use crate::line::put_spaced;
-use records::{AtModifier, Literal, Offset, OptionalDuration, Variadic};
+use page::Span;
+use records::{AtModifier, Literal, Offset, Variadic};
 
-#[derive(Clone, Copy)]
-pub enum Numbers {
-    None,
-    One(u64),
-    Two(u64, u64),
-    Three(u64, u64, u64),
+pub fn put_numbers(numbers: &[u64], line: &mut [u8], at: usize) -> usize
+    ensures { Shows line.old at numbers.now line.new result }
+{
+    let mut end = at;
+    for number in numbers {
+        end = put_spaced(*number, line, end);
+    }
+    end
 }
 
-pub fn put_numbers(numbers: Numbers, line: &mut [u8], at: usize) -> usize
-    ensures { Shows line.old at (numbers_of numbers) line.new result }
+pub fn put_flag(flag: bool, line: &mut [u8], at: usize) -> usize
+    ensures { Shows line.old at (flag_number flag ∷ []) line.new result }
 {
-    match numbers {
-        Numbers::None => at,
-        Numbers::One(n) => put_spaced(n, line, at),
-        Numbers::Two(m, n) => {
-            let next = put_spaced(m, line, at);
-            put_spaced(n, line, next)
-        }
-        Numbers::Three(l, m, n) => {
-            let second = put_spaced(l, line, at);
-            let third = put_spaced(m, line, second);
-            put_spaced(n, line, third)
-        }
-    }
-}
-
-fn size_of(span: page::Span) -> u64
-    ensures { result ≡ span.end - span.start }
-{
-    if span.end < span.start {
-        return 0;
-    }
-    (span.end - span.start) as u64
+    put_spaced(u64::from(flag), line, at)
 }
 
 // Where a text starts, and its size.
-pub fn put_span(span: page::Span, line: &mut [u8], at: usize) -> usize
+pub fn put_span(span: Span, line: &mut [u8], at: usize) -> usize
     ensures { Shows line.old at (span_numbers span) line.new result }
 {
-    let next = put_spaced(span.start as u64, line, at);
-    put_spaced(size_of(span), line, next)
-}
-
-pub fn flag_number(flag: bool) -> u64
-    ensures { result ≡ flag_number flag }
-{
-    if flag {
-        return 1;
-    }
-    0
-}
-
-fn literal_numbers(literal: Literal) -> Numbers
-    ensures { numbers_of result ≡ literal_numbers literal }
-{
-    match literal {
-        Literal::Whole(n) => Numbers::Two(0, n),
-        Literal::Negative(n) => Numbers::Two(1, n),
-        Literal::Nan => Numbers::One(2),
-        Literal::Inf => Numbers::One(3),
-        Literal::NegInf => Numbers::One(4),
-        Literal::Fraction { places, digits } => Numbers::Three(5, digits, places as u64),
-        Literal::NegativeFraction { places, digits } => Numbers::Three(6, digits, places as u64),
-    }
+    let size = span.end.saturating_sub(span.start);
+    put_numbers(&[span.start as u64, size as u64], line, at)
 }
 
 pub fn put_literal(literal: Literal, line: &mut [u8], at: usize) -> usize
     ensures { Shows line.old at (literal_numbers literal) line.new result }
 {
-    put_numbers(literal_numbers(literal), line, at)
+    match literal {
+        Literal::Whole(n) => put_numbers(&[0, n], line, at),
+        Literal::Negative(n) => put_numbers(&[1, n], line, at),
+        Literal::Nan => put_spaced(2, line, at),
+        Literal::Inf => put_spaced(3, line, at),
+        Literal::NegInf => put_spaced(4, line, at),
+        Literal::Fraction { places, digits } => put_numbers(&[5, digits, places as u64], line, at),
+        Literal::NegativeFraction { places, digits } => {
+            put_numbers(&[6, digits, places as u64], line, at)
+        }
+    }
 }
 
-pub fn step_numbers(step: OptionalDuration) -> Numbers
-    ensures { numbers_of result ≡ step_numbers step }
+pub fn put_step(step: Option<u64>, line: &mut [u8], at: usize) -> usize
+    ensures { Shows line.old at (option_numbers itself_number step) line.new result }
 {
     match step {
-        OptionalDuration::None => Numbers::One(0),
-        OptionalDuration::Some(n) => Numbers::Two(1, n),
+        None => put_spaced(0, line, at),
+        Some(ms) => put_numbers(&[1, ms], line, at),
     }
 }
 
-pub fn at_numbers(at: AtModifier) -> Numbers
-    ensures { numbers_of result ≡ at_numbers at }
+pub fn put_at(modifier: AtModifier, line: &mut [u8], at: usize) -> usize
+    ensures { Shows line.old at (at_numbers modifier) line.new result }
 {
-    match at {
-        AtModifier::Start => Numbers::One(0),
-        AtModifier::End => Numbers::One(1),
-        AtModifier::After(n) => Numbers::Two(2, n),
-        AtModifier::Before(n) => Numbers::Two(3, n),
+    match modifier {
+        AtModifier::Start => put_spaced(0, line, at),
+        AtModifier::End => put_spaced(1, line, at),
+        AtModifier::After(ms) => put_numbers(&[2, ms], line, at),
+        AtModifier::Before(ms) => put_numbers(&[3, ms], line, at),
     }
 }
 
-pub fn offset_numbers(offset: Offset) -> Numbers
-    ensures { numbers_of result ≡ offset_numbers offset }
+pub fn put_offset(offset: Offset, line: &mut [u8], at: usize) -> usize
+    ensures { Shows line.old at (offset_numbers offset) line.new result }
 {
     match offset {
-        Offset::Pos(n) => Numbers::Two(0, n),
-        Offset::Neg(n) => Numbers::Two(1, n),
+        Offset::Pos(ms) => put_numbers(&[0, ms], line, at),
+        Offset::Neg(ms) => put_numbers(&[1, ms], line, at),
     }
 }
 
-pub fn variadic_numbers(variadic: Variadic) -> Numbers
-    ensures { numbers_of result ≡ variadic_numbers variadic }
+pub fn put_variadic(variadic: Variadic, line: &mut [u8], at: usize) -> usize
+    ensures { Shows line.old at (variadic_numbers variadic) line.new result }
 {
     match variadic {
-        Variadic::Fixed => Numbers::One(0),
-        Variadic::Unlimited => Numbers::One(1),
-        Variadic::UpTo(n) => Numbers::Two(2, n),
+        Variadic::Fixed => put_spaced(0, line, at),
+        Variadic::Unlimited => put_spaced(1, line, at),
+        Variadic::UpTo(extra) => put_numbers(&[2, extra], line, at),
     }
 }

@@ -1,118 +1,109 @@
 // Records as numbers: the kind, and the fields in the order of the page.
 ghost use Rattle.std.specs.Prelude.{◌≡◌, [], ◌∷◌, ◌++◌};
 ghost use Rattle.record_lines.specs.Line.{Shows};
-ghost use Rattle.record_lines.specs.Numbers.{step_numbers, label_modifier_numbers, modifier_numbers, selector_numbers, function_numbers, field_numbers, record_kind, record_numbers};
+ghost use Rattle.record_lines.specs.Numbers.{option_numbers, itself_number, label_modifier_numbers};
+ghost use Rattle.record_lines.specs.Numbers.{bin_modifier_numbers, selector_numbers, function_numbers, field_numbers};
+ghost use Rattle.record_lines.specs.Numbers.{record_kind, record_numbers};
 
 use crate::element::Elements;
 use crate::line::put_spaced;
 use crate::list::put_list;
 use crate::modifier::{put_label_modifier, put_modifier};
-use crate::number::{
-    at_numbers, offset_numbers, put_literal, put_numbers, put_span, step_numbers, variadic_numbers,
-};
+use crate::number::{put_at, put_literal, put_offset, put_span, put_step, put_variadic};
 use reader::{Record, Selector};
-use records::{Function, LabelModifier, Modifier, OptionalDuration, kind_number};
+use records::{BinModifier, Function, LabelModifier, kind_number};
 
-fn put_selector(page: &[u8], s: Selector, line: &mut [u8], at: usize) -> usize
-    ensures { Shows line.old at (selector_numbers page.now s) line.new result }
+fn put_selector(page: &[u8], selector: Selector, line: &mut [u8], at: usize) -> usize
+    ensures { Shows line.old at (selector_numbers page.now selector) line.new result }
 {
-    let name = s.name;
-    let after_name = put_span(name, line, at);
+    let after_name = put_span(selector.name, line, at);
     put_list(
         Elements::Matchers,
         page,
-        s.matchers.start,
-        s.matchers.count,
+        selector.matchers,
         line,
         after_name,
     )
 }
 
-fn put_subquery(range: u64, step: OptionalDuration, line: &mut [u8], at: usize) -> usize
-    ensures { Shows line.old at (range ∷ step_numbers step) line.new result }
+fn put_subquery(range: u64, step: Option<u64>, line: &mut [u8], at: usize) -> usize
+    ensures { Shows line.old at (range ∷ option_numbers itself_number step) line.new result }
 {
     let next = put_spaced(range, line, at);
-    put_numbers(step_numbers(step), line, next)
+    put_step(step, line, next)
 }
 
-fn put_binary(page: &[u8], code: u64, m: Modifier, line: &mut [u8], at: usize) -> usize
-    ensures { Shows line.old at (code ∷ modifier_numbers page.now m) line.new result }
+fn put_binary(
+    page: &[u8],
+    code: u64,
+    modifier: Option<BinModifier>,
+    line: &mut [u8],
+    at: usize,
+) -> usize
+    ensures { Shows line.old at (code ∷ option_numbers (bin_modifier_numbers page.now) modifier) line.new result }
 {
     let next = put_spaced(code, line, at);
-    put_modifier(page, m, line, next)
+    put_modifier(page, modifier, line, next)
 }
 
 fn put_aggregate(
     page: &[u8],
     code: u64,
-    m: LabelModifier,
+    grouping: Option<LabelModifier>,
     count: usize,
     line: &mut [u8],
     at: usize,
 ) -> usize
-    ensures { Shows line.old at (code ∷ label_modifier_numbers page.now m ++ (count ∷ [])) line.new result }
+    ensures { Shows line.old at (code ∷ label_modifier_numbers page.now grouping ++ (count ∷ [])) line.new result }
 {
     let next = put_spaced(code, line, at);
-    let after = put_label_modifier(page, m, line, next);
+    let after = put_label_modifier(page, grouping, line, next);
     put_spaced(count as u64, line, after)
 }
 
-fn put_function(page: &[u8], f: Function, line: &mut [u8], at: usize) -> usize
-    ensures { Shows line.old at (function_numbers page.now f) line.new result }
+fn put_function(page: &[u8], function: Function, line: &mut [u8], at: usize) -> usize
+    ensures { Shows line.old at (function_numbers page.now function) line.new result }
 {
-    let name = f.name;
-    let variadic = f.variadic;
-    let result = f.result;
-    let after_name = put_span(name, line, at);
-    let after_kinds = put_list(
-        Elements::Kinds,
-        page,
-        f.kinds.start,
-        f.kinds.count,
-        line,
-        after_name,
-    );
-    let after_variadic = put_numbers(variadic_numbers(variadic), line, after_kinds);
-    put_spaced(kind_number(result), line, after_variadic)
+    let after_name = put_span(function.name, line, at);
+    let after_kinds = put_list(Elements::Kinds, page, function.kinds, line, after_name);
+    let after_variadic = put_variadic(function.variadic, line, after_kinds);
+    put_spaced(kind_number(function.result), line, after_variadic)
 }
 
-fn put_call(page: &[u8], f: Function, count: usize, line: &mut [u8], at: usize) -> usize
-    ensures { Shows line.old at (function_numbers page.now f ++ (count ∷ [])) line.new result }
+fn put_call(page: &[u8], function: Function, count: usize, line: &mut [u8], at: usize) -> usize
+    ensures { Shows line.old at (function_numbers page.now function ++ (count ∷ [])) line.new result }
 {
-    let next = put_function(page, f, line, at);
+    let next = put_function(page, function, line, at);
     put_spaced(count as u64, line, next)
 }
 
-fn put_fields(page: &[u8], r: Record, line: &mut [u8], at: usize) -> usize
-    ensures { Shows line.old at (field_numbers page.now r) line.new result }
+fn put_fields(page: &[u8], item: Record, line: &mut [u8], at: usize) -> usize
+    ensures { Shows line.old at (field_numbers page.now item) line.new result }
 {
-    match r {
-        Record::Number(l) => put_literal(l, line, at),
+    match item {
+        Record::Number(literal) => put_literal(literal, line, at),
         Record::String(text) => put_span(text, line, at),
-        Record::Selector(s) => put_selector(page, s, line, at),
-        Record::Range(n) => put_spaced(n, line, at),
-        Record::Subquery { range: n, step: s } => put_subquery(n, s, line, at),
-        Record::At(a) => put_numbers(at_numbers(a), line, at),
-        Record::Offset(o) => put_numbers(offset_numbers(o), line, at),
+        Record::Selector(selector) => put_selector(page, selector, line, at),
+        Record::Range(ms) => put_spaced(ms, line, at),
+        Record::Subquery { range, step } => put_subquery(range, step, line, at),
+        Record::At(modifier) => put_at(modifier, line, at),
+        Record::Offset(offset) => put_offset(offset, line, at),
         Record::Unary => at,
         Record::Paren => at,
-        Record::Binary { code, modifier: m } => put_binary(page, code, m, line, at),
+        Record::Binary { code, modifier } => put_binary(page, code, modifier, line, at),
         Record::Aggregate {
             code,
-            grouping: m,
-            count: n,
-        } => put_aggregate(page, code, m, n, line, at),
-        Record::Call {
-            function: f,
-            count: n,
-        } => put_call(page, f, n, line, at),
+            grouping,
+            count,
+        } => put_aggregate(page, code, grouping, count, line, at),
+        Record::Call { function, count } => put_call(page, function, count, line, at),
     }
 }
 
-fn record_kind(r: Record) -> u64
-    ensures { result ≡ record_kind r }
+fn record_kind(item: Record) -> u64
+    ensures { result ≡ record_kind item }
 {
-    match r {
+    match item {
         Record::Number(_) => 0,
         Record::String(_) => 1,
         Record::Selector(_) => 2,
@@ -128,9 +119,9 @@ fn record_kind(r: Record) -> u64
     }
 }
 
-pub fn put_record(page: &[u8], r: Record, line: &mut [u8], at: usize) -> usize
-    ensures { Shows line.old at (record_numbers page.now r) line.new result }
+pub fn put_record(page: &[u8], item: Record, line: &mut [u8], at: usize) -> usize
+    ensures { Shows line.old at (record_numbers page.now item) line.new result }
 {
-    let next = put_spaced(record_kind(r), line, at);
-    put_fields(page, r, line, next)
+    let next = put_spaced(record_kind(item), line, at);
+    put_fields(page, item, line, next)
 }

@@ -2,20 +2,29 @@
 -- facts: what was seen so far, and what is left of the list, decide together. Assumes nothing.
 use Prim.Native.Nat.{ℕ, zero, suc, ◌-◌, ◌≤◌, ◌<◌}
 use mathlib.Core.Path.{◌≡◌, refl, sym, ap, ◌∙◌}
-use mathlib.Core.Bool.{Bool, ◌&&◌, ◌||◌, and_assoc, or_assoc, and-true, or-false}
+use mathlib.Core.Bool.{Bool, true, false, not, beq, ◌&&◌, ◌||◌, and_assoc, or_assoc, and-true, or-false}
 use mathlib.Core.List.{List, ◌∷◌}
+use mathlib.Core.Option.{some}
 use native.Mathlib.Omega.{arith}
 use Rattle.page.specs.Bytes.{all, any}
-use Rattle.page.specs.Read.{FieldFault, Read, refused, got, and_then, reader_at, bad_field}
+use Rattle.page.specs.Read.{FieldFault, Read, refused, got, and_then, reader_at}
 use Rattle.page.specs.Number.{read_number}
 use Rattle.page.specs.Text.{Text, read_any_text}
 use Rattle.page.specs.Listed.{listed}
-use Rattle.page.proofs.FieldLaws.{no-form}
 use Rattle.page.proofs.ListLaws.{passed, passed-more, listed_more, listed-none}
 use Rattle.records.specs.Field.{read_flag}
 use Rattle.records.specs.Matcher.{MatchOp, Matcher, matcher_of, equal, not_equal, re, not_re, matcher_forms}
-use Rattle.records.specs.Matcher.{read_matcher, is_metric_label, is_name_matcher, matches_empty, has_wrong_flag}
-use Rattle.records.specs.MatcherFacts.{Facts, matcher_facts, read_matcher_facts, pattern_facts, fact_forms, ListFacts}
+use Rattle.records.specs.Matcher.{differs, read_matcher, is_metric_label, is_name_matcher, matches_empty, has_wrong_flag}
+use Rattle.records.specs.MatcherFacts.{Facts, matcher_facts, read_matcher_facts, pattern_facts, fact_forms, facts_of, ListFacts}
+use Rattle.records.specs.declared.matcher.MatcherFacts.{MatcherFacts}
+
+-- ## A flag
+
+pub flag-differs : (flag empty : Bool) → not (beq flag empty) ≡ differs (some empty) flag
+flag-differs true true = refl
+flag-differs true false = refl
+flag-differs false true = refl
+flag-differs false false = refl
 
 -- ## One matcher
 
@@ -71,18 +80,14 @@ facts-read op n p s t h e name = sym (facts-behind n s t op h name) ∙ ap with_
 pub facts-cut : (op : ℕ) (p s : List ℕ) {f : FieldFault} → op ≤ 3 → got op s ≡ read_number p → refused f ≡ read_any_text s → refused f ≡ read_matcher_facts p
 facts-cut op p s h e name = sym (facts-refused s op h name) ∙ ap with_facts e
 
-pub facts-no-form : (op : ℕ) (p s : List ℕ) → 3 < op → got op s ≡ read_number p → refused bad_field ≡ read_matcher_facts p
-facts-no-form op p s h e =
-    ap (λ (m : Read Matcher). and_then m (λ a u. got (matcher_facts a) u)) (no-form matcher_forms op s (omega (arith, h))) ∙ ap with_facts e
-
 -- after the value of a pattern
-pub pattern-facts : (named : Bool) (v : Text) (s t : List ℕ) (op : ℕ) → op ≤ 3 → (op ≡ 0 → ⊥) → (op ≡ 1 → ⊥) → got v t ≡ read_any_text s
+pub pattern-facts : (named : Bool) (v : Text) (s t : List ℕ) (op : ℕ) → op ≤ 3 → 2 ≤ op → got v t ≡ read_any_text s
     → reader_at (fact_forms named) op s ≡ pattern_facts op named v t
-pattern-facts named v s t zero h none one e = absurd (none refl)
-pattern-facts named v s t (suc zero) h none one e = absurd (one refl)
-pattern-facts named v s t (suc (suc zero)) h none one e = rw (← e)
-pattern-facts named v s t (suc (suc (suc zero))) h none one e = rw (← e)
-pattern-facts named v s t (suc (suc (suc (suc n)))) h none one e = absurd (omega (arith, h))
+pattern-facts named v s t zero h two e = absurd (omega (arith, two))
+pattern-facts named v s t (suc zero) h two e = absurd (omega (arith, two))
+pattern-facts named v s t (suc (suc zero)) h two e = rw (← e)
+pattern-facts named v s t (suc (suc (suc zero))) h two e = rw (← e)
+pattern-facts named v s t (suc (suc (suc (suc n)))) h two e = absurd (omega (arith, h))
 
 pub value-refused : (named : Bool) (s : List ℕ) (op : ℕ) {f : FieldFault} → op ≤ 3 → refused f ≡ read_any_text s → reader_at (fact_forms named) op s ≡ refused f
 value-refused named s op {f} h e =
@@ -90,12 +95,12 @@ value-refused named s op {f} h e =
 
 -- ## A list of matchers
 
--- some matchers of a list were seen; `left` of them, from t on, are still to come
-pub record FactsSoFar (n : ℕ) (s : List ℕ) (left : ℕ) (t : List ℕ) (named empty wrong : Bool) : Type 0 where
+-- some matchers of a list were seen, and these are their facts; `left` of them, from t on, are still to come
+pub record FactsSoFar (n : ℕ) (s : List ℕ) (left : ℕ) (t : List ℕ) (seen : MatcherFacts) : Type 0 where
   pub passes : passed read_matcher n s ≡ passed read_matcher left t
-  pub names : any is_name_matcher (listed read_matcher n s) ≡ named || any is_name_matcher (listed read_matcher left t)
-  pub accept : all matches_empty (listed read_matcher n s) ≡ empty && all matches_empty (listed read_matcher left t)
-  pub flags : any has_wrong_flag (listed read_matcher n s) ≡ wrong || any has_wrong_flag (listed read_matcher left t)
+  pub names : any is_name_matcher (listed read_matcher n s) ≡ seen.named || any is_name_matcher (listed read_matcher left t)
+  pub accept : all matches_empty (listed read_matcher n s) ≡ seen.empty && all matches_empty (listed read_matcher left t)
+  pub flags : any has_wrong_flag (listed read_matcher n s) ≡ seen.wrong_flag || any has_wrong_flag (listed read_matcher left t)
 
 -- a matcher whose facts were read
 pub record MatcherWithFacts (s t : List ℕ) (facts : Facts) : Type 0 where
@@ -125,27 +130,30 @@ any-more test seen one {m} {list} {later} more is =
     ap (λ (l : List Matcher). seen || any test l) more ∙ sym (or_assoc seen (test m) (any test later))
     ∙ ap (λ (b : Bool). (seen || b) || any test later) (sym is)
 
-pub facts-more : (n : ℕ) (s : List ℕ) (left : ℕ) (t u : List ℕ) (named empty wrong name accepts flag : Bool)
-    → FactsSoFar n s left t named empty wrong → 0 < left → got (name, accepts, flag) u ≡ read_matcher_facts t
-    → FactsSoFar n s (left - 1) u (named || name) (empty && accepts) (wrong || flag)
-facts-more n s left t u named empty wrong name accepts flag inv h e =
-    let m : MatcherWithFacts t u (name, accepts, flag) = matcher-of (read_matcher t) refl e in
+-- the facts of what was seen, and of one more
+abbrev pub with_one : MatcherFacts → MatcherFacts → MatcherFacts
+with_one seen one = record { named = seen.named || one.named; empty = seen.empty && one.empty; wrong_flag = seen.wrong_flag || one.wrong_flag }
+
+pub facts-more : (n : ℕ) (s : List ℕ) (left : ℕ) (t u : List ℕ) (seen one : MatcherFacts) → FactsSoFar n s left t seen → 0 < left
+    → got (facts_of one) u ≡ read_matcher_facts t → FactsSoFar n s (left - 1) u (with_one seen one)
+facts-more n s left t u seen one inv h e =
+    let m : MatcherWithFacts t u (facts_of one) = matcher-of (read_matcher t) refl e in
     let more : listed read_matcher left t ≡ m.matcher ∷ listed read_matcher (left - 1) u = listed_more read_matcher left t h m.reads in
     record {
       passes = inv.passes ∙ passed-more read_matcher left t h m.reads;
-      names = inv.names ∙ any-more is_name_matcher named name more (ap (λ (f : Facts). f.0) m.same);
-      accept = inv.accept ∙ ap (λ (l : List Matcher). empty && all matches_empty l) more
-          ∙ sym (and_assoc empty (matches_empty m.matcher) _)
-          ∙ ap (λ (f : Facts). (empty && f.1) && all matches_empty (listed read_matcher (left - 1) u)) (sym m.same);
-      flags = inv.flags ∙ any-more has_wrong_flag wrong flag more (ap (λ (f : Facts). f.2) m.same);
+      names = inv.names ∙ any-more is_name_matcher seen.named one.named more (ap (λ (f : Facts). f.0) m.same);
+      accept = inv.accept ∙ ap (λ (l : List Matcher). seen.empty && all matches_empty l) more
+          ∙ sym (and_assoc seen.empty (matches_empty m.matcher) _)
+          ∙ ap (λ (f : Facts). (seen.empty && f.1) && all matches_empty (listed read_matcher (left - 1) u)) (sym m.same);
+      flags = inv.flags ∙ any-more has_wrong_flag seen.wrong_flag one.wrong_flag more (ap (λ (f : Facts). f.2) m.same);
     }
 
-pub facts-all : (n : ℕ) (s : List ℕ) (left : ℕ) (t : List ℕ) (named empty wrong : Bool) → FactsSoFar n s left t named empty wrong
-    → left ≤ 0 → ListFacts (listed read_matcher n s) named empty wrong
-facts-all n s left t named empty wrong inv h =
+pub facts-all : (n : ℕ) (s : List ℕ) (left : ℕ) (t : List ℕ) (seen : MatcherFacts) → FactsSoFar n s left t seen → left ≤ 0
+    → ListFacts (listed read_matcher n s) seen
+facts-all n s left t seen inv h =
     let none_left = listed-none read_matcher left t h in
     record {
-      names = sym (inv.names ∙ rw none_left (or-false named));
-      accept = sym (inv.accept ∙ rw none_left (and-true empty));
-      flags = sym (inv.flags ∙ rw none_left (or-false wrong));
+      names = sym (inv.names ∙ rw none_left (or-false seen.named));
+      accept = sym (inv.accept ∙ rw none_left (and-true seen.empty));
+      flags = sym (inv.flags ∙ rw none_left (or-false seen.wrong_flag));
     }

@@ -12,7 +12,7 @@ use Rattle.page.specs.Text.{Text, read_any_text}
 use Rattle.page.specs.Listed.{Readable}
 use Rattle.page.proofs.StoredLaws.{first-readable, next-readable, Chosen, choice-stored}
 use Rattle.records.specs.Field.{flag_forms, read_flag}
-use Rattle.records.specs.Matcher.{matcher_of, equal, not_equal, re, not_re, matcher_forms, read_matcher}
+use Rattle.records.specs.Matcher.{matcher_of, re, not_re, matcher_forms, read_matcher}
 use Rattle.records.proofs.MatcherFactsLaws.{by-operator}
 
 -- ## Flags
@@ -75,12 +75,6 @@ module _ (page : List ℕ) (at : ℕ) (readable : Readable read_matcher (drop at
 
       by_form : {op : ℕ} → get_or page at 0 ≡ op → read_matcher (drop at page) ≡ reader_at matcher_forms op (drop (at + 1) page)
       by_form e = operator-chosen.is ∙ ap (λ (k : ℕ). reader_at matcher_forms k (drop (at + 1) page)) e
-
-      pub is-equal : get_or page at 0 ≡ 0 → got (matcher_of equal n v) u ≡ read_matcher (drop at page)
-      is-equal e = sym (by_form e ∙ rw (← name, ← value))
-
-      pub is-not-equal : get_or page at 0 ≡ 1 → got (matcher_of not_equal n v) u ≡ read_matcher (drop at page)
-      is-not-equal e = sym (by_form e ∙ rw (← name, ← value))
 
       module _ {b : Bool} {w : List ℕ} (flag : got b w ≡ read_flag u) where
         pub is-pattern : get_or page at 0 ≡ 2 → got (matcher_of (re b) n v) w ≡ read_matcher (drop at page)

@@ -1,19 +1,20 @@
 -- What the check asks of a matcher, read without the matcher itself: whether it is named `__name__`, whether it accepts
 -- empty text, and whether the flag of its pattern is wrong.
-use Rattle.std.specs.Prelude.{ℕ, Bool, false, not, List, [], ◌∷◌, ◌≡◌, drop, eqb}
+use Rattle.std.specs.Prelude.{ℕ, Bool, false, not, List, [], ◌∷◌, ◌≡◌, drop, eqb, Result, IfOk}
 use Rattle.page.specs.Bytes.{pick, all, any, is_empty}
 use Rattle.page.specs.Read.{Read, refused, got, Reader, ◌>>=◌, return}
 use Rattle.page.specs.Text.{Text, read_any_text}
 use Rattle.page.specs.Listed.{AllRead}
+use Rattle.page.specs.declared.fault.Fault.{Fault}
 use Rattle.page.specs.Answers.{fault_of}
 use Rattle.records.specs.Field.{read_flag}
 use Rattle.records.specs.Matcher as matcher
 use Rattle.records.specs.Matcher.{is_name_matcher, matches_empty, is_wrong_flag, has_wrong_flag}
 use Rattle.records.specs.Answers.{matchers_on}
 use Rattle.records.specs.declared.matcher.MatcherFacts.{MatcherFacts}
-use Rattle.records.specs.declared.matcher.MatcherFacts.TheVariants as facts-answer
+use Rattle.records.specs.declared.matcher.MatcherField.{MatcherField}
+use Rattle.records.specs.declared.matcher.MatcherField.TheVariants.{Got, Bad}
 use Rattle.records.specs.declared.matcher.Matchers.{Matchers}
-use Rattle.records.specs.declared.matcher.Matchers.TheVariants as matchers-answer
 
 -- its name, what it accepts, its flag
 abbrev pub Facts : Type 0
@@ -38,23 +39,25 @@ fact_forms named =
     ∷ (read_any_text >>= λ v. read_flag >>= λ b. return (named, not b, is_wrong_flag b v))
     ∷ []
 
-abbrev pub matcher_facts_at : List ℕ → MatcherFacts → Read Facts
-matcher_facts_at page (facts-answer.Got named empty wrong next) = got (named, empty, wrong) (drop next page)
-matcher_facts_at page (facts-answer.Bad f) = refused (fault_of f)
+abbrev pub facts_of : MatcherFacts → Facts
+facts_of f = (f.named, f.empty, f.wrong_flag)
 
-abbrev pub matchers_at : List ℕ → Matchers → Read (List matcher.Matcher)
-matchers_at page (matchers-answer.Got list named empty wrong next) = got (matchers_on page list.start list.count) (drop next page)
-matchers_at page (matchers-answer.Bad f) = refused (fault_of f)
+-- one matcher's facts, as its reader answers them
+abbrev pub matcher_field : List ℕ → MatcherField → Read Facts
+matcher_field page (Got named empty wrong next) = got (named, empty, wrong) (drop next page)
+matcher_field page (Bad fault) = refused (fault_of fault)
+
+abbrev pub matchers_of : List ℕ → Matchers → List matcher.Matcher
+matchers_of page m = matchers_on page m.list.start m.list.count
 
 -- some matcher is named `__name__`, all accept empty text, some has a wrong flag
-pub record ListFacts (ms : List matcher.Matcher) (named empty wrong : Bool) : Type 0 where
-  pub names : named ≡ any is_name_matcher ms
-  pub accept : empty ≡ all matches_empty ms
-  pub flags : wrong ≡ any has_wrong_flag ms
+pub record ListFacts (ms : List matcher.Matcher) (f : MatcherFacts) : Type 0 where
+  pub names : f.named ≡ any is_name_matcher ms
+  pub accept : f.empty ≡ all matches_empty ms
+  pub flags : f.wrong_flag ≡ any has_wrong_flag ms
 
 -- the facts are those of the list, and all of its matchers can be read again
-abbrev pub matchers_stored : List ℕ → Matchers → Type 0
-matchers_stored page (matchers-answer.Got list named empty wrong next) =
-    ListFacts (matchers_on page list.start list.count) named empty wrong
-    × AllRead matcher.read_matcher list.count (drop list.start page)
-matchers_stored page (matchers-answer.Bad f) = Unit {0}
+abbrev pub matchers_stored : List ℕ → Result (Matchers × ℕ) Fault → Type 0
+matchers_stored page r =
+    IfOk r (λ field. ListFacts (matchers_of page field.0) field.0.facts
+    × AllRead matcher.read_matcher field.0.list.count (drop field.0.list.start page))

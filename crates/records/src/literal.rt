@@ -1,10 +1,15 @@
 // Numbers of number records and fills (ast.rs, `NumberLiteral`): a form, and what stands after it.
-ghost use Rattle.std.specs.Prelude.{ℕ, List, ◌≡◌, drop};
-ghost use Rattle.records.specs.Literal.{signed, read_literal};
+ghost use Rattle.std.specs.Prelude.{◌≡◌, drop};
+ghost use Rattle.page.specs.Answers.{field_at, option_of};
+ghost use Rattle.records.specs.Literal as literal;
+ghost use Rattle.records.specs.Literal.{read_literal};
 ghost use Rattle.records.specs.Field.{read_option};
-ghost use Rattle.records.specs.Answers.{fraction_at, literal_at, fill_at};
+ghost use Rattle.records.specs.OnPage.{anything};
+ghost use Rattle.records.specs.Answers.{literal_of};
 
-use crate::fraction::{FractionField, read_fraction};
+use crate::fraction::{Fraction, read_fraction};
+use crate::on_page::{OnPage, read_option, wrapped};
+use page::{Fault, Field, read_number};
 
 // Negative(0) is minus zero. A fraction is digits / 10^places, plus or minus.
 #[derive(Clone, Copy)]
@@ -18,108 +23,43 @@ pub enum Literal {
     NegativeFraction { places: u8, digits: u64 },
 }
 
-// A literal and the position after it.
-#[derive(Clone, Copy)]
-pub enum LiteralField {
-    Got { literal: Literal, next: usize },
-    Bad,
-}
-
-// The fraction that was read, with its sign.
-fn signed_fraction(minus: bool, read: FractionField) -> LiteralField
-    ensures { (page : List ℕ) → literal_at page result ≡ fraction_at (signed minus) page read }
+pub fn read_literal(page: &[u8], at: usize) -> Field<Literal>
+    ensures { field_at literal_of page.now result ≡ read_literal (drop at page.now) }
 {
-    match read {
-        FractionField::Got {
-            places,
-            digits,
-            next,
-        } => {
-            if minus {
-                return LiteralField::Got {
-                    literal: Literal::NegativeFraction { places, digits },
-                    next,
-                };
-            }
-            LiteralField::Got {
-                literal: Literal::Fraction { places, digits },
-                next,
-            }
-        }
-        FractionField::Bad => LiteralField::Bad,
+    let (form, next) = read_number(page, at)?;
+    match form {
+        0 => wrapped(read_number(page, next), Literal::Whole),
+        1 => wrapped(read_number(page, next), Literal::Negative),
+        2 => Ok((Literal::Nan, next)),
+        3 => Ok((Literal::Inf, next)),
+        4 => Ok((Literal::NegInf, next)),
+        5 => wrapped(read_fraction(page, next), |Fraction { places, digits }| {
+            Literal::Fraction { places, digits }
+        }),
+        6 => wrapped(read_fraction(page, next), |Fraction { places, digits }| {
+            Literal::NegativeFraction { places, digits }
+        }),
+        _ => Err(Fault::BadField),
     }
 }
 
-pub fn read_literal(page: &[u8], at: usize) -> LiteralField
-    ensures { literal_at page.now result ≡ read_literal (drop at page.now) }
-{
-    match page::read_number(page, at) {
-        page::Number::Got { number: form, next } => match form {
-            0 => match page::read_number(page, next) {
-                page::Number::Got { number: n, next } => LiteralField::Got {
-                    literal: Literal::Whole(n),
-                    next,
-                },
-                page::Number::Bad => LiteralField::Bad,
-            },
-            1 => match page::read_number(page, next) {
-                page::Number::Got { number: n, next } => LiteralField::Got {
-                    literal: Literal::Negative(n),
-                    next,
-                },
-                page::Number::Bad => LiteralField::Bad,
-            },
-            2 => LiteralField::Got {
-                literal: Literal::Nan,
-                next,
-            },
-            3 => LiteralField::Got {
-                literal: Literal::Inf,
-                next,
-            },
-            4 => LiteralField::Got {
-                literal: Literal::NegInf,
-                next,
-            },
-            5 => signed_fraction(false, read_fraction(page, next)),
-            6 => signed_fraction(true, read_fraction(page, next)),
-            _ => LiteralField::Bad,
-        },
-        page::Number::Bad => LiteralField::Bad,
+impl OnPage for Literal {
+    ghost Meaning = { literal.Literal };
+
+    ghost meaning = { λ page. literal_of };
+
+    ghost reader = { read_literal };
+
+    ghost Stored = { anything };
+
+    fn read(page: &[u8], at: usize) -> Field<Literal> {
+        read_literal(page, at)
     }
 }
 
 // A fill value, if there is one.
-#[derive(Clone, Copy)]
-pub enum Fill {
-    None,
-    Some(Literal),
-}
-
-#[derive(Clone, Copy)]
-pub enum FillField {
-    Got { fill: Fill, next: usize },
-    Bad,
-}
-
-pub fn read_fill(page: &[u8], at: usize) -> FillField
-    ensures { fill_at page.now result ≡ read_option read_literal (drop at page.now) }
+pub fn read_fill(page: &[u8], at: usize) -> Field<Option<Literal>>
+    ensures { field_at (option_of literal_of) page.now result ≡ read_option read_literal (drop at page.now) }
 {
-    match page::read_number(page, at) {
-        page::Number::Got { number: n, next } => match n {
-            0 => FillField::Got {
-                fill: Fill::None,
-                next,
-            },
-            1 => match read_literal(page, next) {
-                LiteralField::Got { literal: l, next } => FillField::Got {
-                    fill: Fill::Some(l),
-                    next,
-                },
-                LiteralField::Bad => FillField::Bad,
-            },
-            _ => FillField::Bad,
-        },
-        page::Number::Bad => FillField::Bad,
-    }
+    read_option(page, at)
 }

@@ -1,14 +1,12 @@
 -- The arguments of an aggregate: how many there are, and which one is the operand. 42 is asked of what document 01
 -- accepts, which is a row behind its own.
-use Prim.Native.Nat.{ℕ, ◌+◌, ◌≤◌}
+use Prim.Native.Nat.{ℕ, ◌≤◌}
 use mathlib.Core.Path.{◌≡◌, refl, sym, ap₂, ◌∙◌}
 use mathlib.Core.Bool.{Bool, true, false, ◌&&◌, ◌||◌, not, true≢false}
 use mathlib.Core.List.{List, [], ◌∷◌, ◌++◌, map}
 use native.Mathlib.Omega.{arith}
 use mathlib.Core.Option.{Option, none, some}
-use lib.ListN.{length, get_or, drop, length-map}
-use lib.Ieee.{Float}
-use native.Mathlib.Nat.{add-zero}
+use lib.ListN.{length, get_or, length-map}
 use Rattle.page.specs.Bytes.{pick}
 use Rattle.records.specs.Kind.{Kind, vector, is_scalar}
 use Rattle.records.specs.Code.{is_count_values, rust_asks_scalar, is_limit, has_parameter}
@@ -18,7 +16,6 @@ use Rattle.ast.specs.CheckAst.{aggregate_rows}
 use Rattle.ast.specs.Operand.{Operand, string_operand, other_operand, operand_kind}
 use Rattle.ast.specs.Judge.{put, judge_arguments, judge_aggregate}
 use Rattle.rules.specs.Limit.{limit_rows, judge_aggregate_by}
-use Rattle.rules.specs.Stack.{held_operands, Sized}
 use Rattle.rules.proofs.StackLaws.{operands-size, operands-first}
 
 -- ## 42, asked of what document 01 accepts
@@ -76,7 +73,7 @@ plain-count c [] h g = absurd (h refl)
 plain-count c (e ∷ []) h g = absurd (g refl)
 plain-count c (e ∷ x ∷ es) h g = refl
 
-module _ {tags : List ℕ} {values : List Float} (sized : Sized tags values) (limits : Bool) (code top count : ℕ) where
+module _ (limits : Bool) (code count : ℕ) (stack : List Operand) (inside : count ≤ length stack) where
   no-limit : has_parameter code ≡ false → is_limit code ≡ false
   no-limit e = last-false (is_count_values code || rust_asks_scalar code) (is_limit code) e
     where
@@ -85,41 +82,36 @@ module _ {tags : List ℕ} {values : List Float} (sized : Sized tags values) (li
       last-false true b e = absurd (true≢false e)
 
   abbrev kinds : List Kind
-  kinds = map operand_kind (operands_of count (drop top (held_operands tags values)))
+  kinds = map operand_kind (operands_of count stack)
 
-  kinds-size : top + count ≤ 256 → length kinds ≡ count
-  kinds-size h = length-map (operands_of count (drop top (held_operands tags values))) operand_kind ∙ operands-size tags values sized top count h
+  kinds-size : length kinds ≡ count
+  kinds-size = length-map (operands_of count stack) operand_kind ∙ operands-size stack count inside
 
-  pub aggregate-none : count ≡ 0 → refused 14 ≡ judge_aggregate_by limits code kinds
-  aggregate-none e = rw e
-
-  pub parameter-other : has_parameter code ≡ true → (count ≡ 0 → ⊥) → (count ≡ 2 → ⊥) → top + count ≤ 256 → refused 15 ≡ judge_aggregate_by limits code kinds
-  parameter-other has any other h =
+  pub parameter-other : has_parameter code ≡ true → (count ≡ 0 → ⊥) → (count ≡ 2 → ⊥) → refused 15 ≡ judge_aggregate_by limits code kinds
+  parameter-other has any other =
       still-refused limits code kinds
-      (rw has (sym (parameter-count code kinds (λ e. any (sym (kinds-size h) ∙ e)) (λ e. other (sym (kinds-size h) ∙ e)))))
+      (rw has (sym (parameter-count code kinds (λ e. any (sym kinds-size ∙ e)) (λ e. other (sym kinds-size ∙ e)))))
 
-  pub plain_other : has_parameter code ≡ false → (count ≡ 0 → ⊥) → (count ≡ 1 → ⊥) → top + count ≤ 256 → refused 15 ≡ judge_aggregate_by limits code kinds
-  plain_other has any other h =
+  pub plain_other : has_parameter code ≡ false → (count ≡ 0 → ⊥) → (count ≡ 1 → ⊥) → refused 15 ≡ judge_aggregate_by limits code kinds
+  plain_other has any other =
       still-refused limits code kinds
-      (rw has (sym (plain-count code kinds (λ e. any (sym (kinds-size h) ∙ e)) (λ e. other (sym (kinds-size h) ∙ e)))))
+      (rw has (sym (plain-count code kinds (λ e. any (sym kinds-size ∙ e)) (λ e. other (sym kinds-size ∙ e)))))
 
-  pub plain-one : has_parameter code ≡ false → count ≡ 1 → top + count ≤ 256 → {k : Kind} → k ≡ operand_kind (get_or (held_operands tags values) top string_operand)
+  pub plain-one : has_parameter code ≡ false → count ≡ 1 → {k : Kind} → k ≡ operand_kind (get_or stack 0 string_operand)
       → put (aggregate_rows code none k ++ limit_rows limits code none) (other_operand vector) ≡ judge_aggregate_by limits code kinds
-  plain-one has one h {k} operand =
+  plain-one has one {k} operand =
       one-asked limits code k (no-limit has) (rw has)
-      ∙ rw (one, operands-first tags values sized top 0 (omega arith), add-zero top, ← operand)
+      ∙ rw (one, operands-first stack 0 (omega (arith, inside, one)), ← operand)
 
-  pub parameter-two : has_parameter code ≡ true → count ≡ 2 → top + count ≤ 256
-      → {j k : Kind} → j ≡ operand_kind (get_or (held_operands tags values) (top + 1) string_operand)
-      → k ≡ operand_kind (get_or (held_operands tags values) top string_operand)
+  pub parameter-two : has_parameter code ≡ true → count ≡ 2
+      → {j k : Kind} → j ≡ operand_kind (get_or stack 1 string_operand) → k ≡ operand_kind (get_or stack 0 string_operand)
       → put (aggregate_rows code (some j) k ++ limit_rows limits code (some j)) (other_operand vector) ≡ judge_aggregate_by limits code kinds
-  parameter-two has two h {j} {k} parameter operand =
+  parameter-two has two {j} {k} parameter operand =
       two-asked limits code j k (rw has)
       ∙ rw (
         two,
-        operands-first tags values sized top 1 (omega arith),
-        operands-first tags values sized top 0 (omega arith),
-        add-zero top,
+        operands-first stack 1 (omega (arith, inside, two)),
+        operands-first stack 0 (omega (arith, inside, two)),
         ← parameter,
         ← operand,
       )

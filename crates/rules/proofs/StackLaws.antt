@@ -4,14 +4,15 @@ use mathlib.Core.Path.{◌≡◌, refl, ap, sym, ◌∙◌}
 use mathlib.Core.Bool.{true, false}
 use mathlib.Core.List.{List, [], ◌∷◌, reverse-append}
 use native.Mathlib.Numerals.{add-one}
-use lib.ListN.{length, get_or, set, take, drop, length-drop, drop_of_length-le, length-reverse}
-use lib.Seq.{length-take-le, drop-cons, take-suc, get_or-drop}
+use lib.ListN.{length, get_or, set, take, drop, length-drop, length-reverse}
+use lib.Seq.{length-take-le, drop-drop, take-suc, get_or-drop}
 use lib.Ieee.{Float}
 use native.Mathlib.Omega.{arith}
 use Rattle.records.specs.Kind.{vector, scalar, matrix, string}
 use Rattle.records.specs.Stack.{operands_of}
 use Rattle.ast.specs.Operand.{Operand, number_operand, fraction_operand, string_operand, selector_operand, range_operand, subquery_operand, other_operand}
-use Rattle.rules.specs.Stack.{tag_of, value_of, tag_table, operand_from, held_operands, Sized}
+use Rattle.rules.specs.Stack.{tag_of, value_of, tag_table, operand_from, held_operands, held}
+use Rattle.rules.specs.declared.stack.Stack.{Stack}
 
 -- ## operand_from
 
@@ -68,32 +69,55 @@ held_operands-length [] xs e = refl
 held_operands-length (f ∷ fs) [] e = sym e
 held_operands-length (f ∷ fs) (x ∷ xs) e = ap suc (held_operands-length fs xs (omega arith))
 
--- ## The stack from its top on
+-- ## The stack, of which the arrays hold 256 operands from the end downwards
 
-module _ (tags : List ℕ) (values : List Float) (sized : Sized tags values) where
-  pub held_operands-size : length (held_operands tags values) ≡ 256
-  held_operands-size = held_operands-length tags values (omega (arith, sized)) ∙ sized.tags-size
+drop-set {ℓ} : {A : Type ℓ} (l : List A) (i : ℕ) (a : A) → i < length l → drop i (set l i a) ≡ a ∷ drop (suc i) l
+drop-set [] i a h = absurd (let z : ⊥ = omega arith in z)
+drop-set (x ∷ l) zero a h = refl
+drop-set (x ∷ l) (suc i) a h = drop-set l i a (omega arith)
 
-  pub stack-size : (top : ℕ) → length (drop top (held_operands tags values)) ≡ 256 - top
-  stack-size top = simp length-drop (rw held_operands-size)
+-- an entry put in place of the topmost n
+drop-replace : {A : Type 0} (l : List A) (top n : ℕ) (a : A) → 1 ≤ top + n → top + n ≤ length l
+    → drop (top + n - 1) (set l (top + n - 1) a) ≡ a ∷ drop n (drop top l)
+drop-replace l top n a room enough =
+    let above : suc (top + n - 1) ≡ top + n = omega (arith, room) in
+    drop-set l (top + n - 1) a (omega (arith, room, enough))
+    ∙ ap {B = List _} (λ rest. a ∷ rest) (ap (λ (k : ℕ). drop k l) above ∙ sym (drop-drop n top l))
 
-  pub stack-empty : (top : ℕ) → 256 ≤ top → drop top (held_operands tags values) ≡ []
-  stack-empty top h = drop_of_length-le (held_operands tags values) {i = top} (rw held_operands-size h)
+module _ (s : Stack) where
+  held_operands-size : length (held_operands s.tags s.values) ≡ 256
+  held_operands-size = held_operands-length s.tags s.values (omega (arith, s.sized)) ∙ s.sized.0
 
-  pub stack_top : (top : ℕ) → top < 256
-      → drop top (held_operands tags values)
-      ≡ get_or (held_operands tags values) top string_operand ∷ drop (top + 1) (held_operands tags values)
-  stack_top top h = rw add-one (drop-cons (held_operands tags values) top string_operand (rw held_operands-size h))
+  pub held-size : length (held s) ≡ 256 - s.top
+  held-size = simp length-drop (rw held_operands-size)
 
-  -- the operands of a record
-  pub operands-size : (top n : ℕ) → top + n ≤ 256 → length (operands_of n (drop top (held_operands tags values))) ≡ n
-  operands-size top n h = length-reverse (take n (drop top (held_operands tags values)))
-      ∙ length-take-le n (drop top (held_operands tags values)) (rw (stack-size top) (omega arith))
+  pub held-at : (i : ℕ) (f : ℕ) (x : Float) → i < length (held s)
+      → operand_from (get_or s.tags (s.top + i) f) (get_or s.values (s.top + i) x) ≡ get_or (held s) i string_operand
+  held-at i f x h =
+      let inside : s.top + i < 256 = omega (arith, h, held-size) in
+      sym (get_or-drop s.top (held_operands s.tags s.values) i string_operand
+      ∙ held_operands-get_d s.tags s.values (s.top + i) string_operand f x (omega (arith, inside, s.sized)) (omega (arith, inside, s.sized)))
+
+  module _ (n : ℕ) (enough : n ≤ length (held s)) (room : length (held s) < 256 + n) where
+    pub place-low : 1 ≤ s.top + n
+    place-low = omega (arith, room, held-size, s.inside)
+
+    pub place-high : s.top + n ≤ 256
+    place-high = omega (arith, enough, held-size, s.inside)
+
+    pub held-replace : (x : Operand) → drop (s.top + n - 1) (held_operands (set s.tags (s.top + n - 1) (tag_of x)) (set s.values (s.top + n - 1) (value_of x)))
+        ≡ x ∷ drop n (held s)
+    held-replace x =
+        ap (drop (s.top + n - 1)) (held_operands-set s.tags s.values (s.top + n - 1) (tag_of x) (value_of x)
+        ∙ ap (set (held_operands s.tags s.values) (s.top + n - 1)) (operand_from-tag_of x))
+        ∙ drop-replace (held_operands s.tags s.values) s.top n x place-low (rw held_operands-size place-high)
+
+-- ## The operands of a record
+
+module _ (stack : List Operand) where
+  pub operands-size : (n : ℕ) → n ≤ length stack → length (operands_of n stack) ≡ n
+  operands-size n h = length-reverse (take n stack) ∙ length-take-le n stack h
 
   -- the first of n + 1 operands lies deepest
-  pub operands-first : (top n : ℕ) → top + (n + 1) ≤ 256
-      → operands_of (n + 1) (drop top (held_operands tags values))
-      ≡ get_or (held_operands tags values) (top + n) string_operand
-      ∷ operands_of n (drop top (held_operands tags values))
-  operands-first top n h =
-      rw (add-one, take-suc (drop top (held_operands tags values)) n string_operand (rw (stack-size top) (omega arith)), reverse-append, get_or-drop)
+  pub operands-first : (n : ℕ) → n + 1 ≤ length stack → operands_of (n + 1) stack ≡ get_or stack n string_operand ∷ operands_of n stack
+  operands-first n h = rw (add-one, take-suc stack n string_operand (omega (arith, h)), reverse-append)

@@ -1,18 +1,12 @@
 -- What the answers of the judges mean: operands, and the refusals by their numbers in document 01's table.
-use Rattle.std.specs.Prelude.{ℕ}
-use Rattle.std.proofs.Math.Option.{Option, none, some}
-use Rattle.records.specs.Kind.{Kind}
+use Rattle.std.specs.Prelude.{ℕ, Result, Ok, Err}
 use Rattle.records.specs.Answers.{kind_of}
 use Rattle.ast.specs.Refusal as ast
 use Rattle.ast.specs.Operand as spec
 use Rattle.rules.specs.declared.operand.Operand.{Operand}
 use Rattle.rules.specs.declared.operand.Operand.TheVariants.{Number, Fraction, String, Selector, Range, Subquery, Other}
-use Rattle.rules.specs.declared.aggregate.Parameter.{Parameter}
-use Rattle.rules.specs.declared.aggregate.Parameter.TheVariants as parameter
 use Rattle.rules.specs.declared.refusal.Refusal.{Refusal}
 use Rattle.rules.specs.declared.refusal.Refusal.TheVariants as refusal
-use Rattle.rules.specs.declared.refusal.Verdict.{Verdict}
-use Rattle.rules.specs.declared.refusal.Verdict.TheVariants.{Put, Refused}
 
 abbrev pub operand_meant : Operand → spec.Operand
 operand_meant (Number x) = spec.number_operand x
@@ -102,11 +96,6 @@ refusal_number refusal.WrongFlag = 41
 -- the parameter of limitk or limit_ratio is no scalar (document 02, No. 8)
 refusal_number refusal.LimitParameter = 42
 
-abbrev pub verdict_meant : Verdict → ast.Result spec.Operand
-verdict_meant (Put x) = ast.ok (operand_meant x)
-verdict_meant (Refused r) = ast.refused (refusal_number r)
-
--- the kind of an aggregate's parameter, if there is one
-abbrev pub parameter_meant : Parameter → Option Kind
-parameter_meant parameter.None = none
-parameter_meant (parameter.Some k) = some (kind_of k)
+abbrev pub verdict_meant : Result Operand Refusal → ast.Result spec.Operand
+verdict_meant (Ok x) = ast.ok (operand_meant x)
+verdict_meant (Err r) = ast.refused (refusal_number r)

@@ -1,9 +1,10 @@
--- How a stack of operands lies in two arrays: an operand is a tag, and the value that a number has. The arrays are
--- filled from the end downwards, so that the stack is what lies from its top on.
-use Rattle.std.specs.Prelude.{ℕ, ◌+◌, Bool, true, false, List, [], ◌∷◌, ◌≡◌, length, get_or, Float}
+-- The operands of a stack, as they lie in its arrays: an operand is a tag, and the value that a number has. The arrays
+-- are filled from the end downwards, so that the stack is what lies from its top on.
+use Rattle.std.specs.Prelude.{ℕ, ◌+◌, Bool, true, false, List, [], ◌∷◌, get_or, drop, Float}
 use Rattle.records.specs.Kind.{vector, scalar, matrix, string, kind_number}
 use Rattle.records.specs.Float.{zero_float}
 use Rattle.ast.specs.Operand.{Operand, number_operand, fraction_operand, string_operand, selector_operand, range_operand, subquery_operand, other_operand}
+use Rattle.rules.specs.declared.stack.Stack.{Stack}
 
 -- the tag where @ or offset is set, from the tag where neither is
 abbrev pub tag_with : ℕ → Bool → Bool → ℕ
@@ -54,7 +55,6 @@ held_operands [] xs = []
 held_operands (f ∷ fs) [] = []
 held_operands (f ∷ fs) (x ∷ xs) = operand_from f x ∷ held_operands fs xs
 
--- both arrays have a place for each record
-pub record Sized (tags : List ℕ) (values : List Float) : Type 0 where
-  pub tags-size : length tags ≡ 256
-  pub values-size : length values ≡ 256
+-- the operands on the stack, its top first
+abbrev pub held : Stack → List Operand
+held s = drop s.top (held_operands s.tags s.values)

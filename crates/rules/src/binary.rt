@@ -8,7 +8,7 @@ ghost use Rattle.rules.specs.ModifierFacts.{judge_sides};
 use crate::code::{is_comparison, is_operator, is_set_operator};
 use crate::kind::{is_scalar, is_vector};
 use crate::operand::Operand;
-use crate::refusal::{Refusal, Verdict};
+use crate::refusal::Refusal;
 use records::Kind;
 
 // What the check asks of a modifier: bool is set; a group label is in the on list too; it groups; its matching has
@@ -31,7 +31,12 @@ fn binary_kind(left: Kind, right: Kind) -> Kind
     }
 }
 
-pub fn judge_sides(code: u64, facts: ModifierFacts, left: Kind, right: Kind) -> Verdict
+pub fn judge_sides(
+    code: u64,
+    facts: ModifierFacts,
+    left: Kind,
+    right: Kind,
+) -> Result<Operand, Refusal>
     ensures { verdict_meant result ≡ judge_sides code facts (kind_of left) (kind_of right) }
 {
     let comparison = is_comparison(code);
@@ -41,28 +46,28 @@ pub fn judge_sides(code: u64, facts: ModifierFacts, left: Kind, right: Kind) -> 
     let left_vector = is_vector(left);
     let right_vector = is_vector(right);
     if !is_operator(code) {
-        return Verdict::Refused(Refusal::AggregatorAsOperator);
+        return Err(Refusal::AggregatorAsOperator);
     }
     if facts.boolean & !comparison {
-        return Verdict::Refused(Refusal::BoolWithoutComparison);
+        return Err(Refusal::BoolWithoutComparison);
     }
     if comparison & left_scalar & right_scalar & !facts.boolean {
-        return Verdict::Refused(Refusal::ScalarsCompared);
+        return Err(Refusal::ScalarsCompared);
     }
     if facts.joint {
-        return Verdict::Refused(Refusal::LabelInBothLists);
+        return Err(Refusal::LabelInBothLists);
     }
     if set & (left_scalar | right_scalar) {
-        return Verdict::Refused(Refusal::SetOfScalar);
+        return Err(Refusal::SetOfScalar);
     }
     if set & left_vector & right_vector & facts.grouped {
-        return Verdict::Refused(Refusal::SetGrouped);
+        return Err(Refusal::SetGrouped);
     }
     if !((left_scalar | left_vector) & (right_scalar | right_vector)) {
-        return Verdict::Refused(Refusal::SideKind);
+        return Err(Refusal::SideKind);
     }
     if !(left_vector & right_vector) & facts.labelled {
-        return Verdict::Refused(Refusal::MatchingWithoutVectors);
+        return Err(Refusal::MatchingWithoutVectors);
     }
-    Verdict::Put(Operand::Other(binary_kind(left, right)))
+    Ok(Operand::Other(binary_kind(left, right)))
 }

@@ -9,34 +9,19 @@ use records::Kind;
 pub fn is_vector(kind: Kind) -> bool
     ensures { result ≡ is_vector (kind_of kind) }
 {
-    match kind {
-        Kind::Vector => true,
-        Kind::Scalar => false,
-        Kind::Matrix => false,
-        Kind::String => false,
-    }
+    matches!(kind, Kind::Vector)
 }
 
 pub fn is_scalar(kind: Kind) -> bool
     ensures { result ≡ is_scalar (kind_of kind) }
 {
-    match kind {
-        Kind::Vector => false,
-        Kind::Scalar => true,
-        Kind::Matrix => false,
-        Kind::String => false,
-    }
+    matches!(kind, Kind::Scalar)
 }
 
 pub fn is_string(kind: Kind) -> bool
     ensures { result ≡ is_string (kind_of kind) }
 {
-    match kind {
-        Kind::Vector => false,
-        Kind::Scalar => false,
-        Kind::Matrix => false,
-        Kind::String => true,
-    }
+    matches!(kind, Kind::String)
 }
 
 // A scalar or a vector.

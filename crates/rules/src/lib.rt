@@ -8,7 +8,9 @@ pub mod code;
 pub mod kind;
 pub mod operand;
 pub mod refusal;
+pub mod stack;
 pub mod wrapper;
 
 pub use operand::Operand;
-pub use refusal::{Refusal, Verdict};
+pub use refusal::Refusal;
+pub use stack::Stack;

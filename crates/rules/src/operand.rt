@@ -1,10 +1,9 @@
-// Operands: what later records can ask of the expressions on the stack. The stack lies in two arrays, the tags and the
-// values of the numbers.
-ghost use Rattle.std.specs.Prelude.{◌<◌, ◌≡◌, get_or};
+// Operands: what later records can ask of the expressions on the stack.
+ghost use Rattle.std.specs.Prelude.{◌<◌, ◌≡◌};
 ghost use Rattle.records.specs.Answers.{kind_of};
-ghost use Rattle.ast.specs.Operand.{string_operand, other_operand, operand_kind};
+ghost use Rattle.ast.specs.Operand.{other_operand, operand_kind};
 ghost use Rattle.rules.specs.Answers.{operand_meant};
-ghost use Rattle.rules.specs.Stack.{tag_with, fraction_tag, tag_of, value_of, operand_from, held_operands, Sized};
+ghost use Rattle.rules.specs.Stack.{tag_with, fraction_tag, tag_of, value_of, operand_from};
 
 use records::Kind;
 
@@ -24,12 +23,10 @@ pub fn kind_of(operand: Operand) -> Kind
     ensures { kind_of result ≡ operand_kind (operand_meant operand) }
 {
     match operand {
-        Operand::Number(_) => Kind::Scalar,
-        Operand::Fraction(_) => Kind::Scalar,
+        Operand::Number(_) | Operand::Fraction(_) => Kind::Scalar,
         Operand::String => Kind::String,
         Operand::Selector(_, _) => Kind::Vector,
-        Operand::Range(_, _) => Kind::Matrix,
-        Operand::Subquery(_, _) => Kind::Matrix,
+        Operand::Range(_, _) | Operand::Subquery(_, _) => Kind::Matrix,
         Operand::Other(kind) => kind,
     }
 }
@@ -41,16 +38,12 @@ fn tag_with(tag: u8, at: bool, offset: bool) -> u8
     requires { tag < 250 }
     ensures { result ≡ tag_with tag at offset }
 {
-    if at {
-        if offset {
-            return tag + 3;
-        }
-        return tag + 1;
+    match (at, offset) {
+        (false, false) => tag,
+        (true, false) => tag + 1,
+        (false, true) => tag + 2,
+        (true, true) => tag + 3,
     }
-    if offset {
-        return tag + 2;
-    }
-    tag
 }
 
 fn kind_tag(kind: Kind) -> u8
@@ -67,10 +60,7 @@ fn kind_tag(kind: Kind) -> u8
 fn fraction_tag(minus: bool) -> u8
     ensures { result ≡ fraction_tag minus }
 {
-    if minus {
-        return 19;
-    }
-    18
+    if minus { 19 } else { 18 }
 }
 
 pub fn tag_of(operand: Operand) -> u8
@@ -92,12 +82,7 @@ pub fn value_of(operand: Operand) -> f64
 {
     match operand {
         Operand::Number(value) => value,
-        Operand::Fraction(_) => 0.0,
-        Operand::String => 0.0,
-        Operand::Selector(_, _) => 0.0,
-        Operand::Range(_, _) => 0.0,
-        Operand::Subquery(_, _) => 0.0,
-        Operand::Other(_) => 0.0,
+        _ => 0.0,
     }
 }
 
@@ -127,13 +112,4 @@ pub fn operand_from(tag: u8, value: f64) -> Operand
         19 => Operand::Fraction(true),
         _ => Operand::Other(Kind::String),
     }
-}
-
-// The operand at an index of the stack.
-pub fn operand_at(tags: &[u8], values: &[f64], i: usize) -> Operand
-    requires sized { Sized tags.now values.now }
-    requires inside { i < 256 }
-    ensures { operand_meant result ≡ get_or (held_operands tags.now values.now) i string_operand }
-{
-    operand_from(tags[i], values[i])
 }

@@ -6,7 +6,7 @@ ghost use Rattle.joint_label.specs.Answers.{IsPart};
 
 use page::{Span, text_at};
 use rules::refusal::refusal_number;
-use walk::{Outcome, check};
+use walk::check;
 
 // Where it starts and ends; no bytes where the page is not refused with 19. Only the outcome says whether there is a
 // label.
@@ -14,9 +14,9 @@ pub fn label_span(page: &[u8]) -> Span
     ensures { IsPart page.now (label_part page.now (check page.now)) result }
 {
     match check(page) {
-        Outcome::Accepted { .. } => Span { start: 0, end: 0 },
-        Outcome::Refused(refusal, index) => {
-            joint_label::joint_label(page, refusal_number(refusal), index)
+        Ok(_) => Span { start: 0, end: 0 },
+        Err(refused) => {
+            joint_label::joint_label(page, refusal_number(refused.refusal), refused.index)
         }
     }
 }

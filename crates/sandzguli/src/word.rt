@@ -2,12 +2,11 @@
 // (house format).
 ghost use Rattle.std.specs.Prelude.{◌≡◌};
 ghost use Rattle.generations.specs.Generations.{generations_number};
-ghost use Rattle.patterns.specs.Answers.{empty_text_of};
+ghost use Rattle.page.specs.Answers.{option_of, itself};
 ghost use Rattle.walk.specs.Answers.{outcome_meant};
 ghost use Rattle.sandzguli.specs.Words.{outcome_word, FitsWord, empty_text_word};
 
 use generations::Generations;
-use patterns::EmptyText;
 use records::kind_number;
 use rules::refusal::refusal_number;
 use walk::Outcome;
@@ -18,27 +17,22 @@ pub fn outcome_word(outcome: Outcome) -> u64
     ensures { result ≡ outcome_word (outcome_meant outcome) }
 {
     match outcome {
-        Outcome::Accepted { kind, written: n } => {
-            n as u64 % 2305843009213693952 * 4 + kind_number(kind)
+        Ok(accepted) => {
+            accepted.written as u64 % 2305843009213693952 * 4 + kind_number(accepted.kind)
         }
-        Outcome::Refused(refusal, index) => {
-            9223372036854775808 + refusal_number(refusal) * 65536 + index as u64
+        Err(refused) => {
+            9223372036854775808 + refusal_number(refused.refusal) * 65536 + refused.index as u64
         }
     }
 }
 
 // Covered: 1 where the pattern matches empty text, else 0. Not covered: 2.
-pub fn empty_text_word(answer: EmptyText) -> u64
-    ensures { result ≡ empty_text_word (empty_text_of answer) }
+pub fn empty_text_word(answer: Option<bool>) -> u64
+    ensures { result ≡ empty_text_word (option_of itself answer) }
 {
     match answer {
-        EmptyText::Covered(empty) => {
-            if empty {
-                return 1;
-            }
-            0
-        }
-        EmptyText::Uncovered => 2,
+        Some(empty) => empty as u64,
+        None => 2,
     }
 }
 

@@ -16,8 +16,8 @@
 // what is wanted.
 #![tactic(auto)]
 
-use input::{Block, read_block};
-use reader::{RecordField, read_record};
+use input::read_block;
+use reader::read_record;
 use record_lines::{end_line, fault_line, record_line};
 use std::io::{Stderr, Stdout};
 
@@ -33,34 +33,28 @@ fn write_line(stdout: Stdout, line: &[u8], end: usize) {
     let _ = stdout.write_all(&line[..end]);
 }
 
-// The records of a page. A record has at least one byte, so that the turns do not run out.
+// The records of a page. A record has at least one byte, so that the page ends before the turns do.
 fn show_page(stdout: Stdout, page: &[u8], line: &mut [u8]) {
-    let mut left = page.len();
     let mut at = 0;
-    let mut index: u64 = 0;
-    while 0 < left {
+    for index in 0..=page.len() {
         if page.len() <= at {
-            let end = end_line(index, line);
+            let end = end_line(index as u64, line);
             write_line(stdout, line, end);
             return;
         }
         match read_record(page, at) {
-            RecordField::Got { item: r, next } => {
-                let end = record_line(page, r, next, line);
+            Ok((item, next)) => {
+                let end = record_line(page, item, next, line);
                 write_line(stdout, line, end);
                 at = next;
             }
-            RecordField::Bad(f) => {
-                let end = fault_line(f, index, line);
+            Err(fault) => {
+                let end = fault_line(fault, index as u64, line);
                 write_line(stdout, line, end);
                 return;
             }
         }
-        index = (page.len() - left) as u64 + 1;
-        left = left - 1;
     }
-    let end = end_line(index, line);
-    write_line(stdout, line, end);
 }
 
 fn say_what_is_wanted(stderr: Stderr) {
@@ -73,23 +67,24 @@ fn say_what_is_wanted(stderr: Stderr) {
 // Shows the next page, and answers whether there was one.
 fn show_next(rt: HostRuntime, buffer: &mut [u8], line: &mut [u8]) -> bool {
     match read_block(rt.stdin(), buffer) {
-        Block::Got(size) => {
+        Ok(Some(size)) => {
             show_page(rt.stdout(), &buffer[..size], line);
             true
         }
-        Block::End => false,
-        Block::Bad => {
+        Ok(None) => false,
+        Err(_) => {
             say_what_is_wanted(rt.stderr());
             false
         }
     }
 }
 
-// Nothing says that the input ends, so the loop counts its turns down from a number that no run uses up.
+// Nothing says that the input ends, so the turns are counted, by a number that no run uses up.
 fn show_all(rt: HostRuntime, buffer: &mut [u8], line: &mut [u8]) {
-    let mut turns = u64::MAX;
-    while turns > 0 && show_next(rt, buffer, line) {
-        turns -= 1;
+    for _ in 0..u64::MAX {
+        if !show_next(rt, buffer, line) {
+            return;
+        }
     }
 }
 

@@ -18,20 +18,15 @@ pub fn with_numberless(place: Place, numberless: bool) -> Place
     ensures { result ≡ with_numberless numberless place }
 {
     Place {
-        numberless: numberless,
-        indents: place.indents,
-        level: place.level,
+        numberless,
+        ..place
     }
 }
 
 pub fn with_indents(place: Place, indents: bool) -> Place
     ensures { result ≡ with_indents indents place }
 {
-    Place {
-        numberless: place.numberless,
-        indents: indents,
-        level: place.level,
-    }
+    Place { indents, ..place }
 }
 
 // The place of the first operand, by the node's `indents` and level; `numberless` is said of the operand already.
@@ -43,8 +38,8 @@ pub fn inner_place(node: view::Node, place: Place) -> Place
     let indents = inner_indents(node, place.indents);
     let level = inner_level(node, place.level);
     Place {
-        numberless: place.numberless,
-        indents: indents,
-        level: level,
+        indents,
+        level,
+        ..place
     }
 }

@@ -28,7 +28,8 @@ use Rattle.records.specs.Field.{read_kind}
 use Rattle.records.specs.Signature.{Variadic, Function, read_variadic, read_signature}
 use Rattle.records.specs.Record.{Record, leaf, wrapper, binary, aggregate, call, record_forms, read_call, read_record, write_record}
 use Rattle.records.proofs.RecordLaws.{record-law}
-use Rattle.functions.specs.Table.{Formed}
+use Rattle.functions.specs.Answers.{Holds}
+use Rattle.functions.specs.declared.form.Table.{Table}
 use Rattle.functions.specs.Lookup.{signature_fault}
 use Rattle.functions.specs.Answers.{fault_meant, Compares}
 use Rattle.functions.specs.declared.carried.Carried.{Carried}
@@ -166,10 +167,10 @@ module _ (page : List ℕ) (at : ℕ) (fits : (i : ℕ) → Fits w8 (get_or page
             second e = cc
 
         -- the fault of the call is that of its name and of what stands behind it
-        pub call-fault : (letters names : List ℕ) (r : Carried) → Compares page name letters names r
-            → (table : List Function) → Formed letters names table → (item : Record) (rest : List ℕ)
+        pub call-fault : (lent : Table) (r : Carried) → Compares page name lent r
+            → (table : List Function) → Holds lent table → (item : Record) (rest : List ℕ)
             → got item rest ≡ read_record (drop at page) → fault_meant r ≡ signature_fault table item
-        call-fault letters names r compares table formed item rest reads =
+        call-fault lent r compares table formed item rest reads =
             compares table formed f read_here.rest name-is signed-here
             ∙ ap (signature_fault table) (sym (value (reads ∙ sym readable.reads) ∙ read_here.is_call))
           where

@@ -21,13 +21,14 @@ use Rattle.ast.specs.Reached.{reached_count, FirstAsked}
 use Rattle.ast.proofs.CheckLaws.{CheckedIn, check_page-in}
 use Rattle.ast.proofs.RulesLaws.{check_page_by-none, check_page_by-first}
 use Rattle.functions.specs.Lookup.{signature_fault, with_table}
+use Rattle.functions.specs.declared.form.Table.{Table}
 use Rattle.rules.specs.Answers.{refusal_number}
 use Rattle.walk.specs.Answers.{Accepts, Refuses}
 use Rattle.walk.proofs.ProgressLaws.{too_long}
 use Rattle.table_check.specs.Standing.{Standing, Reaches}
 use Rattle.table_check.specs.Answers.{Finds, fault_or, FaultFirst, ChecksWith}
-use Rattle.table_check.specs.declared.asked.FirstFault.{FirstFault}
-use Rattle.table_check.specs.declared.asked.FirstFault.TheVariants as first
+use Rattle.walk.specs.declared.answer.Refused.{Refused}
+use Rattle.std.specs.Prelude.{Result, Ok, Err}
 use Rattle.table_check.proofs.StandingLaws.{tables-standing}
 
 -- ## Where the records stand that the walk accepted
@@ -57,27 +58,27 @@ module _ {page starts firsts : List ℕ} where
 
 -- ## The outcome
 
-module _ {page letters names : List ℕ} {count : ℕ} {own outcome : Outcome} (faults : FaultFirst page count letters names own outcome)
+module _ {page : List ℕ} {lent : Table} {count : ℕ} {own outcome : Outcome} (faults : FaultFirst page count lent own outcome)
     (reached : count ≡ reached_count page (check_page page)) (is-own : own ≡ check page) where
-  by-fault : (table : List Function) (found : FirstFault) → Finds table page count found → fault_or found own ≡ check_by (with_table table) page
-  by-fault table first.None finds =
+  by-fault : (table : List Function) (found : Result (Unit {0}) Refused) → Finds table page count found → fault_or found own ≡ check_by (with_table table) page
+  by-fault table (Ok x) finds =
       is-own ∙ ap outcome_of (sym (check_page_by-none (with_table table) (λ r ks. refl) page
       (subst (λ (n : ℕ). Each (λ r. signature_fault table r ≡ none) (take n (read_page page).records)) reached finds)))
-  by-fault table (first.At r i) finds =
-      ap outcome_of (sym (check_page_by-first (with_table table) (λ r ks. refl) page (refusal_number r) i
-      (subst (λ (n : ℕ). FirstAsked (signature_fault table) (read_page page).records n (refusal_number r) i) reached finds)))
+  by-fault table (Err r) finds =
+      ap outcome_of (sym (check_page_by-first (with_table table) (λ r ks. refl) page (refusal_number r.refusal) r.index
+      (subst (λ (n : ℕ). FirstAsked (signature_fault table) (read_page page).records n (refusal_number r.refusal) r.index) reached finds)))
 
-  checks-with : ChecksWith page letters names outcome
+  checks-with : ChecksWith page lent outcome
   checks-with table formed = faults.is ∙ by-fault table faults.found (faults.finds table formed)
 
-module _ {page starts firsts letters names : List ℕ} {outcome : Outcome} where
-  pub accepted-with : {k : Kind} {n : ℕ} → Accepts (check_page page) page starts firsts k n → FaultFirst page n letters names (answer k 0) outcome
-      → ChecksWith page letters names outcome
+module _ {page starts firsts : List ℕ} {lent : Table} {outcome : Outcome} where
+  pub accepted-with : {k : Kind} {n : ℕ} → Accepts (check_page page) page starts firsts k n → FaultFirst page n lent (answer k 0) outcome
+      → ChecksWith page lent outcome
   accepted-with says faults =
       checks-with faults (sym (ap (reached_count page) says.tree))
       (ap {B = Outcome} (λ k. answer k 0) (sym says.kind) ∙ sym (ap outcome_of says.tree))
 
   pub refused-with : {m i count : ℕ} {table : List ℕ} → Refuses (check_page page) page starts firsts m i → Reaches page i table count
-      → FaultFirst page count letters names (refusal m i) outcome → ChecksWith page letters names outcome
+      → FaultFirst page count lent (refusal m i) outcome → ChecksWith page lent outcome
   refused-with says reaches faults =
       checks-with faults (reaches.is_count ∙ sym (ap (reached_count page) says.refuses)) (sym (ap outcome_of says.refuses))

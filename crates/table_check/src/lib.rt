@@ -7,17 +7,17 @@
 pub mod asked;
 pub mod reached;
 
-ghost use Rattle.std.specs.Prelude.{◌≡◌, T};
-ghost use Rattle.functions.specs.Table.{is_table};
+ghost use Rattle.std.specs.Prelude.{◌≡◌};
 ghost use Rattle.functions.specs.TableContract.{TableContract};
 ghost use Rattle.walk.specs.Answers.{outcome_meant};
 ghost use Rattle.table_check.specs.Standing.{Standing};
 ghost use Rattle.table_check.specs.Answers.{ChecksWith, FaultFirst};
 
-use asked::{FirstFault, first_fault};
+use asked::first_fault;
+use functions::form::Table;
 use functions::table;
 use reached::reached;
-use walk::{Outcome, Walked, walk};
+use walk::{Accepted, Outcome, walk};
 
 // A start of the walk's table, as a position.
 fn wide(start: u16) -> usize
@@ -31,36 +31,33 @@ pub fn outcome_with(
     page: &[u8],
     starts: &[u16],
     count: usize,
-    letters: &[u8],
-    names: &[u16],
+    table: &Table,
     own: Outcome,
 ) -> Outcome
-    requires known { Standing page.now starts.now count }
-    requires table { T (is_table letters.now names.now) }
-    ensures { FaultFirst page.now count letters.now names.now (outcome_meant own) (outcome_meant result) }
+    requires { Standing page.now starts.now count }
+    ensures { FaultFirst page.now count table.now (outcome_meant own) (outcome_meant result) }
 {
-    match first_fault(page, starts, count, letters, names) {
-        FirstFault::None => own,
-        FirstFault::At(refusal, index) => Outcome::Refused(refusal, index),
-    }
+    first_fault(page, starts, count, table)?;
+    own
 }
 
-// The check with the table that lies in the arrays.
-pub fn check_with(page: &[u8], letters: &[u8], names: &[u16]) -> Outcome
-    requires { T (is_table letters.now names.now) }
-    ensures { ChecksWith page.now letters.now names.now (outcome_meant result) }
+// The check with a table.
+pub fn check_with(page: &[u8], table: &Table) -> Outcome
+    ensures { ChecksWith page.now table.now (outcome_meant result) }
 {
     let mut starts = [0u16; page::RECORD_LIMIT];
     let mut firsts = [0u8; page::RECORD_LIMIT];
     match walk(page, &mut starts, &mut firsts) {
-        Walked::Accepted { kind, count } => {
-            let own = Outcome::Accepted { kind, written: 0 };
-            outcome_with(page, &starts, count, letters, names, own)
+        Ok(walked) => {
+            let own = Ok(Accepted {
+                kind: walked.kind,
+                written: 0,
+            });
+            outcome_with(page, &starts, walked.count, table, own)
         }
-        Walked::Refused(refusal, index) => {
-            let count = reached(page, &mut starts, index);
-            let own = Outcome::Refused(refusal, index);
-            outcome_with(page, &starts, count, letters, names, own)
+        Err(refused) => {
+            let count = reached(page, &mut starts, refused.index);
+            outcome_with(page, &starts, count, table, Err(refused))
         }
     }
 }
@@ -71,5 +68,9 @@ pub fn check_table(page: &[u8]) -> Outcome
 {
     let letters = table::LETTERS;
     let names = table::STARTS;
-    check_with(page, &letters, &names)
+    let table = Table {
+        letters: &letters,
+        starts: &names,
+    };
+    check_with(page, &table)
 }

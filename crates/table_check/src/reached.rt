@@ -5,7 +5,7 @@ ghost use Rattle.ast.specs.Table.{record_count};
 ghost use Rattle.table_check.specs.Standing.{Standing, NextStands, Reaches};
 
 use crate::wide;
-use reader::{RecordField, read_record};
+use reader::read_record;
 
 // Where the record after the first `count` ones stands, or would stand.
 fn next_start(page: &[u8], starts: &[u16], count: usize) -> usize
@@ -17,8 +17,8 @@ fn next_start(page: &[u8], starts: &[u16], count: usize) -> usize
         return 0;
     }
     match read_record(page, wide(starts[count - 1])) {
-        RecordField::Got { next, .. } => page::within(page, next),
-        RecordField::Bad(_) => page.len(),
+        Ok((_, next)) => page::within(page, next),
+        Err(_) => page.len(),
     }
 }
 
@@ -36,10 +36,10 @@ pub fn reached(page: &[u8], starts: &mut [u16], index: usize) -> usize
     }
     let at = next_start(page, starts, index);
     match read_record(page, at) {
-        RecordField::Got { .. } => {
+        Ok(_) => {
             starts[index] = at as u16;
             index + 1
         }
-        RecordField::Bad(_) => index,
+        Err(_) => index,
     }
 }

@@ -2,20 +2,10 @@
 // `offset`).
 #![tactic(auto)]
 
-#[derive(Clone, Copy)]
-pub enum At {
-    None,
-    Some(records::AtModifier),
-}
-
-#[derive(Clone, Copy)]
-pub enum Shift {
-    None,
-    Some(records::Offset),
-}
+use records::{AtModifier, Offset};
 
 #[derive(Clone, Copy)]
 pub struct Times {
-    pub at: At,
-    pub offset: Shift,
+    pub at: Option<AtModifier>,
+    pub offset: Option<Offset>,
 }

@@ -1,15 +1,17 @@
 -- Tokens with labels in brackets: the texts of matching, cardinality and grouping by their forms, as the code has them.
 -- Assumes nothing.
-use Prim.Native.Nat.{ℕ, ◌+◌, min}
+use Prim.Native.Nat.{ℕ}
 use Prim.Native.String.{String}
 use native.Mathlib.Omega.{arith}
+use Rattle.std.specs.Prelude.{Some, None}
+use Rattle.std.specs.Prelude.{Option as Given}
 use mathlib.Core.Bool.{Bool, true, false}
 use mathlib.Core.List.{List, [], ◌∷◌, ◌++◌, append_assoc}
 use mathlib.Core.Option.{some}
 use mathlib.Core.Path.{◌≡◌, refl, sym, ap, ◌∙◌}
-use lib.ListN.{length, length-append, drop}
+use lib.ListN.{length, drop}
 use Rattle.base.specs.Splice.{join}
-use Rattle.base.proofs.SpliceLaws.{Cut, cut-length}
+use Rattle.base.proofs.SpliceLaws.{Cut}
 use Rattle.page.specs.Bytes.{pick, bytes, is_empty}
 use Rattle.page.specs.Read.{Reader}
 use Rattle.page.specs.Text.{read_any_text}
@@ -20,7 +22,7 @@ use Rattle.records.specs.Field.{Labels}
 use Rattle.records.specs.Modifier.{include, exclude}
 use Rattle.records.specs.Answers.{labels_on, label_modifier_on, LabelModifierStored, cardinality_on}
 use Rattle.records.specs.declared.modifier.LabelModifier.{LabelModifier}
-use Rattle.records.specs.declared.modifier.LabelModifier.TheVariants.{None, Include, Exclude}
+use Rattle.records.specs.declared.modifier.LabelModifier.TheVariants.{Include, Exclude}
 use Rattle.records.specs.declared.modifier.Cardinality.{Cardinality}
 use Rattle.records.specs.declared.modifier.Cardinality.TheVariants.{OneToOne, ManyToOne, OneToMany, ManyToMany}
 use Rattle.label.specs.Label.{display_labels}
@@ -38,10 +40,6 @@ four a b c d = append_assoc (a ++ b) c d ∙ append_assoc a b (c ++ d)
 pub labelled-bytes : (w : String) (ls : Labels) → labelled w ls ≡ labelled_bytes (bytes w) ls
 unfolding labelled_bytes join
 labelled-bytes w ls = four (bytes w) (bytes " (") (display_labels ls) (bytes ")")
-
-pub length-labelled_bytes : (w : List ℕ) (ls : Labels) → length (labelled_bytes w ls) ≡ length w + 3 + length (display_labels ls)
-unfolding labelled_bytes join
-length-labelled_bytes w ls = omega (arith, length-append w (32 ∷ 40 ∷ (display_labels ls ++ (bytes ")"))), length-append (display_labels ls) (bytes ")"))
 
 -- ## is_empty of a list that can be read: its count says it
 
@@ -74,46 +72,46 @@ ungrouped : (ls : Labels) → is_empty ls ≡ true → display_grouping (some (i
 ungrouped [] e = refl
 ungrouped (l ∷ ls) e = absurd (never e)
 
-module _ (page : List ℕ) (m : LabelModifier) where
+module _ (page : List ℕ) (m : Given LabelModifier) where
   pub matching-none : m ≡ None → display_matching (label_modifier_on page m) ≡ []
   matching-none e = rw e
 
-  pub matching-on : (list : page-list.List) → m ≡ Include list
+  pub matching-on : (list : page-list.List) {own : LabelModifier} → m ≡ Some own → own ≡ Include list
       → display_matching (label_modifier_on page m)
       ≡ labelled_bytes (bytes " on") (labels_on page list.start list.count)
-  matching-on list e = rw e (labelled-bytes " on" (labels_on page list.start list.count))
+  matching-on list e own-is = rw (e, own-is) (labelled-bytes " on" (labels_on page list.start list.count))
 
-  module _ (list : page-list.List) (e : m ≡ Exclude list) where
+  module _ (list : page-list.List) {own : LabelModifier} (e : m ≡ Some own) (own-is : own ≡ Exclude list) where
     pub matching-vanishes : list.count ≡ 0 → display_matching (label_modifier_on page m) ≡ []
-    matching-vanishes none = rw e (vanished (labels_on page list.start list.count) (none-listed read_any_text list.count (drop list.start page) none))
+    matching-vanishes none = rw (e, own-is) (vanished (labels_on page list.start list.count) (none-listed read_any_text list.count (drop list.start page) none))
 
     pub matching-ignoring : LabelModifierStored page m → (list.count ≡ 0 → ⊥)
         → display_matching (label_modifier_on page m)
         ≡ labelled_bytes (bytes " ignoring") (labels_on page list.start list.count)
-    matching-ignoring all some' = rw e
+    matching-ignoring all some' = rw (e, own-is)
         (ignored (labels_on page list.start list.count)
-        (some-listed read_any_text list.count (drop list.start page) (rw e at all) some')
+        (some-listed read_any_text list.count (drop list.start page) (rw (e, own-is) at all) some')
         ∙ labelled-bytes " ignoring" (labels_on page list.start list.count))
 
   pub grouping-none : m ≡ None → display_grouping (label_modifier_on page m) ≡ []
   grouping-none e = rw e
 
-  pub grouping-without : (list : page-list.List) → m ≡ Exclude list
+  pub grouping-without : (list : page-list.List) {own : LabelModifier} → m ≡ Some own → own ≡ Exclude list
       → Cut (display_grouping (label_modifier_on page m)) (labelled_bytes (bytes " without") (labels_on page list.start list.count)) (bytes " ")
-  grouping-without list e = record { is = rw e (ap (λ (l : List ℕ). l ++ (bytes " ")) (labelled-bytes " without" (labels_on page list.start list.count))) }
+  grouping-without list e own-is = record { is = rw (e, own-is) (ap (λ (l : List ℕ). l ++ (bytes " ")) (labelled-bytes " without" (labels_on page list.start list.count))) }
 
-  module _ (list : page-list.List) (e : m ≡ Include list) where
+  module _ (list : page-list.List) {own : LabelModifier} (e : m ≡ Some own) (own-is : own ≡ Include list) where
     pub grouping-vanishes : list.count ≡ 0 → display_grouping (label_modifier_on page m) ≡ []
-    grouping-vanishes none = rw e (ungrouped (labels_on page list.start list.count) (none-listed read_any_text list.count (drop list.start page) none))
+    grouping-vanishes none = rw (e, own-is) (ungrouped (labels_on page list.start list.count) (none-listed read_any_text list.count (drop list.start page) none))
 
     pub grouping-by : LabelModifierStored page m → (list.count ≡ 0 → ⊥)
         → Cut (display_grouping (label_modifier_on page m))
         (labelled_bytes (bytes " by") (labels_on page list.start list.count)) (bytes " ")
     grouping-by all some' =
         record {
-          is = rw e
+          is = rw (e, own-is)
               (grouped (labels_on page list.start list.count)
-              (some-listed read_any_text list.count (drop list.start page) (rw e at all) some')
+              (some-listed read_any_text list.count (drop list.start page) (rw (e, own-is) at all) some')
               ∙ ap (λ (l : List ℕ). l ++ (bytes " ")) (labelled-bytes " by" (labels_on page list.start list.count)));
         }
 
@@ -133,10 +131,3 @@ module _ (page : List ℕ) (c : Cardinality) where
   pub cardinality-right : (list : page-list.List) → c ≡ OneToMany list
       → display_cardinality (cardinality_on page c) ≡ labelled_bytes (bytes " group_right") (labels_on page list.start list.count)
   cardinality-right list e = rw e (labelled-bytes " group_right" (labels_on page list.start list.count))
-
--- ## Lengths
-
--- a list with a space after it: n is the length of its token and that space
-pub grouping-measured : {text : List ℕ} (w : List ℕ) (ls : Labels) (n cap r : ℕ) → n ≡ length w + 1 → Cut text (labelled_bytes w ls) (bytes " ")
-    → r ≡ min (n + 3 + length (display_labels ls)) cap → r ≡ min (length text) cap
-grouping-measured w ls n cap r e cutting is = omega (arith, cut-length cutting, length-labelled_bytes w ls)

@@ -1,14 +1,12 @@
 -- The tables hold the tokens of the codes: one computed test over all places. Assumes nothing.
-use Prim.Native.Nat.{ℕ, suc, ◌+◌, ◌-◌, ◌≤◌, ◌<◌}
-use native.Mathlib.Numerals.{add-one}
+use Prim.Native.Nat.{ℕ, ◌+◌, ◌-◌, ◌≤◌, ◌<◌}
 use native.Mathlib.Omega.{arith}
 use mathlib.Core.Bool.{Bool}
 use mathlib.Core.List.{List, [], ◌∷◌}
 use mathlib.Core.Path.{◌≡◌, refl, sym, ap, ◌∙◌}
 use lib.Dec.{T, leb, eqb, eqb→eq, leb→le}
 use lib.ListN.{length, get_or, take, drop, length-drop, get_or-eq_default}
-use lib.Seq.{get_or-take, drop-cons, length-take-le}
-use Rattle.base.proofs.SpliceLaws.{Cut}
+use lib.Seq.{get_or-take, length-take-le}
 use Rattle.base.proofs.Table.{at}
 use Rattle.page.specs.Bytes.{equal, bytes}
 use Rattle.page.proofs.NumberLaws.{left-of, right_of}
@@ -78,28 +76,10 @@ place-past c h = (placed 30 (omega arith)).token ∙ ap bytes (sym (get_or-eq_de
 pub place-code : (c : ℕ) → c ≤ 30 → (c ≡ 0 → ⊥) → token_at (c - 1) ≡ token c
 place-code c h n = (placed (c - 1) (omega arith)).token
 
--- ## token_at, a letter at a time
+-- ## token_at
 
 pub length-token_at : (i : ℕ) → i < 31 → length (token_at i) ≡ get_or starts (i + 1) 0 - get_or starts i 0
 unfolding token_at
 length-token_at i h =
     let p = placed i h in
     length-take-le _ (drop (get_or starts i 0) letters) (let e = length-drop (get_or starts i 0) letters in omega (arith, p.inside, p.ordered))
-
--- what is left of a token from letter i on
-unfoldable pub letters_to : ℕ → ℕ → List ℕ
-letters_to end i = take (end - i) (drop i letters)
-
-pub token-starts : (c p : ℕ) → token_at p ≡ token c → token c ≡ letters_to (get_or starts (p + 1) 0) (get_or starts p 0)
-unfolding token_at letters_to
-token-starts c p e = sym e
-
-pub token-letter : (end i : ℕ) → i < end → i < length letters → Cut (letters_to end i) (get_or letters i 0 ∷ []) (letters_to end (i + 1))
-unfolding letters_to
-token-letter end i h k =
-    let e : end - i ≡ suc (end - (i + 1)) = omega arith in
-    record { is = rw (e, add-one i, drop-cons letters i 0 k) }
-
-pub token-ends : (end i : ℕ) → end ≤ i → letters_to end i ≡ []
-unfolding letters_to
-token-ends end i h = let e : end - i ≡ 0 = omega arith in rw e

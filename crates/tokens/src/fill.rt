@@ -4,7 +4,8 @@ ghost use Rattle.std.specs.Prelude.{◌≡◌, ◌+◌, ◌≤◌, length};
 ghost use Rattle.base.specs.Splice.{Wrote};
 ghost use Rattle.records.specs.Float.{IsExact};
 ghost use Rattle.records.specs.Allowed.{IsFill};
-ghost use Rattle.records.specs.Answers.{literal_of, fill_of};
+ghost use Rattle.page.specs.Answers.{option_of};
+ghost use Rattle.records.specs.Answers.{literal_of};
 ghost use Rattle.float.specs.Fills.{fill_values};
 ghost use Rattle.leaves.specs.Numeral.{display_fill};
 ghost use Rattle.text.specs.Display.{display_fills};
@@ -13,7 +14,7 @@ ghost use Rattle.tokens.specs.Labelled.{fill_digits, filled_bytes, both_fills};
 use float::{FillValues, same_fills};
 use leaves::{numeral_len, put_fill};
 use page::{put_byte, put_bytes};
-use records::{Fill, Literal};
+use records::Literal;
 
 // The length with a token of so many bytes.
 fn filled_len(token: usize, literal: Literal) -> usize
@@ -57,19 +58,19 @@ fn put_both(same: bool, left: Literal, right: Literal, out: &mut [u8], at: usize
 }
 
 // The digits of a fill, and those of 0 where there is none, which nobody prints.
-fn digits_of(fill: Fill) -> Literal
-    ensures { literal_of result ≡ fill_digits (fill_of fill) }
+fn digits_of(fill: Option<Literal>) -> Literal
+    ensures { literal_of result ≡ fill_digits (option_of literal_of fill) }
 {
     match fill {
-        Fill::None => Literal::Whole(0),
-        Fill::Some(literal) => literal,
+        None => Literal::Whole(0),
+        Some(literal) => literal,
     }
 }
 
 // The bools of the values say which fills are there, the numbers whether they are equal; the digits are the literals'.
-pub fn fills_len(values: FillValues, lhs: Fill, rhs: Fill) -> usize
-    requires { (values ≡ fill_values (fill_of lhs) (fill_of rhs)) × IsFill (fill_of lhs) × IsFill (fill_of rhs) }
-    ensures { result ≡ length (display_fills (fill_of lhs) (fill_of rhs)) }
+pub fn fills_len(values: FillValues, lhs: Option<Literal>, rhs: Option<Literal>) -> usize
+    requires { (values ≡ fill_values (option_of literal_of lhs) (option_of literal_of rhs)) × IsFill (option_of literal_of lhs) × IsFill (option_of literal_of rhs) }
+    ensures { result ≡ length (display_fills (option_of literal_of lhs) (option_of literal_of rhs)) }
 {
     if values.has_left {
         if values.has_right {
@@ -83,10 +84,16 @@ pub fn fills_len(values: FillValues, lhs: Fill, rhs: Fill) -> usize
     0
 }
 
-pub fn put_fills(values: FillValues, lhs: Fill, rhs: Fill, out: &mut [u8], at: usize) -> usize
-    requires exact { (values ≡ fill_values (fill_of lhs) (fill_of rhs)) × IsFill (fill_of lhs) × IsFill (fill_of rhs) }
-    requires room { at + length (display_fills (fill_of lhs) (fill_of rhs)) ≤ length out.old }
-    ensures { Wrote out.old out.new at (display_fills (fill_of lhs) (fill_of rhs)) result }
+pub fn put_fills(
+    values: FillValues,
+    lhs: Option<Literal>,
+    rhs: Option<Literal>,
+    out: &mut [u8],
+    at: usize,
+) -> usize
+    requires exact { (values ≡ fill_values (option_of literal_of lhs) (option_of literal_of rhs)) × IsFill (option_of literal_of lhs) × IsFill (option_of literal_of rhs) }
+    requires room { at + length (display_fills (option_of literal_of lhs) (option_of literal_of rhs)) ≤ length out.old }
+    ensures { Wrote out.old out.new at (display_fills (option_of literal_of lhs) (option_of literal_of rhs)) result }
 {
     if values.has_left {
         if values.has_right {

@@ -10,12 +10,14 @@ use page::put_byte;
 use records::{Cardinality, LabelModifier};
 
 // `ignoring ()` vanishes, `on ()` is printed.
-pub fn matching_len(page: &[u8], matching: LabelModifier, cap: usize) -> usize
+pub fn matching_len(page: &[u8], matching: Option<LabelModifier>, cap: usize) -> usize
     requires { LabelModifierStored page.now matching }
     ensures { result ≡ min (length (display_matching (label_modifier_on page.now matching))) cap }
 {
-    match matching {
-        LabelModifier::None => 0,
+    let Some(own) = matching else {
+        return 0;
+    };
+    match own {
         LabelModifier::Include(list) => labelled_len(3, page, list.start, list.count, cap),
         LabelModifier::Exclude(list) => {
             if list.count == 0 {
@@ -26,13 +28,20 @@ pub fn matching_len(page: &[u8], matching: LabelModifier, cap: usize) -> usize
     }
 }
 
-pub fn put_matching(page: &[u8], matching: LabelModifier, out: &mut [u8], at: usize) -> usize
+pub fn put_matching(
+    page: &[u8],
+    matching: Option<LabelModifier>,
+    out: &mut [u8],
+    at: usize,
+) -> usize
     requires stored { LabelModifierStored page.now matching }
     requires room { at + length (display_matching (label_modifier_on page.now matching)) ≤ length out.old }
     ensures { Wrote out.old out.new at (display_matching (label_modifier_on page.now matching)) result }
 {
-    match matching {
-        LabelModifier::None => at,
+    let Some(own) = matching else {
+        return at;
+    };
+    match own {
         LabelModifier::Include(list) => put_labelled(b" on", page, list.start, list.count, out, at),
         LabelModifier::Exclude(list) => {
             if list.count == 0 {
@@ -83,12 +92,14 @@ pub fn put_cardinality(page: &[u8], card: Cardinality, out: &mut [u8], at: usize
 }
 
 // `by ()` vanishes, `without ()` is printed. A space stands after a list.
-pub fn grouping_len(page: &[u8], grouping: LabelModifier, cap: usize) -> usize
+pub fn grouping_len(page: &[u8], grouping: Option<LabelModifier>, cap: usize) -> usize
     requires { LabelModifierStored page.now grouping }
     ensures { result ≡ min (length (display_grouping (label_modifier_on page.now grouping))) cap }
 {
-    match grouping {
-        LabelModifier::None => 0,
+    let Some(own) = grouping else {
+        return 0;
+    };
+    match own {
         LabelModifier::Include(list) => {
             if list.count == 0 {
                 return 0;
@@ -99,13 +110,20 @@ pub fn grouping_len(page: &[u8], grouping: LabelModifier, cap: usize) -> usize
     }
 }
 
-pub fn put_grouping(page: &[u8], grouping: LabelModifier, out: &mut [u8], at: usize) -> usize
+pub fn put_grouping(
+    page: &[u8],
+    grouping: Option<LabelModifier>,
+    out: &mut [u8],
+    at: usize,
+) -> usize
     requires stored { LabelModifierStored page.now grouping }
     requires room { at + length (display_grouping (label_modifier_on page.now grouping)) ≤ length out.old }
     ensures { Wrote out.old out.new at (display_grouping (label_modifier_on page.now grouping)) result }
 {
-    match grouping {
-        LabelModifier::None => at,
+    let Some(own) = grouping else {
+        return at;
+    };
+    match own {
         LabelModifier::Include(labels) => {
             if labels.count == 0 {
                 return at;

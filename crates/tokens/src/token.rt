@@ -4,7 +4,7 @@ ghost use Rattle.base.specs.Splice.{Wrote};
 ghost use Rattle.records.specs.Code.{token};
 ghost use Rattle.tokens.specs.Tokens.{token_at};
 
-use page::put_byte;
+use page::put_bytes;
 
 const LETTERS: [u8; 114] = *b"\
     +/==>=>andor<<=unless%*!=^-atan2\
@@ -43,12 +43,7 @@ pub fn put_token(code: u64, out: &mut [u8], at: usize) -> usize
     ensures { Wrote out.old out.new at (token code) result }
 {
     let place = place_of(code);
+    let start = STARTS[place] as usize;
     let end = STARTS[place + 1] as usize;
-    let mut i = STARTS[place] as usize;
-    let mut pos = at;
-    while i < end {
-        pos = put_byte(LETTERS[i], out, pos);
-        i = i + 1;
-    }
-    pos
+    put_bytes(&LETTERS[start..end], out, at)
 }

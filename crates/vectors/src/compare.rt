@@ -1,9 +1,8 @@
 // What the calls answer, beside what the entry says.
-use page::same_text;
 use sandzguli::face::{
     sandzguli_canonical, sandzguli_check, sandzguli_copy, sandzguli_joint_label, sandzguli_split,
 };
-use walk::{Walked, walk};
+use walk::walk;
 
 // The lowest word of a refusal, 2^63.
 const REFUSED: u64 = 9223372036854775808;
@@ -40,14 +39,6 @@ fn ask_part(call: Call, page: &[u8], out: &mut [u8], size: usize) -> u64 {
     ask(call, page, &mut out[..size])
 }
 
-// Whether a buffer starts with a text.
-fn holds(out: &[u8], text: &[u8]) -> bool {
-    if out.len() < text.len() {
-        return false;
-    }
-    same_text(&out[..text.len()], text)
-}
-
 fn first_byte(text: &[u8]) -> u8 {
     if text.len() == 0 {
         return 0;
@@ -75,10 +66,8 @@ fn is_too_short(page: &[u8], word: u64) -> bool {
     let mut starts = [0u16; page::RECORD_LIMIT];
     let mut firsts = [0u8; page::RECORD_LIMIT];
     match walk(page, &mut starts, &mut firsts) {
-        Walked::Accepted { count, .. } => {
-            (word / 65536 == TOO_SHORT) & (word % 65536 == count as u64)
-        }
-        Walked::Refused(_, _) => false,
+        Ok(walked) => (word / 65536 == TOO_SHORT) & (word % 65536 == walked.count as u64),
+        Err(_) => false,
     }
 }
 
@@ -96,7 +85,7 @@ fn short_refused(call: Call, page: &[u8], text: &[u8], out: &mut [u8]) -> bool {
 // Exactly the text's size: the text and its length, with the kind.
 fn written(call: Call, page: &[u8], kind: u64, text: &[u8], out: &mut [u8]) -> bool {
     let word = ask_part(call, page, out, text.len());
-    (word % 4 == kind) & (word / 4 == text.len() as u64) & holds(out, text)
+    (word % 4 == kind) & (word / 4 == text.len() as u64) & out.starts_with(text)
 }
 
 // What a call writes, or its refusal.

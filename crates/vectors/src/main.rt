@@ -10,16 +10,9 @@ mod compare;
 mod word;
 
 use compare::{Call, check_equal, writes_equal};
-use input::{Block, read_block};
+use input::read_block;
 use std::io::{Stdin, Stdout};
-use word::{Word, read_word};
-
-#[derive(Clone, Copy)]
-enum Replayed {
-    Equal,
-    Different,
-    End,
-}
+use word::read_word;
 
 // The next text of the entry, and whether the call writes it.
 fn replay_text(
@@ -31,36 +24,32 @@ fn replay_text(
     out: &mut [u8],
 ) -> bool {
     match read_block(stdin, text) {
-        Block::Got(size) => writes_equal(call, page, outcome, &text[..size], out),
-        Block::End => false,
-        Block::Bad => false,
+        Ok(Some(size)) => writes_equal(call, page, outcome, &text[..size], out),
+        _ => false,
     }
 }
 
-fn replay_entry(stdin: Stdin, page: &[u8], text: &mut [u8], out: &mut [u8]) -> Replayed {
-    match read_word(stdin) {
-        Word::Got(outcome) => match read_word(stdin) {
-            Word::Got(label) => {
-                let checked = check_equal(page, outcome, label);
-                let copied = replay_text(stdin, Call::Copy, page, outcome, text, out);
-                let canonical = replay_text(stdin, Call::Canonical, page, outcome, text, out);
-                let split = replay_text(stdin, Call::Split, page, outcome, text, out);
-                if checked & copied & canonical & split {
-                    return Replayed::Equal;
-                }
-                Replayed::Different
-            }
-            Word::End => Replayed::Different,
-        },
-        Word::End => Replayed::Different,
-    }
+// Whether the calls answer what the entry of a page says.
+fn replay_entry(stdin: Stdin, page: &[u8], text: &mut [u8], out: &mut [u8]) -> bool {
+    let Some(outcome) = read_word(stdin) else {
+        return false;
+    };
+    let Some(label) = read_word(stdin) else {
+        return false;
+    };
+    let checked = check_equal(page, outcome, label);
+    let copied = replay_text(stdin, Call::Copy, page, outcome, text, out);
+    let canonical = replay_text(stdin, Call::Canonical, page, outcome, text, out);
+    let split = replay_text(stdin, Call::Split, page, outcome, text, out);
+    checked & copied & canonical & split
 }
 
-fn replay_next(stdin: Stdin, page: &mut [u8], text: &mut [u8], out: &mut [u8]) -> Replayed {
+// The same of the next entry; none where the input has ended.
+fn replay_next(stdin: Stdin, page: &mut [u8], text: &mut [u8], out: &mut [u8]) -> Option<bool> {
     match read_block(stdin, page) {
-        Block::Got(size) => replay_entry(stdin, &page[..size], text, out),
-        Block::End => Replayed::End,
-        Block::Bad => Replayed::Different,
+        Ok(Some(size)) => Some(replay_entry(stdin, &page[..size], text, out)),
+        Ok(None) => None,
+        Err(_) => Some(false),
     }
 }
 
@@ -72,22 +61,19 @@ fn report_different(stdout: Stdout, entry: u64) {
     let _ = println!(stdout; "entry {entry} differs");
 }
 
-// Nothing says that the input ends, so the loop counts its turns down from a number that no run uses up.
+// Nothing says that the input ends, so the loop counts its turns up to a number that no run uses up.
 const TURNS: u64 = 4294967296;
 
 fn replay_all(rt: HostRuntime, page: &mut [u8], text: &mut [u8], out: &mut [u8]) {
-    let mut turns = TURNS;
-    while turns > 0 {
+    for turn in 0..TURNS {
         match replay_next(rt.stdin(), page, text, out) {
-            Replayed::Equal => {
-                turns -= 1;
-            }
-            Replayed::Different => {
-                report_different(rt.stdout(), TURNS - turns);
+            Some(true) => {}
+            Some(false) => {
+                report_different(rt.stdout(), turn);
                 return;
             }
-            Replayed::End => {
-                report_equal(rt.stdout(), TURNS - turns);
+            None => {
+                report_equal(rt.stdout(), turn);
                 return;
             }
         }

@@ -1,9 +1,11 @@
 -- What the functions of this crate say of a page's records.
-use Rattle.std.specs.Prelude.{ℕ, suc, ◌-◌, ◌≡◌, Bool, true, false, ◌||◌, List, eqb}
+use Rattle.std.specs.Prelude.{ℕ, suc, ◌-◌, ◌≡◌, Bool, true, false, ◌||◌, List, eqb, Some, None}
+use Rattle.std.specs.Prelude.{Option as Given}
 use Rattle.std.proofs.Math.Option.{Option, none, some}
 use Rattle.records.specs.Literal as literal
 use Rattle.records.specs.Time.{Times, AtModifier, Offset}
 use Rattle.records.specs.Answers.{literal_of}
+use Rattle.records.specs.declared.literal.Literal.{Literal}
 use Rattle.records.specs.Record.{number, range, at, offset, unary, Record, leaf}
 use Rattle.records.specs.Record.{wrapper, operands, record_kind}
 use Rattle.ast.specs.Expr.{scalar_value}
@@ -15,8 +17,6 @@ use Rattle.text.specs.LaidOut.{Reads, LaidOut}
 use Rattle.view.specs.declared.Foot.{Foot}
 use Rattle.view.specs.declared.Foot.TheVariants as foot
 use Rattle.view.specs.declared.Node.{Node}
-use Rattle.view.specs.declared.literal.Signed.{Signed}
-use Rattle.view.specs.declared.literal.Signed.TheVariants as sign
 use Rattle.view.specs.declared.shape.Shape.{Shape}
 use Rattle.view.specs.declared.shape.Shape.TheVariants as shape
 
@@ -78,9 +78,9 @@ pub data NumberAt (page starts : List ℕ) : ℕ → literal.Literal → Type 0 
   turned : {i : ℕ} {l : literal.Literal} → Reads page starts i (wrapper unary) → NumberAt page starts (i - 1) l → NumberAt page starts i (literal.negate l)
 
 -- the number that record i ends, or that the tree is no bare number
-abbrev pub SignedAt : List ℕ → List ℕ → ℕ → Signed → Type 0
-SignedAt page starts i (sign.Number l) = NumberAt page starts i (literal_of l)
-SignedAt page starts i sign.Other = scalar_value (tree_at page i) ≡ none
+abbrev pub SignedAt : List ℕ → List ℕ → ℕ → Given Literal → Type 0
+SignedAt page starts i (Some l) = NumberAt page starts i (literal_of l)
+SignedAt page starts i None = scalar_value (tree_at page i) ≡ none
 
 -- record i ends a bare number
 pub record Valued (page starts : List ℕ) (i : ℕ) : Type 0 where

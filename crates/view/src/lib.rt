@@ -7,9 +7,10 @@ pub mod literal;
 pub mod shape;
 
 ghost use Rattle.std.specs.Prelude.{◌≡◌, suc, ◌+◌, ◌<◌, length, get_or};
-ghost use Rattle.view.specs.View.{Starts, KindAt, TakesAt, FootOf, Viewed, Numberless};
+ghost use Rattle.view.specs.View.{Starts, KindAt, TakesAt, is_attached, FootOf, Viewed, Numberless};
 
-pub use literal::{Signed, signed_literal};
+pub use literal::signed_literal;
+use reader::{operand_count, read_record};
 pub use shape::{Shape, is_minus, shape_of};
 
 // What stands at the foot of a node.
@@ -60,10 +61,17 @@ fn operands_at(page: &[u8], starts: &[u16], i: usize) -> usize
     ensures { TakesAt page.now starts.now i result }
 {
     let start = starts[i] as usize;
-    match reader::read_record(page, start) {
-        reader::RecordField::Got { item, .. } => reader::operand_count(item),
-        reader::RecordField::Bad(_) => 0,
+    match read_record(page, start) {
+        Ok((item, _)) => operand_count(item),
+        Err(_) => 0,
     }
+}
+
+// Whether a record of this kind is a range, an @ or an offset: attached to the node of the record below.
+fn is_attached(kind: u8) -> bool
+    ensures { result ≡ is_attached kind }
+{
+    matches!(kind, 3 | 5 | 6)
 }
 
 // The foot of record i's node: the first record down from it that is no range, @ or offset.
@@ -72,24 +80,21 @@ fn foot_of(page: &[u8], starts: &[u16], i: usize) -> usize
     ensures { FootOf page.now starts.now i result }
 {
     let mut j = i;
-    loop {
-        let kind = kind_at(page, starts, j);
-        if (kind == 3) | (kind == 5) | (kind == 6) {
-            j = j - 1;
-        } else {
-            return j;
-        }
+    // How far down the foot lies is not known before, so it is no `for`.
+    while is_attached(kind_at(page, starts, j)) {
+        j = j - 1;
     }
+    j
 }
 
 fn node_of(foot: Foot, top: usize, base: usize, count: usize) -> Node
     ensures { result ≡ record { foot = foot; top = top; base = base; count = count } }
 {
     Node {
-        foot: foot,
-        top: top,
-        base: base,
-        count: count,
+        foot,
+        top,
+        base,
+        count,
     }
 }
 
@@ -105,8 +110,8 @@ fn unary_view(page: &[u8], starts: &[u16], i: usize, j: usize, numberless: bool)
         return node_of(Foot::Unary, i, j, 1);
     }
     match signed_literal(page, starts, j) {
-        Signed::Number(_) => node_of(Foot::Number, i, j, 0),
-        Signed::Other => node_of(Foot::Unary, i, j, 1),
+        Some(_) => node_of(Foot::Number, i, j, 0),
+        None => node_of(Foot::Unary, i, j, 1),
     }
 }
 

@@ -7,53 +7,42 @@ ghost use Rattle.text.specs.LaidOut.{Reads};
 ghost use Rattle.view.specs.View.{Starts, KindAt, SignedAt};
 
 use crate::{fields_start, kind_at};
+use records::{Literal, read_literal};
 
-// A bare number with its sign, or anything else.
-#[derive(Clone, Copy)]
-pub enum Signed {
-    Number(records::Literal),
-    Other,
-}
-
-fn negated(l: records::Literal) -> records::Literal
+fn negated(l: Literal) -> Literal
     ensures { literal_of result ≡ negate (literal_of l) }
 {
     match l {
-        records::Literal::Whole(n) => records::Literal::Negative(n),
-        records::Literal::Negative(n) => records::Literal::Whole(n),
-        records::Literal::Nan => records::Literal::Nan,
-        records::Literal::Inf => records::Literal::NegInf,
-        records::Literal::NegInf => records::Literal::Inf,
-        records::Literal::Fraction { places, digits } => records::Literal::NegativeFraction {
-            places,
-            digits,
-        },
-        records::Literal::NegativeFraction { places, digits } => records::Literal::Fraction {
-            places,
-            digits,
-        },
+        Literal::Whole(n) => Literal::Negative(n),
+        Literal::Negative(n) => Literal::Whole(n),
+        Literal::Nan => Literal::Nan,
+        Literal::Inf => Literal::NegInf,
+        Literal::NegInf => Literal::Inf,
+        Literal::Fraction { places, digits } => Literal::NegativeFraction { places, digits },
+        Literal::NegativeFraction { places, digits } => Literal::Fraction { places, digits },
     }
 }
 
 // The number of a number record.
-fn literal_at(page: &[u8], starts: &[u16], i: usize) -> records::Literal
+fn literal_at(page: &[u8], starts: &[u16], i: usize) -> Literal
     requires starts { Starts page.now starts.now (suc i) }
     requires kind { KindAt page.now starts.now i 0 }
     ensures { Reads page.now starts.now i (leaf (number (literal_of result))) }
 {
-    match records::read_literal(page, fields_start(starts, i)) {
-        records::LiteralField::Got { literal: l, .. } => l,
-        records::LiteralField::Bad => records::Literal::Nan,
+    match read_literal(page, fields_start(starts, i)) {
+        Ok((l, _)) => l,
+        Err(_) => Literal::Nan,
     }
 }
 
-// The value of the tree that record i ends: a number with the sign of the unary records on it.
-pub fn signed_literal(page: &[u8], starts: &[u16], i: usize) -> Signed
+// The value of the tree that record i ends: a number with the sign of the unary records on it, or none.
+pub fn signed_literal(page: &[u8], starts: &[u16], i: usize) -> Option<Literal>
     requires { Starts page.now starts.now (suc i) }
     ensures { SignedAt page.now starts.now i result }
 {
     let mut j = i;
     let mut odd = false;
+    // How many unary records stand there is not known before, so it is no `for`.
     loop {
         match kind_at(page, starts, j) {
             7 => {
@@ -63,11 +52,11 @@ pub fn signed_literal(page: &[u8], starts: &[u16], i: usize) -> Signed
             0 => {
                 let l = literal_at(page, starts, j);
                 if odd {
-                    return Signed::Number(negated(l));
+                    return Some(negated(l));
                 }
-                return Signed::Number(l);
+                return Some(l);
             }
-            _ => return Signed::Other,
+            _ => return None,
         }
     }
 }

@@ -3,6 +3,6 @@ pub mod ApplyLaws
 pub mod ProgressLaws
 pub mod BasesLaws
 pub mod TableLaws
-pub mod ArraysLaws
+pub mod HeldLaws
 pub mod WalkedSoFar
 pub mod CheckLaws

@@ -11,7 +11,8 @@ pub record RecordRead (page : List ℕ) (item : Record) (needed : ℕ) : Type 0 
   pub exact : RecordExact (record_on page item)
   pub takes : needed ≡ operands (record_on page item)
 
--- the first record of the expression that record `count` ends, from the first records of the entries of the stack
-abbrev pub first_of : ℕ → ℕ → List ℕ → ℕ
-first_of zero count bases = count
-first_of (suc n) count bases = get_or bases n 0
+-- the first record of the expression that record `count` ends: that of its deepest operand, which lies at this depth of
+-- the stack, or itself
+abbrev pub first_of : ℕ → ℕ → ℕ → List ℕ → ℕ
+first_of zero count depth bases = count
+first_of (suc n) count depth bases = get_or bases depth 0

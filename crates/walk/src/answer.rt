@@ -9,18 +9,27 @@ ghost use Rattle.agreement.specs.CheckContract.{CheckContract};
 ghost use Rattle.agreement.specs.LimitContract.{LimitContract};
 ghost use Rattle.walk.specs.Answers.{outcome_meant};
 
-use crate::{Walked, walk_by};
+use crate::walk_by;
 use page::Fault;
 use records::Kind;
 use rules::Refusal;
 use rules::aggregate::{LIMIT_RULE, NO_RULE};
 
-// The kind and how many bytes were written, or a refusal and the index of its record.
+// A refusal and the index of its record.
 #[derive(Clone, Copy)]
-pub enum Outcome {
-    Accepted { kind: Kind, written: usize },
-    Refused(Refusal, usize),
+pub struct Refused {
+    pub refusal: Refusal,
+    pub index: usize,
 }
+
+// The kind and how many bytes were written.
+#[derive(Clone, Copy)]
+pub struct Accepted {
+    pub kind: Kind,
+    pub written: usize,
+}
+
+pub type Outcome = Result<Accepted, Refused>;
 
 // The refusal of a field.
 pub fn field_refusal(fault: Fault) -> Refusal
@@ -39,10 +48,11 @@ fn outcome_by(page: &[u8], rule: u64) -> Outcome
 {
     let mut starts = [0u16; page::RECORD_LIMIT];
     let mut firsts = [0u8; page::RECORD_LIMIT];
-    match walk_by(page, &mut starts, &mut firsts, rule) {
-        Walked::Accepted { kind, .. } => Outcome::Accepted { kind, written: 0 },
-        Walked::Refused(refusal, index) => Outcome::Refused(refusal, index),
-    }
+    let walked = walk_by(page, &mut starts, &mut firsts, rule)?;
+    Ok(Accepted {
+        kind: walked.kind,
+        written: 0,
+    })
 }
 
 // Any byte string is accepted with its kind, or refused with a number of document 01's table and the index of a record.

@@ -7,10 +7,9 @@
 //!   pair once for each record at most, all pairs together; only where it passes on to another pair a record counts for
 //!   both.
 //! - `OTHERS`: so many calls at most, by the groups of a number, its digits, its places (one call more, for the whole
-//!   part), the levels of a text, and the positions in a pattern (one call more, at its end). The three functions over
-//!   a pattern call each other: from call to call the position grows, or it stays and a choice goes to a sequence, or
-//!   that to an item. So a chain of calls has each of them once for each position at most, however many of them the
-//!   compiler leaves.
+//!   part), and the positions in a pattern (one call more, at its end). The three functions over a pattern call each
+//!   other: from call to call the position grows, or it stays and a choice goes to a sequence, or that to an item. So a
+//!   chain of calls has each of them once for each position at most, however many of them the compiler leaves.
 //!
 //! Assumed is what memcpy and memset use.
 
@@ -30,11 +29,10 @@ const OVER_RECORDS: [&str; 5] = [
     "split::write::write_split",
 ];
 
-const OTHERS: [(&str, usize); 7] = [
+const OTHERS: [(&str, usize); 6] = [
     ("page::number::read_up_to", 8),
     ("leaves::decimal::put_decimal", 20),
     ("leaves::decimal::put_expansion", 16),
-    ("indented::put_spaces", 257),
     ("patterns::choice", 256),
     ("patterns::sequence", 256),
     ("patterns::item", 256),

@@ -1,22 +1,16 @@
 -- `fields::aggregator_of` meets its contract, field by field. Assumes nothing.
-use mathlib.Core.Path.{sym, subst}
-use Rattle.fields.specs.Fields.{HasCode}
 use Rattle.fields.proofs.FieldLaws.{aggregator-reads, grouping-there}
 use Rattle.fields.proofs.aggregator_of.Goals as goal
 
-pub code_of-own-requires : goal.code_of-own-requires
-code_of-own-requires c =
-    let p = c.requires in record { node = p.node; foot = subst HasCode (sym p.foot) tt }
-
-pub returns-in-Got : goal.returns-in-Got
-returns-in-Got c =
+pub returns-in-Ok : goal.returns-in-Ok
+returns-in-Ok c =
     let p = c.requires in
-    let reads = aggregator-reads p.node p.foot c.code_of-own.ensures.is
-    (rw c.in-Got.is at c.read_label_modifier.ensures.reads) in
-    record { reads = reads; stored = rw c.in-Got.is at c.read_label_modifier.ensures.stored }
+    let reads = aggregator-reads p.node p.foot c.code_of-code.ensures.is
+    (rw c.in-Ok.is at c.read_label_modifier.ensures.reads) in
+    record { reads = reads; stored = rw c.in-Ok.is at c.read_label_modifier.ensures.stored }
 
-pub returns-in-Bad : goal.returns-in-Bad
-returns-in-Bad c =
+pub returns-in-Err : goal.returns-in-Err
+returns-in-Err c =
     let p = c.requires in
-    absurd (grouping-there p.node p.foot c.code_of-own.ensures.is
-    (rw c.in-Bad.is at c.read_label_modifier.ensures.reads))
+    absurd (grouping-there p.node p.foot c.code_of-code.ensures.is
+    (rw c.in-Err.is at c.read_label_modifier.ensures.reads))

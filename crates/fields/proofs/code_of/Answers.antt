@@ -6,16 +6,9 @@ pub fields_start-start-requires : goal.fields_start-start-requires
 fields_start-start-requires c =
     base-inside c.requires.node
 
-pub returns-in-Got : goal.returns-in-Got
-returns-in-Got c =
-    record {
-      is = rw (c.in-Got.is, c.fields_start-start.ensures) at
-          c.read_code.ensures;
-    }
-
-pub returns-in-Bad : goal.returns-in-Bad
-returns-in-Bad c =
+pub returns-in-Err : goal.returns-in-Err
+returns-in-Err c =
     let p = c.requires in
     absurd (code-there p.node p.foot
-    (rw (c.in-Bad.is, c.fields_start-start.ensures) at
+    (rw (c.in-Err.is, c.fields_start-start.ensures) at
     c.read_code.ensures))

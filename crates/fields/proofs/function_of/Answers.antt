@@ -7,16 +7,16 @@ pub fields_start-start-requires : goal.fields_start-start-requires
 fields_start-start-requires c =
     base-inside c.requires.node
 
-pub returns-in-Got : goal.returns-in-Got
-returns-in-Got c =
+pub returns-in-Ok : goal.returns-in-Ok
+returns-in-Ok c =
     let p = c.requires in
-    let got = rw (c.in-Got.is, c.fields_start-start.ensures) at
+    let got = rw (c.in-Ok.is, c.fields_start-start.ensures) at
     c.read_text.ensures.reads in
-    record { reads = function-reads p.node p.foot _ got; lies = rw c.in-Got.is at c.read_text.ensures.lies }
+    record { reads = function-reads p.node p.foot _ got; lies = (rw c.in-Ok.is at c.read_text.ensures.lies).0 }
 
-pub returns-in-Bad : goal.returns-in-Bad
-returns-in-Bad c =
+pub returns-in-Err : goal.returns-in-Err
+returns-in-Err c =
     let p = c.requires in
     absurd (function-there p.node p.foot
-    (rw (c.in-Bad.is, c.fields_start-start.ensures) at
+    (rw (c.in-Err.is, c.fields_start-start.ensures) at
     c.read_text.ensures.reads))

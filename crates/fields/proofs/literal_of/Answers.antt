@@ -6,11 +6,7 @@ pub signed_literal-requires : goal.signed_literal-requires
 signed_literal-requires c =
     base-known c.requires.node
 
-pub returns-in-Number : goal.returns-in-Number
-returns-in-Number c =
-    rw c.in-Number.is at c.signed_literal.ensures
-
-pub returns-in-Other : goal.returns-in-Other
-returns-in-Other c =
+pub returns-in-None : goal.returns-in-None
+returns-in-None c =
     let p = c.requires in
-    absurd (literal-there p.node p.foot (rw c.in-Other.is at c.signed_literal.ensures))
+    absurd (literal-there p.node p.foot (rw c.in-None.is at c.signed_literal.ensures))

@@ -6,25 +6,25 @@ pub fields_start-start-requires : goal.fields_start-start-requires
 fields_start-start-requires c =
     base-inside c.requires.node
 
-pub returns-in-Got-read_optional_duration : goal.returns-in-Got-read_optional_duration
-returns-in-Got-read_optional_duration c =
+pub returns-in-Ok-read_optional_duration : goal.returns-in-Ok-read_optional_duration
+returns-in-Ok-read_optional_duration c =
     let p = c.requires in
-    let range = rw (c.in-Got.is, c.fields_start-start.ensures) at
+    let range = rw (c.in-Ok.is, c.fields_start-start.ensures) at
     c.read_number.ensures.reads in
     spacing-reads p.node p.foot range
-    (rw c.in-Got-read_optional_duration.is at c.read_optional_duration.ensures)
+    (rw c.in-Ok-read_optional_duration.is at c.read_optional_duration.ensures)
 
-pub returns-in-Bad-read_optional_duration : goal.returns-in-Bad-read_optional_duration
-returns-in-Bad-read_optional_duration c =
+pub returns-in-Err-read_optional_duration : goal.returns-in-Err-read_optional_duration
+returns-in-Err-read_optional_duration c =
     let p = c.requires in
-    let range = rw (c.in-Got.is, c.fields_start-start.ensures) at
+    let range = rw (c.in-Ok.is, c.fields_start-start.ensures) at
     c.read_number.ensures.reads in
     absurd (step-there p.node p.foot range
-    (rw c.in-Bad-read_optional_duration.is at c.read_optional_duration.ensures))
+    (rw c.in-Err-read_optional_duration.is at c.read_optional_duration.ensures))
 
-pub returns-in-Bad : goal.returns-in-Bad
-returns-in-Bad c =
+pub returns-in-Err : goal.returns-in-Err
+returns-in-Err c =
     let p = c.requires in
     absurd (range-there p.node p.foot
-    (rw (c.in-Bad.is, c.fields_start-start.ensures) at
+    (rw (c.in-Err.is, c.fields_start-start.ensures) at
     c.read_number.ensures.reads))

@@ -161,7 +161,7 @@ measure_operands-measure_operands-rest-requires t c =
           (
             unmarked _ _,
             (
-              omega (arith, c.room_after-room.ensures, c.requires.cap),
+              omega (arith, c.saturating_sub-room.ensures, c.requires.cap),
               c.measure-width.ensures.known,
             ),
           ),
@@ -194,7 +194,7 @@ measure_operands-overflow_add-result-2 t c =
       arith,
       c.capped_add-last.ensures,
       c.if-left-gap.false,
-      c.room_after-room.ensures,
+      c.saturating_sub-room.ensures,
       c.measure_operands-rest.ensures.value.bound,
     )
 
@@ -209,6 +209,6 @@ measure_operands-returns t c =
           c.if-count-eq1.false _ _ _
           (recapped _ _ _ _ c.measure-width.ensures.value c.requires.cap
           c.capped_add-last.ensures) _ c.if-left-gap.false
-          (rw c.room_after-room.ensures at c.measure_operands-rest.ensures.value);
+          (rw c.saturating_sub-room.ensures at c.measure_operands-rest.ensures.value);
       known = c.measure_operands-rest.ensures.known;
     }

@@ -1,14 +1,12 @@
 -- `reader::read_record` meets its contract: the kind, then its fields. Assumes nothing.
+use Rattle.page.proofs.ExitLaws.{exit-is}
 use Rattle.records.specs.Record.{read_record}
 use Rattle.reader.proofs.read_record.Goals as goal
 
-pub returns-in-Got : goal.returns-in-Got
+pub returns-in_err-kind-clause-reads : goal.returns-in_err-kind-clause-reads
 unfolding read_record
-returns-in-Got c =
-    let e = rw c.in-Got.is at c.read_number.ensures.reads in
-    record { reads = simp (← e, c.read_fields.ensures.reads); lies = c.read_fields.ensures.lies }
+returns-in_err-kind-clause-reads c = rw (exit-is _ _ c.from_residual.ensures) (simp (← c.in_err-kind.ensures.reads))
 
-pub returns-in-Bad : goal.returns-in-Bad
+pub returns-clause-reads : goal.returns-clause-reads
 unfolding read_record
-returns-in-Bad c =
-    let e = rw c.in-Bad.is at c.read_number.ensures.reads in record { reads = simp (← e); lies = tt }
+returns-clause-reads c = simp (← c.in_ok-kind.ensures.reads, c.read_fields.ensures.reads)

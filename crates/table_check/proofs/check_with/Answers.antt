@@ -7,23 +7,23 @@ use Rattle.table_check.proofs.check_with.Goals as goal
 
 pub outcome_with-requires : goal.outcome_with-requires
 outcome_with-requires c =
-    record { known = accepts-standing (rw c.in-Accepted.is at c.walk.ensures.says); table = c.requires }
+    accepts-standing (rw c.in-Ok.is at c.walk.ensures.says)
 
 pub reached-count-requires : goal.reached-count-requires
 reached-count-requires c =
     record {
       sized = (
-        (rw c.in-Refused.is at c.walk.ensures.says).tables.starts-size,
-        refuses-inside (rw c.in-Refused.is at c.walk.ensures.says),
+        (rw c.in-Err.is at c.walk.ensures.says).tables.starts-size,
+        refuses-inside (rw c.in-Err.is at c.walk.ensures.says),
       );
-      known = refuses-standing (rw c.in-Refused.is at c.walk.ensures.says);
+      known = refuses-standing (rw c.in-Err.is at c.walk.ensures.says);
     }
 
-pub returns-in-Accepted : goal.returns-in-Accepted
-returns-in-Accepted c =
-    accepted-with (rw c.in-Accepted.is at c.walk.ensures.says) c.outcome_with.ensures
+pub returns-in-Ok : goal.returns-in-Ok
+returns-in-Ok c =
+    accepted-with (rw c.in-Ok.is at c.walk.ensures.says) c.outcome_with.ensures
 
-pub returns-in-Refused : goal.returns-in-Refused
-returns-in-Refused c =
-    refused-with (rw c.in-Refused.is at c.walk.ensures.says)
-    c.reached-count.ensures c.outcome_with-in-Refused.ensures
+pub returns-in-Err : goal.returns-in-Err
+returns-in-Err c =
+    refused-with (rw c.in-Err.is at c.walk.ensures.says)
+    c.reached-count.ensures c.outcome_with-in-Err.ensures

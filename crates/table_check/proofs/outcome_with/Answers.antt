@@ -1,20 +1,17 @@
 -- `table_check::outcome_with` meets its contract: what `first_fault` finds decides the outcome. Assumes nothing.
 use mathlib.Core.Path.{refl}
-use Rattle.table_check.specs.declared.asked.FirstFault.TheVariants.{None, At}
+use Rattle.page.proofs.ExitLaws.{exit-is}
 use Rattle.table_check.proofs.outcome_with.Goals as goal
 
-pub returns-in-None : goal.returns-in-None
-returns-in-None c =
-    record {
-      found = None;
-      finds = rw c.in-None.is at c.first_fault.ensures;
-      is = refl;
-    }
+pub returns-in_err-first_fault : goal.returns-in_err-first_fault
+returns-in_err-first_fault c =
+    rw (exit-is _ _ c.from_residual.ensures)
+    (record { found = c.first_fault.result; finds = c.first_fault.ensures; is = rw c.in_err-first_fault.was refl })
 
-pub returns-in-At : goal.returns-in-At
-returns-in-At c =
+pub returns : goal.returns
+returns c =
     record {
-      found = At c.in-At.refusal c.in-At.index;
-      finds = rw c.in-At.is at c.first_fault.ensures;
-      is = refl;
+      found = c.first_fault.result;
+      finds = c.first_fault.ensures;
+      is = rw c.in_ok-first_fault.was refl;
     }

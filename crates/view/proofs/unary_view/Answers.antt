@@ -14,14 +14,14 @@ pub signed_literal-requires : goal.signed_literal-requires
 signed_literal-requires c =
     let p = c.requires in chained-here p.starts p.foot.chain
 
-pub returns-in-Number : goal.returns-in-Number
-returns-in-Number c =
+pub returns-in-Some : goal.returns-in-Some
+returns-in-Some c =
     let p = c.requires in
-    let number = rw c.in-Number.is at c.signed_literal.ensures in
-    rw c.node_of-in-Number.ensures (view-valued p.starts p.foot.chain (record { value = _; is = number }))
+    let number = rw c.in-Some.is at c.signed_literal.ensures in
+    rw c.node_of-in-Some.ensures (view-valued p.starts p.foot.chain (record { value = _; is = number }))
 
-pub returns-in-Other : goal.returns-in-Other
-returns-in-Other c =
+pub returns-in-None : goal.returns-in-None
+returns-in-None c =
     let p = c.requires in
-    let numberless = rw c.in-Other.is at c.signed_literal.ensures in
-    rw c.node_of-in-Other.ensures (view-unary p.starts p.foot.chain p.kind numberless)
+    let numberless = rw c.in-None.is at c.signed_literal.ensures in
+    rw c.node_of-in-None.ensures (view-unary p.starts p.foot.chain p.kind numberless)

@@ -4,5 +4,4 @@ use Rattle.walk.proofs.first_record.Goals as goal
 
 pub returns : goal.returns
 returns c =
-    first_of-some c.args.bases.now c.args.top c.args.needed
-    c.args.count c.if-needed-eq0.false
+    first_of-some c.args.bases.now c.args.depth c.args.needed c.args.count c.if-needed-eq0.false

@@ -1,24 +1,17 @@
-use Prim.Native.Nat.{◌+◌}
-use mathlib.Core.Path.{refl, sym, ap, ◌∙◌}
-use lib.ListN.{drop}
-use Rattle.copy.specs.RecordCopy.{form_after}
-use Rattle.copy.proofs.UnaryLaws.{form_after-more, form_after-stop, form_after-end}
+-- A step of the loop negates once, and one time less is left.
+use Rattle.std.proofs.Common.{arith, ◌≡◌, ◌∙◌, ◌-◌, ℕ, ap, drop}
+use Rattle.std.specs.Fn.{iterate}
+use Rattle.copy.specs.RecordCopy.{unaries, negated_form}
+use Rattle.copy.proofs.UnaryLaws.{form_after-counted, iterate-step}
 use Rattle.copy.proofs.number.form_after.Goals as goal
 
-pub loop-i-init : goal.loop-i-init
-loop-i-init c =
-    refl
+pub loop-init : goal.loop-init
+loop-init c =
+    let none_done : unaries (drop c.args.at c.args.page.now)
+    ≡ c.unaries_at-end.result - 0 = omega (arith, c.unaries_at-end.ensures) in
+    form_after-counted c.args.form (drop c.args.at c.args.page.now)
+    ∙ ap (λ (k : ℕ). iterate negated_form k c.args.form) none_done
 
-pub returns-then-page-i-ne7 : goal.returns-then-page-i-ne7
-returns-then-page-i-ne7 c =
-    sym (c.loop-i.invariant ∙ form_after-stop _ _ _ c.loop-i-test.true c.if-page-i-ne7.true)
-
-pub loop-i-preserved : goal.loop-i-preserved
-loop-i-preserved c =
-    c.loop-i.invariant ∙ form_after-more _ _ _ c.loop-i-test.true c.if-page-i-ne7.false
-    ∙ ap (λ f. form_after f (drop (c.loop-i.i + 1) c.args.page.now))
-    (sym c.negated_form-negated.ensures)
-
-pub returns : goal.returns
-returns c =
-    sym (c.loop-i.invariant ∙ form_after-end _ _ _ c.loop-i-test.false)
+pub loop-preserved : goal.loop-preserved
+loop-preserved c =
+    rw c.negated_form-negated.ensures (c.loop.invariant ∙ iterate-step _ _ _ _ c.loop-test.true)

@@ -1,26 +1,15 @@
-use native.Mathlib.Omega.{arith}
-use Rattle.copy.proofs.UnaryLaws.{unaries-more, unaries-stop, unaries-end}
+-- `copy::number::unaries_at` meets its contract: all bytes before the first other one are counted. Assumes nothing.
+use Rattle.std.proofs.Common.{rules, ◌∙◌, ap, nat_eq}
+use borrow.Author.Tests.{tests}
+use mathlib.Core.Bool.{not}
+use Rattle.std.proofs.lemmas.Iterator.{YieldsList-from_slice}
+use Rattle.std.proofs.lemmas.Iterator.Search.{position_from_yields_List}
+use Rattle.copy.specs.RecordCopy.{unaries}
+use Rattle.copy.proofs.UnaryLaws.{unaries-counted}
 use Rattle.copy.proofs.number.unaries_at.Goals as goal
-
-pub returns-then-page-i-ne7 : goal.returns-then-page-i-ne7
-returns-then-page-i-ne7 c =
-    omega (
-      arith,
-      c.loop-i.invariant.0,
-      unaries-stop c.args.page.now c.loop-i.i c.loop-i-test.true
-          c.if-page-i-ne7.true,
-    )
-
-pub loop-i-preserved : goal.loop-i-preserved
-loop-i-preserved c =
-    let more = unaries-more c.args.page.now c.loop-i.i c.loop-i-test.true
-    c.if-page-i-ne7.false in
-    (omega (arith, c.loop-i.invariant.0, more), omega arith)
 
 pub returns : goal.returns
 returns c =
-    omega (
-      arith,
-      c.loop-i.invariant.0,
-      unaries-end c.args.page.now c.loop-i.i c.loop-i-test.false,
-    )
+    let found = position_from_yields_List (λ b. not (nat_eq b 7)) _ _ c.position.result c.position.ensures.ran
+    (YieldsList-from_slice c.bytes_from-rest.result.now (cc)) (λ x b q k. search (rules, tests)) in
+    c.unwrap_or.ensures ∙ unaries-counted _ _ found ∙ ap unaries c.bytes_from-rest.ensures

@@ -8,12 +8,12 @@ pub overflow_add-start : goal.overflow_add-start
 overflow_add-start c =
     omega (arith, present-wide c.requires.0 c.requires.1, c.requires.0.span.inside)
 
-pub returns-in-Got : goal.returns-in-Got
-returns-in-Got c =
+pub returns-in-Ok : goal.returns-in-Ok
+returns-in-Ok c =
     present-cardinality c.requires.0 c.requires.1 _
-    (rw c.in-Got.is at c.read_label_modifier.ensures.reads)
+    (rw c.in-Ok.is at c.read_label_modifier.ensures.reads)
 
-pub returns-in-Bad : goal.returns-in-Bad
-returns-in-Bad c =
+pub returns-in-Err : goal.returns-in-Err
+returns-in-Err c =
     absurd (present-readable c.requires.0 c.requires.1
-    (rw c.in-Bad.is at c.read_label_modifier.ensures.reads))
+    (rw c.in-Err.is at c.read_label_modifier.ensures.reads))

@@ -1,38 +1,24 @@
--- `copy::operator::put_present` meets its contract: up to the cardinality, its form, and what stands after. Assumes
--- nothing.
-use Prim.Native.Nat.{◌+◌, ◌-◌}
-use mathlib.Core.Path.{sym, ap}
-use mathlib.Core.List.{[], ◌∷◌}
-use lib.ListN.{take, drop, get_or}
-use Rattle.base.proofs.SpliceLaws.{Run, start, fits, next, next-as, end}
-use Rattle.copy.specs.RecordCopy.{set_cardinality, record_copy}
+-- `copy::operator::put_present` meets its contract: of the record's bytes the form of its cardinality alone changes.
+-- Assumes nothing.
+use mathlib.Core.Path.{sym, ◌∙◌}
+use native.Mathlib.Omega.{arith}
+use Rattle.copy.proofs.ChangedLaws.{changed-part}
+use Rattle.copy.proofs.OperatorLaws.{present-length}
+use Rattle.copy.proofs.SpanLaws.{part_length}
 use Rattle.copy.proofs.operator.put_present.Goals as goal
-use Rattle.copy.proofs.operator.put_present.Goals.{After-cardinality_at-cut}
 
--- the run, before the first write
-begun : (c : After-cardinality_at-cut) →
-    let a = c.args in let cut = c.cardinality_at-cut.result in
-    Run a.out.now a.out.now a.at (record_copy (drop a.start a.page.now))
-    (take (cut - a.start) (drop a.start a.page.now) ∷ (set_cardinality (get_or a.page.now cut 0) ∷ [])
-    ∷ take (a.next - (cut + 1)) (drop (cut + 1) a.page.now) ∷ []) a.at
-begun c =
-    start c.requires.0.room c.cardinality_at-cut.ensures.copy
-
-pub put_bytes-form-requires : goal.put_bytes-form-requires
-put_bytes-form-requires c =
-    fits (begun (goal.at.put_bytes-form-requires c).After-cardinality_at-cut)
-
-pub put_byte-rest-requires : goal.put_byte-rest-requires
-put_byte-rest-requires c =
-    fits (next (begun (goal.at.put_byte-rest-requires c).After-cardinality_at-cut) c.put_bytes-form.ensures)
-
-pub put_bytes-requires : goal.put_bytes-requires
-put_bytes-requires c =
-    fits (next-as (next (begun (goal.at.put_bytes-requires c).After-cardinality_at-cut) c.put_bytes-form.ensures)
-    (sym (ap (λ b. b ∷ []) c.set_cardinality.ensures)) c.put_byte-rest.ensures)
+pub put_changed-requires : goal.put_changed-requires
+put_changed-requires c =
+    let at-cut = c.cardinality_at-cut.ensures in
+    let size = part_length c.args.page.now c.args.start c.args.next c.requires.1.span.inside in
+    let copy = present-length c.requires.1 c.requires.2 in
+    (omega (arith, size, at-cut.behind, at-cut.inside), omega (arith, size, copy, c.requires.0.room))
 
 pub returns : goal.returns
 returns c =
-    end (next (next-as (next (begun (goal.at.returns c).After-cardinality_at-cut) c.put_bytes-form.ensures)
-    (sym (ap (λ b. b ∷ []) c.set_cardinality.ensures)) c.put_byte-rest.ensures)
-    c.put_bytes.ensures)
+    let at-cut = c.cardinality_at-cut.ensures in
+    rw (
+      at-cut.copy ∙ sym (changed-part c.args.page.now c.args.start c.cardinality_at-cut.result c.args.next _
+          at-cut.behind at-cut.inside c.requires.0.span.inside),
+      ← c.set_cardinality-form.ensures,
+    ) c.put_changed.ensures

@@ -9,10 +9,10 @@ pub bounds-page-start : goal.bounds-page-start
 bounds-page-start c =
     omega (arith, span-wide c.requires, c.requires.inside)
 
-pub returns-then-page-start-ne0 : goal.returns-then-page-start-ne0
-returns-then-page-start-ne0 c =
-    sym (other-absorbed c.requires c.if-page-start-ne0.true)
+pub returns-then-page-start-eq0 : goal.returns-then-page-start-eq0
+returns-then-page-start-eq0 c =
+    c.unaries_at.ensures ∙ sym (number-absorbed c.requires c.if-page-start-eq0.true)
 
-pub returns : goal.returns
-returns c =
-    c.unaries_at.ensures ∙ sym (number-absorbed c.requires c.if-page-start-ne0.false)
+pub returns-else-page-start-eq0 : goal.returns-else-page-start-eq0
+returns-else-page-start-eq0 c =
+    sym (other-absorbed c.requires c.if-page-start-eq0.false)

@@ -2,6 +2,7 @@
 use mathlib.Core.Path.{ap}
 use native.Mathlib.Omega.{arith}
 use lib.ListN.{length}
+use Rattle.std.proofs.Common.{rules}
 use Rattle.copy.proofs.SpanLaws.{span-wide, other-copy}
 use Rattle.copy.proofs.record.put_record.Goals as goal
 
@@ -27,10 +28,8 @@ slice_bounds-put_bytes-start c =
 
 pub put_bytes-requires : goal.put_bytes-requires
 put_bytes-requires c =
-    let r = c.in_default.in_default-own.rest in
-    omega (arith, c.requires.room, ap length (other-copy c.requires.span r.0.1 r.1))
+    omega (arith, c.requires.room, ap length (other-copy c.requires.span (search rules) (search rules)))
 
 pub returns-in_default : goal.returns-in_default
 returns-in_default c =
-    let r = c.in_default.in_default-own.rest in
-    rw (other-copy c.requires.span r.0.1 r.1) c.put_bytes.ensures
+    rw (other-copy c.requires.span (search rules) (search rules)) c.put_bytes.ensures

@@ -2,8 +2,8 @@ use mathlib.Core.Path.{sym, ap, ◌∙◌}
 use native.Mathlib.Omega.{arith}
 use lib.Dec.{leb}
 use lib.ListN.{length}
-use Rattle.copy.proofs.StartsLaws.{copy_from-start, starts-few, starts-page, fits_not, fits_more, fits-end}
-use Rattle.copy.proofs.SpanLaws.{absorbed-few}
+use Rattle.copy.proofs.StartsLaws.{copy_from-start, starts-few, fits_not, fits_more, fits-end}
+use Rattle.copy.proofs.SpanLaws.{taken-few}
 use Rattle.copy.proofs.whole.copy_fits.Goals as goal
 
 pub loop-i-init : goal.loop-i-init
@@ -43,17 +43,11 @@ absorbed_by-taken-requires c =
 
 pub overflow_add-i : goal.overflow_add-i
 overflow_add-i c =
-    omega (arith, starts-few c.requires)
+    omega (arith, starts-few c.requires, taken-few c.requires c.end_of-next.ensures c.absorbed_by-taken.ensures)
 
 pub overflow_add-i-in-loop-i : goal.overflow_add-i-in-loop-i
 overflow_add-i-in-loop-i c =
-    omega (
-      arith,
-      starts-few c.requires,
-      starts-page c.requires,
-      absorbed-few c.end_of-next.ensures,
-      c.absorbed_by-taken.ensures,
-    )
+    omega (arith, starts-few c.requires, taken-few c.requires c.end_of-next.ensures c.absorbed_by-taken.ensures)
 
 pub loop-i-preserved : goal.loop-i-preserved
 loop-i-preserved c =

@@ -24,6 +24,6 @@ pub returns-then-next-n : goal.returns-then-next-n
 returns-then-next-n c =
     starts-next c.requires.0 c.args.i c.if-next-n.true
 
-pub returns : goal.returns
-returns c =
+pub returns-else-next-n : goal.returns-else-next-n
+returns-else-next-n c =
     starts-last c.requires.0 c.args.i c.requires.1 c.if-next-n.false

@@ -2,8 +2,7 @@ use mathlib.Core.Path.{sym, ◌∙◌}
 use native.Mathlib.Omega.{arith}
 use Rattle.base.proofs.SpliceLaws.{begin-as, room, step, finish}
 use Rattle.copy.proofs.StartsLaws.{copy_from-start, copy_from-cut, copy_from-next, copy_from-end, starts-few}
-use Rattle.copy.proofs.StartsLaws.{starts-page}
-use Rattle.copy.proofs.SpanLaws.{absorbed-few}
+use Rattle.copy.proofs.SpanLaws.{taken-few}
 use Rattle.copy.proofs.PairLaws.{pair_inside, pair-behind, copy_from-pair}
 use Rattle.copy.proofs.whole.put_copy.Goals as goal
 
@@ -94,17 +93,11 @@ put_record-at-requires c =
 
 pub overflow_add-i-else-is_before_at : goal.overflow_add-i-else-is_before_at
 overflow_add-i-else-is_before_at c =
-    omega (arith, starts-few c.requires.0)
+    omega (arith, starts-few c.requires.0, taken-few c.requires.0 c.end_of-next.ensures c.absorbed_by-taken.ensures)
 
 pub overflow_add-i-else-is_before_at-2 : goal.overflow_add-i-else-is_before_at-2
 overflow_add-i-else-is_before_at-2 c =
-    omega (
-      arith,
-      starts-few c.requires.0,
-      starts-page c.requires.0,
-      absorbed-few c.end_of-next.ensures,
-      c.absorbed_by-taken.ensures,
-    )
+    omega (arith, starts-few c.requires.0, taken-few c.requires.0 c.end_of-next.ensures c.absorbed_by-taken.ensures)
 
 pub loop-i-preserved : goal.loop-i-preserved
 loop-i-preserved c =

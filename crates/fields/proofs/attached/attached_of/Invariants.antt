@@ -1,13 +1,9 @@
 -- `fields::attached::attached_of` meets its contract. Invariant: what the records above record j
--- attach; j is not below the foot. The measure is j. Assumes nothing.
+-- attach; j is not below the foot. Assumes nothing.
 use Prim.Native.Nat.{◌≤◌}
 use Rattle.fields.specs.Attached.{SetsAttached}
 use Rattle.fields.proofs.attached.attached_of.Given as goal
 
 abbrev pub invariant-loop-j : goal.invariant-loop-j
 invariant-loop-j l =
-    (l.base ≤ l.j) × (l.j ≤ l.initial.j) × SetsAttached l.page l.starts l.initial.j l.j l.attached
-
-abbrev pub decreases-loop-j : goal.decreases-loop-j
-decreases-loop-j l =
-    l.j
+    (l.base ≤ l.j) × SetsAttached l.page l.starts l.initial.j l.j l.attached

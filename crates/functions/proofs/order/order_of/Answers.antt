@@ -1,42 +1,28 @@
-use native.Mathlib.Omega.{arith}
-use mathlib.Core.Path.{refl}
-use Rattle.functions.proofs.OrderLaws.{order-longer, order_below, order-above, order-next, order-shorter}
-use Rattle.functions.proofs.OrderLaws.{order-ended}
+use Rattle.std.proofs.lemmas.Slice.Zip.{either_empty_from_Zip}
+use Rattle.functions.proofs.OrderLaws.{left-all, left-differ, left-next, left-ended}
 use Rattle.functions.proofs.order.order_of.Goals as goal
 
-pub loop-i-init : goal.loop-i-init
-loop-i-init c =
-    (refl, omega arith)
+pub loop-x-init : goal.loop-x-init
+loop-x-init c =
+    rw (
+      c.into_iter-x-iterator.ensures.into_iter_gives,
+      c.zip-x-items.ensures.first,
+      c.zip-x-items.ensures.second,
+      c.iter.ensures.rest,
+      c.iter-2.ensures.rest,
+    )
+    (left-all c.args.a.now c.args.b.now _ c.min-shared.ensures)
 
-pub returns-then-b-i : goal.returns-then-b-i
-returns-then-b-i c =
-    order-longer c.args.a.now c.args.b.now c.loop-i.i
-    c.loop-i.invariant.0 c.loop-i-test.true c.if-b-i.true
+pub returns-then-x-y : goal.returns-then-x-y
+returns-then-x-y c =
+    rw c.cmp.ensures
+    (left-differ _ _ _ _ _ _ _ _ c.in-Some.ensures.steps.0 c.in-Some.ensures.steps.1 c.if-x-y.true c.loop-x.invariant)
 
-pub returns-then-a-i : goal.returns-then-a-i
-returns-then-a-i c =
-    order_below c.args.a.now c.args.b.now c.loop-i.i c.loop-i.invariant.0
-    c.loop-i-test.true c.if-b-i.false c.if-a-i.true
-
-pub returns-then-b-i-2 : goal.returns-then-b-i-2
-returns-then-b-i-2 c =
-    order-above c.args.a.now c.args.b.now c.loop-i.i c.loop-i.invariant.0
-    c.loop-i-test.true c.if-b-i.false c.if-b-i-2.true
-
-pub loop-i-preserved : goal.loop-i-preserved
-loop-i-preserved c = (
-  order-next c.args.a.now c.args.b.now c.loop-i.i c.loop-i.invariant.0
-      c.loop-i-test.true c.if-b-i.false c.if-a-i.false c.if-b-i-2.false,
-  omega (arith, c.loop-i-test.true),
-)
-
-pub returns-then-a-b : goal.returns-then-a-b
-returns-then-a-b c =
-    order-shorter c.args.a.now c.args.b.now c.loop-i.i c.loop-i.invariant.0
-    c.loop-i-test.false (omega (arith, c.loop-i.invariant.1, c.if-a-b.true))
+pub loop-x-preserved : goal.loop-x-preserved
+loop-x-preserved c =
+    left-next _ _ _ _ _ _ _ _ c.in-Some.ensures.steps.0 c.in-Some.ensures.steps.1 c.if-x-y.false c.loop-x.invariant
 
 pub returns : goal.returns
 returns c =
-    order-ended c.args.a.now c.args.b.now c.loop-i.i
-    c.loop-i.invariant.0 c.loop-i-test.false
-    (omega (arith, c.loop-i-test.false, c.if-a-b.false))
+    rw c.cmp-2.ensures
+    (left-ended _ _ _ _ (either_empty_from_Zip c.loop-x.x-iterator c.next.new.self _ c.in-None.is c.next.ensures.steps) c.loop-x.invariant)

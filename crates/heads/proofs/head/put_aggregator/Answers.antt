@@ -1,25 +1,9 @@
 -- `heads::head::put_aggregator` meets its contract: the word, and the grouping. Assumes nothing.
 use mathlib.Core.Path.{refl}
-use Rattle.base.proofs.SpliceLaws.{begin, first, room, step, finish, cut-last}
+use Rattle.base.proofs.SpliceLaws.{begin, step, finish, cut-last}
 use Rattle.records.specs.Answers.{label_modifier_on}
 use Rattle.heads.proofs.HeadLaws.{aggregator-cut}
 use Rattle.heads.proofs.head.put_aggregator.Goals as goal
-
-pub put_token-behind-requires : goal.put_token-behind-requires
-put_token-behind-requires c =
-    first _ _ c.requires.room
-    (aggregator-cut c.args.code
-    (label_modifier_on c.args.page.now c.args.grouping))
-
-pub put_grouping-requires : goal.put_grouping-requires
-put_grouping-requires c =
-    record {
-      stored = c.requires.stored;
-      room = room (step (begin _ _ _ c.requires.room)
-          (aggregator-cut c.args.code
-          (label_modifier_on c.args.page.now c.args.grouping))
-          c.put_token-behind.ensures) (cut-last _);
-    }
 
 pub returns : goal.returns
 returns c =

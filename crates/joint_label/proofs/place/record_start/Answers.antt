@@ -1,29 +1,27 @@
-use mathlib.Core.Path.{refl, sym, ◌∙◌}
+use mathlib.Core.Path.{◌≡◌, sym, ap, ◌∙◌}
+use native.Mathlib.Omega.{arith}
+use Prim.Native.Nat.{ℕ, ◌+◌, ◌-◌}
 use lib.ListN.{drop}
+use Rattle.ast.specs.Part.{from_record}
 use Rattle.joint_label.proofs.PlacedLaws.{from_next, from-refused, from-none, past_end}
 use Rattle.joint_label.proofs.place.record_start.Goals as goal
 
-pub loop-left-init : goal.loop-left-init
-loop-left-init c =
-    refl
+pub loop-preserved : goal.loop-preserved
+loop-preserved c =
+    let e = rw c.in-Ok.is at c.read_record.ensures.reads in
+    let less : c.args.index - c.loop.counter - 1 ≡ c.args.index - (c.loop.counter + 1) = omega arith in
+    c.loop.invariant
+    ∙ from_next (c.args.index - c.loop.counter) (drop c.loop.at c.args.page.now) (omega (arith, c.loop-test.true)) e
+    ∙ ap (λ (n : ℕ). from_record n (drop c.in-Ok.next c.args.page.now)) less
 
-pub loop-left-preserved : goal.loop-left-preserved
-loop-left-preserved c =
-    let e = rw c.in-Got.is at c.read_record.ensures.reads in
-    c.loop-left.invariant
-    ∙ from_next c.loop-left.left (drop c.loop-left.at c.args.page.now)
-    c.loop-left-test.true e
-
-pub returns-in-Bad : goal.returns-in-Bad
-returns-in-Bad c =
-    let e = rw c.in-Bad.is at c.read_record.ensures.reads in
+pub returns-in_default : goal.returns-in_default
+returns-in_default c =
+    let e = rw c.in_default.is at c.read_record.ensures.reads in
     past_end c.args.page.now
-    ∙ sym (c.loop-left.invariant
-    ∙ from-refused c.loop-left.left (drop c.loop-left.at c.args.page.now)
-    c.loop-left-test.true e)
+    ∙ sym (c.loop.invariant
+    ∙ from-refused (c.args.index - c.loop.counter) (drop c.loop.at c.args.page.now) (omega (arith, c.loop-test.true)) e)
 
 pub returns : goal.returns
 returns c =
-    sym (c.loop-left.invariant
-    ∙ from-none c.loop-left.left (drop c.loop-left.at c.args.page.now)
-    c.loop-left-test.false)
+    sym (c.loop.invariant
+    ∙ from-none (c.args.index - c.loop.counter) (drop c.loop.at c.args.page.now) (omega (arith, c.loop-test.false)))

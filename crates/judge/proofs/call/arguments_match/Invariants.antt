@@ -2,23 +2,16 @@
 -- kinds left, decide.
 use mathlib.Core.Path.{◌≡◌}
 use mathlib.Core.List.{map}
-use lib.ListN.{drop}
-use Prim.Native.Nat.{◌≤◌}
-use Rattle.rules.specs.Stack.{held_operands}
+use Rattle.rules.specs.Stack.{held}
 use Rattle.ast.specs.Operand.{operand_kind}
 use Rattle.ast.specs.CheckAst.{args_match}
 use Rattle.records.specs.Answers.{kinds_on}
 use Rattle.records.specs.Stack.{operands_of}
 use Rattle.judge.proofs.call.arguments_match.Given as goal
 
-abbrev pub invariant-loop-left : goal.invariant-loop-left
-invariant-loop-left l =
-    (l.left ≤ l.count)
-    × (args_match (kinds_on l.page l.kinds l.declared)
-    (map operand_kind (operands_of l.count (drop l.top (held_operands l.tags l.values))))
+abbrev pub invariant-loop-i : goal.invariant-loop-i
+invariant-loop-i l =
+    args_match (kinds_on l.page l.kinds l.declared)
+    (map operand_kind (operands_of l.count (held l.stack)))
     ≡ args_match (kinds_on l.page l.at l.more)
-    (map operand_kind (operands_of l.left (drop l.top (held_operands l.tags l.values)))))
-
-abbrev pub decreases-loop-left : goal.decreases-loop-left
-decreases-loop-left l =
-    l.left
+    (map operand_kind (operands_of l.i (held l.stack)))

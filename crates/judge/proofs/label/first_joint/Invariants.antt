@@ -2,15 +2,12 @@
 -- nothing.
 use mathlib.Core.Path.{◌≡◌}
 use lib.ListN.{drop}
+use Prim.Native.Nat.{◌-◌}
 use Rattle.records.specs.Answers.{labels_on}
 use Rattle.judge.specs.Label.{from_joint}
 use Rattle.judge.proofs.label.first_joint.Given as goal
 
-abbrev pub invariant-loop-left : goal.invariant-loop-left
-invariant-loop-left l =
+abbrev pub invariant-loop : goal.invariant-loop
+invariant-loop l =
     from_joint (labels_on l.page l.on l.ons) l.count (drop l.start l.page)
-    ≡ from_joint (labels_on l.page l.on l.ons) l.left (drop l.at l.page)
-
-abbrev pub decreases-loop-left : goal.decreases-loop-left
-decreases-loop-left l =
-    l.left
+    ≡ from_joint (labels_on l.page l.on l.ons) (l.count - l.counter) (drop l.at l.page)

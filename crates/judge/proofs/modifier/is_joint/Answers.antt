@@ -10,11 +10,8 @@ returns-in-None c =
     rw c.in-None.is
     (none_in (group_labels (cardinality_on c.args.page.now c.args.card)))
 
-pub returns-in-Include : goal.returns-in-Include
-returns-in-Include c =
-    rw c.in-Include.is c.group_joint.ensures
-
-pub returns-in-Exclude : goal.returns-in-Exclude
-returns-in-Exclude c =
-    rw c.in-Exclude.is
+pub returns-in-Some-Exclude : goal.returns-in-Some-Exclude
+returns-in-Some-Exclude c =
+    let inner = rw c.in-Some-Exclude.is at c.in-Some-Exclude.field-0-is in
+    rw (c.in-Some-Exclude.is, inner)
     (none_in (group_labels (cardinality_on c.args.page.now c.args.card)))

@@ -1,57 +1,45 @@
+-- `label::matcher::collect` meets its contract: each matcher read is stored behind those before it. Assumes nothing.
+use Prim.Native.Nat.{◌+◌, ◌-◌, ◌<◌}
+use mathlib.Core.Path.{◌≡◌, subst}
 use native.Mathlib.Omega.{arith}
 use lib.ListN.{drop}
 use Rattle.page.proofs.ListLaws.{first_read, others-read}
 use Rattle.records.specs.Matcher.{read_matcher}
-use Rattle.label.proofs.KeyLaws.{bounded}
+use Rattle.label.specs.Printed.{Collected}
 use Rattle.label.proofs.CollectLaws.{read-allowed, collect-start, collect-room, collect-on}
 use Rattle.label.proofs.CollectLaws.{collect-end}
 use Rattle.label.proofs.matcher.collect.Goals as goal
 
-pub loop-left-init : goal.loop-left-init
-loop-left-init c =
-    (collect-start _ _ _ _ c.requires.limits.0, c.requires.stored)
+pub loop-i-init : goal.loop-i-init
+loop-i-init c =
+    let all : c.args.count - 0 ≡ c.args.count = omega arith in
+    rw all (collect-start _ _ _ _ c.requires.room, c.requires.stored)
 
-pub stored_matcher-stored-requires : goal.stored_matcher-stored-requires
-stored_matcher-stored-requires c =
-    first_read read_matcher c.loop-left.left (drop c.loop-left.at c.args.page.now)
-    c.loop-left.invariant.1 c.loop-left-test.true
+pub stored_matcher-next-requires : goal.stored_matcher-next-requires
+stored_matcher-next-requires c =
+    first_read read_matcher _ (drop c.loop-i.at c.args.page.now) c.loop-i.invariant.1 (omega (arith, c.loop-i-test.true))
 
 pub printed-requires : goal.printed-requires
-printed-requires c = (
-  c.stored_matcher-stored.ensures.lies,
-  read-allowed (drop c.loop-left.at c.args.page.now)
-      c.stored_matcher-stored.ensures.reads,
-)
+printed-requires c =
+    let allowed = read-allowed (drop c.loop-i.at c.args.page.now) c.stored_matcher-next.ensures.reads in
+    record { matcher = (c.stored_matcher-next.ensures.lies, allowed); limit = c.requires.limit }
 
-pub pack-requires : goal.pack-requires
-pack-requires c =
-    bounded _ _ c.printed.ensures.prints c.requires.limits.1
+pub bounds-order-i : goal.bounds-order-i
+bounds-order-i c =
+    collect-room c.loop-i.invariant.0 (omega (arith, c.loop-i-test.true)) c.stored_matcher-next.ensures.reads
 
-pub offset_bounds-keys-i : goal.offset_bounds-keys-i
-offset_bounds-keys-i c =
-    let h = collect-room c.loop-left.invariant.0 c.loop-left-test.true
-    c.stored_matcher-stored.ensures.reads in
-    omega arith
-
-pub bounds-keys-i : goal.bounds-keys-i
-bounds-keys-i c =
-    collect-room c.loop-left.invariant.0 c.loop-left-test.true
-    c.stored_matcher-stored.ensures.reads
-
-pub overflow_add-i : goal.overflow_add-i
-overflow_add-i c =
-    let h = collect-room c.loop-left.invariant.0 c.loop-left-test.true
-    c.stored_matcher-stored.ensures.reads in
-    omega arith
-
-pub loop-left-preserved : goal.loop-left-preserved
-loop-left-preserved c = (
-  collect-on c.loop-left.invariant.0 c.loop-left-test.true
-      c.stored_matcher-stored.ensures.reads _ _ c.printed.ensures c.pack.ensures,
-  others-read read_matcher c.loop-left.left (drop c.loop-left.at c.args.page.now)
-      c.loop-left.invariant.1 c.loop-left-test.true c.stored_matcher-stored.ensures.reads,
-)
+pub loop-i-preserved : goal.loop-i-preserved
+loop-i-preserved c =
+    let e : c.args.count - (c.loop-i.i + 1) ≡ c.args.count - c.loop-i.i - 1 = omega arith in
+    let left : 0 < c.args.count - c.loop-i.i = omega (arith, c.loop-i-test.true) in
+    rw e (
+      collect-on c.loop-i.invariant.0 left c.stored_matcher-next.ensures.reads _ c.printed.ensures,
+      others-read read_matcher _ (drop c.loop-i.at c.args.page.now)
+          c.loop-i.invariant.1 left c.stored_matcher-next.ensures.reads,
+    )
 
 pub returns : goal.returns
 returns c =
-    collect-end c.loop-left.invariant.0 c.loop-left-test.false
+    let all : c.loop-i.i ≡ c.args.count = omega (arith, c.loop-i-test.false, c.loop-i.auto.i-end) in
+    subst (Collected _ _ c.loop-i.order) all
+    (collect-end c.loop-i.invariant.0 (omega (arith, c.loop-i-test.false)))

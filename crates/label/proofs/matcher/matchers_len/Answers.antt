@@ -16,21 +16,21 @@ returns-then-count-eq0 c =
           (omega (arith, c.if-count-eq0.true))),
     )
 
-pub stored_matcher-stored-requires : goal.stored_matcher-stored-requires
-stored_matcher-stored-requires c =
+pub stored_matcher-next-requires : goal.stored_matcher-next-requires
+stored_matcher-next-requires c =
     first_read read_matcher c.args.count (drop c.args.start c.args.page.now)
     c.requires (some_left _ c.if-count-eq0.false)
 
 pub matcher_len-first-requires : goal.matcher_len-first-requires
 matcher_len-first-requires c =
-    c.stored_matcher-stored.ensures.lies
+    c.stored_matcher-next.ensures.lies
 
 pub more_matchers_len-requires : goal.more_matchers_len-requires
 more_matchers_len-requires c =
     others-read read_matcher c.args.count (drop c.args.start c.args.page.now)
-    c.requires (some_left _ c.if-count-eq0.false) c.stored_matcher-stored.ensures.reads
+    c.requires (some_left _ c.if-count-eq0.false) c.stored_matcher-next.ensures.reads
 
 pub returns : goal.returns
 returns c =
-    matchers-first _ _ _ _ _ _ (some_left _ c.if-count-eq0.false) c.stored_matcher-stored.ensures.reads
+    matchers-first _ _ _ _ _ _ (some_left _ c.if-count-eq0.false) c.stored_matcher-next.ensures.reads
     c.matcher_len-first.ensures c.more_matchers_len.ensures c.capped_add.ensures

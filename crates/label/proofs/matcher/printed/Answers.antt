@@ -4,5 +4,4 @@ use Rattle.label.proofs.matcher.printed.Goals as goal
 
 pub returns : goal.returns
 returns c =
-    prints _ _ _ _ _ c.requires.0 c.requires.1 c.text_at.ensures
-    c.is_label.ensures c.operator_number.ensures
+    prints _ _ _ _ c.requires.matcher.0 c.requires.matcher.1 c.text_at.ensures c.is_label.ensures

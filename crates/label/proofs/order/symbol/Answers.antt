@@ -2,10 +2,10 @@
 use Rattle.label.proofs.SymbolLaws.{symbol-stands, symbol-escapes}
 use Rattle.label.proofs.order.symbol.Goals as goal
 
-pub returns-then-letter-eq0 : goal.returns-then-letter-eq0
-returns-then-letter-eq0 c =
-    symbol-stands _ _ c.escape_letter-letter.ensures c.if-letter-eq0.true
+pub returns-in-None : goal.returns-in-None
+returns-in-None c =
+    symbol-stands _ (rw c.in-None.is at c.escape_letter.ensures)
 
-pub returns : goal.returns
-returns c =
-    symbol-escapes _ _ c.escape_letter-letter.ensures c.if-letter-eq0.false
+pub returns-in-Some : goal.returns-in-Some
+returns-in-Some c =
+    symbol-escapes _ _ (rw c.in-Some.is at c.escape_letter.ensures)

@@ -1,5 +1,6 @@
+-- `label::sort::arrange` meets its contract: each, from the last on, is put among those behind it. Assumes nothing.
 use native.Mathlib.Omega.{arith}
-use Rattle.label.proofs.SortLaws.{arrange-start, arrange-on, arrange-end, behind-keys, own_key}
+use Rattle.label.proofs.SortLaws.{arrange-start, arrange-on, arrange-end, behind-print, own_print}
 use Rattle.label.proofs.sort.arrange.Goals as goal
 
 pub loop-i-init : goal.loop-i-init
@@ -8,14 +9,14 @@ loop-i-init c =
 
 pub place-requires : goal.place-requires
 place-requires c = (
-  own_key c.requires c.loop-i.invariant c.loop-i-test.true,
+  own_print _ c.requires c.loop-i.invariant c.loop-i-test.true,
   omega (arith, c.loop-i.invariant.size, c.loop-i.invariant.upto, c.loop-i-test.true),
-  behind-keys c.loop-i.invariant c.loop-i-test.true,
+  behind-print c.loop-i.invariant c.loop-i-test.true,
 )
 
 pub loop-i-preserved : goal.loop-i-preserved
 loop-i-preserved c =
-    arrange-on c.requires c.loop-i.invariant (omega (arith, c.loop-i-test.true))
+    arrange-on _ c.requires c.loop-i.invariant (omega (arith, c.loop-i-test.true))
     c.place.ensures c.place.auto.order
 
 pub returns : goal.returns

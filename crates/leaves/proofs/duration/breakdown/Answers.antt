@@ -1,4 +1,4 @@
-use Prim.Native.Nat.{◌-◌, ◌*◌, ◌≤◌}
+use Prim.Native.Nat.{◌*◌, ◌≤◌}
 use native.Mathlib.Omega.{arith}
 use mathlib.Core.Path.{refl}
 use lib.ListN.{get_or, length-set}
@@ -14,7 +14,7 @@ within c = rw c.count_of-count.ensures (count_of-within _ _ _)
 pub loop-i-init : goal.loop-i-init
 unfolding duration_counts
 loop-i-init c =
-    (refl, refl, omega arith, omega arith)
+    (refl, refl)
 
 pub count_of-count-requires : goal.count_of-count-requires
 count_of-count-requires c =
@@ -30,12 +30,8 @@ overflow_sub-rest c =
 
 pub loop-i-preserved : goal.loop-i-preserved
 loop-i-preserved c =
-    let inv = c.loop-i.invariant in (
-      counts_of-turn _ _ _ _ _ c.loop-i-test.true (omega arith) c.count_of-count.ensures inv.0,
-      simp length-set inv.1,
-      omega arith,
-      omega arith,
-    )
+    let inv = c.loop-i.invariant in
+    (counts_of-turn _ _ _ _ _ c.loop-i-test.true (omega arith) c.count_of-count.ensures inv.0, simp length-set inv.1)
 
 pub returns : goal.returns
 returns c =

@@ -1,6 +1,5 @@
 -- `leaves::duration::breakdown` meets its contract. The loop's invariant: the counts written, then those of what is
 -- left, are the answer. Assumes nothing.
-use Prim.Native.Nat.{◌-◌, ◌≤◌}
 use mathlib.Core.List.{◌++◌}
 use mathlib.Core.Path.{◌≡◌}
 use lib.ListN.{length, take, drop}
@@ -10,8 +9,3 @@ use Rattle.leaves.proofs.duration.breakdown.Given as goal
 abbrev pub invariant-loop-i : goal.invariant-loop-i
 invariant-loop-i l =
     (duration_counts l.ms ≡ take l.i l.counts ++ counts_of (drop l.i units) l.rest) × (length l.counts ≡ 7)
-    × (l.i ≤ 7) × (l.rest ≤ l.ms)
-
-abbrev pub decreases-loop-i : goal.decreases-loop-i
-decreases-loop-i l =
-    7 - l.i

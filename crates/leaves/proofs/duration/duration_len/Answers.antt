@@ -10,23 +10,23 @@ pub returns-then-ms-eq0 : goal.returns-then-ms-eq0
 returns-then-ms-eq0 c =
     (sym (ap length (display_duration-zero _ c.if-ms-eq0.true)), omega arith)
 
-pub loop-i-init : goal.loop-i-init
-loop-i-init c =
-    omega (arith, ap length (display_duration-counts _ _ c.if-ms-eq0.false c.breakdown-counts.ensures))
+pub loop-unit-init : goal.loop-unit-init
+loop-unit-init c =
+    omega (arith, ap length (display_duration-counts _ _ c.if-ms-eq0.false c.breakdown.ensures))
 
 pub count_len-sum-requires : goal.count_len-sum-requires
 count_len-sum-requires c =
-    c.loop-i-test.true
+    c.loop-unit-test.true
 
-pub loop-i-preserved : goal.loop-i-preserved
-loop-i-preserved c =
-    let b = c.breakdown-counts in
+pub loop-unit-preserved : goal.loop-unit-preserved
+loop-unit-preserved c =
+    let b = c.breakdown in
     let next = cut-length
-    (display_counts-next b.result c.loop-i.i
-    (omega (arith, duration_counts-seven _ _ b.ensures)) c.loop-i-test.true) in
+    (display_counts-next b.result c.loop-unit.unit
+    (omega (arith, duration_counts-seven _ _ b.ensures)) c.loop-unit-test.true) in
     omega arith
 
 pub returns : goal.returns
 returns c =
-    let b = c.breakdown-counts in
-    omega (arith, ap length (display_counts-end b.result c.loop-i.i c.loop-i-test.false))
+    let b = c.breakdown in
+    omega (arith, ap length (display_counts-end b.result c.loop-unit.unit c.loop-unit-test.false))

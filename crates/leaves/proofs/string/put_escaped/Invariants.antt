@@ -1,15 +1,10 @@
 -- `leaves::string::put_escaped` meets its contract. The loop's invariant:
 -- what is left of the text, escaped, is left to be written. Assumes nothing.
-use Prim.Native.Nat.{◌-◌}
-use lib.ListN.{length, drop}
+use lib.ListN.{drop}
 use Rattle.base.proofs.SpliceLaws.{Writing}
 use Rattle.leaves.specs.Escape.{escape}
 use Rattle.leaves.proofs.string.put_escaped.Given as goal
 
-abbrev pub invariant-loop-i : goal.invariant-loop-i
-invariant-loop-i l =
-    Writing l.initial.out l.out l.at (escape l.text) (escape (drop l.i l.text)) l.pos
-
-abbrev pub decreases-loop-i : goal.decreases-loop-i
-decreases-loop-i l =
-    length l.text - l.i
+abbrev pub invariant-loop-b : goal.invariant-loop-b
+invariant-loop-b l =
+    Writing l.initial.out l.out l.at (escape l.text) (escape (drop l.b-index l.text)) l.pos

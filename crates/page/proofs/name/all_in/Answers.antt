@@ -1,21 +1,13 @@
-use Rattle.page.proofs.TextLaws.{all-stop, all_go, all_end}
-use mathlib.Core.Path.{refl, sym, ◌∙◌, ap}
-use mathlib.Core.Bool.{not}
+-- `page::name::all_in` meets its contract: `all` tests each byte by the class. Assumes nothing.
+use Rattle.std.proofs.lemmas.Iterator.{YieldsList-from_slice}
+use Rattle.std.proofs.lemmas.Iterator.Search.{all_from_yields_List}
+use mathlib.Core.Path.{◌∙◌}
+use borrow.Author.Rules.{rules}
+use Rattle.page.specs.Answers.{in_class}
+use Rattle.page.proofs.TextLaws.{all-is}
 use Rattle.page.proofs.name.all_in.Goals as goal
-
-pub loop-i-init : goal.loop-i-init
-loop-i-init c =
-    refl
-
-pub returns-then-not-byte_is : goal.returns-then-not-byte_is
-returns-then-not-byte_is c =
-    all-stop _ _ _ _ _ c.loop-i-test.true c.byte_is.ensures (ap not c.if-not-byte_is.true)
-    c.loop-i.invariant
-
-pub loop-i-preserved : goal.loop-i-preserved
-loop-i-preserved c =
-    all_go _ _ _ _ _ c.loop-i-test.true c.byte_is.ensures (ap not c.if-not-byte_is.false) c.loop-i.invariant
 
 pub returns : goal.returns
 returns c =
-    sym (c.loop-i.invariant ∙ all_end _ _ _ c.loop-i-test.false)
+    all_from_yields_List (in_class c.args.class) _ _ _ c.all.ensures.ran (YieldsList-from_slice c.args.text.now cc) (λ x b q k. search rules)
+    ∙ all-is (in_class c.args.class) c.args.text.now

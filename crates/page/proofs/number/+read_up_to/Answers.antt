@@ -1,6 +1,7 @@
 use lib.ListN.{drop}
 use Prim.Native.Nat.{◌+◌, ◌/◌}
 use native.Mathlib.Omega.{arith}
+use Rattle.page.proofs.ExitLaws.{exit-is, exit-says}
 use Rattle.page.proofs.FieldLaws.{past_end, over_first, one_byte, read_small, none-behind, zero-behind, fits}
 use Rattle.page.proofs.FieldLaws.{over}
 use Rattle.page.proofs.number.+read_up_to.Goals as goal
@@ -35,7 +36,7 @@ read_up_to-requires t c =
 
 pub returns-then-v-eq0 : goal.returns-then-v-eq0
 returns-then-v-eq0 t c =
-    let e = rw c.in-Got.is at c.read_up_to.ensures.reads in record {
+    let e = c.in_ok-v.ensures.reads in record {
       reads = zero-behind c.args.page.now c.args.at c.args.limit (omega arith)
           c.if-b-lt128.false e c.if-v-eq0.true;
       lies = omega arith;
@@ -43,7 +44,7 @@ returns-then-v-eq0 t c =
 
 pub overflow_mul-n : goal.overflow_mul-n
 overflow_mul-n t c =
-    let e = rw c.in-Got.is at c.read_up_to.ensures.reads in
+    let e = c.in_ok-v.ensures.reads in
     omega (
       arith,
       read_small (c.args.limit / 128) _ _ (drop (c.args.at + 1) c.args.page.now) e,
@@ -51,7 +52,7 @@ overflow_mul-n t c =
 
 pub overflow_add-n : goal.overflow_add-n
 overflow_add-n t c =
-    let e = rw c.in-Got.is at c.read_up_to.ensures.reads in
+    let e = c.in_ok-v.ensures.reads in
     omega (
       arith,
       read_small (c.args.limit / 128) _ _ (drop (c.args.at + 1) c.args.page.now) e,
@@ -60,25 +61,22 @@ overflow_add-n t c =
 
 pub returns-then-limit-n : goal.returns-then-limit-n
 returns-then-limit-n t c =
-    let e = rw c.in-Got.is at c.read_up_to.ensures.reads in record {
+    let e = c.in_ok-v.ensures.reads in record {
       reads = over c.args.page.now c.args.at c.args.limit (omega arith)
           c.if-b-lt128.false e c.if-v-eq0.false c.if-limit-n.true;
       lies = omega arith;
     }
 
-pub returns-else-limit-n : goal.returns-else-limit-n
-returns-else-limit-n t c =
-    let e = rw c.in-Got.is at c.read_up_to.ensures.reads in
-    let h = rw c.in-Got.is at c.read_up_to.ensures.lies in record {
+pub returns : goal.returns
+returns t c =
+    let e = c.in_ok-v.ensures.reads in
+    let h = c.in_ok-v.ensures.lies in record {
       reads = fits c.args.page.now c.args.at c.args.limit (omega arith)
           c.if-b-lt128.false e c.if-v-eq0.false c.if-limit-n.false;
       lies = h;
     }
 
-pub returns-in-Bad : goal.returns-in-Bad
-returns-in-Bad t c =
-    let e = rw c.in-Bad.is at c.read_up_to.ensures.reads in record {
-      reads = none-behind c.args.page.now c.args.at c.args.limit (omega arith)
-          c.if-b-lt128.false e;
-      lies = omega arith;
-    }
+pub returns-in_err-v : goal.returns-in_err-v
+returns-in_err-v t c =
+    let e = none-behind c.args.page.now c.args.at c.args.limit (omega arith) c.if-b-lt128.false c.in_err-v.ensures.reads in
+    record { reads = rw (exit-is _ _ c.from_residual.ensures) e; lies = exit-says _ _ _ c.from_residual.ensures }

@@ -9,23 +9,23 @@ use Rattle.page.proofs.text.stored_text.Goals as goal
 
 pub overflow_add-result : goal.overflow_add-result
 overflow_add-result c =
-    let e = rw c.in-Got.is at c.read_number.ensures.reads in
-    let h = rw c.in-Got.is at c.read_number.ensures.lies in
+    let e = rw c.in-Ok.is at c.read_number.ensures.reads in
+    let h = rw c.in-Ok.is at c.read_number.ensures.lies in
     omega (
       arith,
-      (span-stored text_limit is_text c.args.page.now c.args.at c.in-Got.n
-          c.in-Got.start c.requires e h).0,
+      (span-stored text_limit is_text c.args.page.now c.args.at c.in-Ok.n
+          c.in-Ok.start c.requires e h).0,
     )
 
-pub returns-in-Got : goal.returns-in-Got
-returns-in-Got c =
-    let e = rw c.in-Got.is at c.read_number.ensures.reads in
-    let h = rw c.in-Got.is at c.read_number.ensures.lies in
-    let is = span-stored text_limit is_text c.args.page.now c.args.at c.in-Got.n
-    c.in-Got.start c.requires e h in record { reads = is.1; lies = record { ordered = omega arith; inside = is.0 } }
+pub returns-in-Ok : goal.returns-in-Ok
+returns-in-Ok c =
+    let e = rw c.in-Ok.is at c.read_number.ensures.reads in
+    let h = rw c.in-Ok.is at c.read_number.ensures.lies in
+    let is = span-stored text_limit is_text c.args.page.now c.args.at c.in-Ok.n
+    c.in-Ok.start c.requires e h in record { reads = is.1; lies = record { ordered = omega arith; inside = is.0 } }
 
-pub returns-in-Bad : goal.returns-in-Bad
-returns-in-Bad c =
-    let e = rw c.in-Bad.is at c.read_number.ensures.reads in
+pub returns-in-Err : goal.returns-in-Err
+returns-in-Err c =
+    let e = rw c.in-Err.is at c.read_number.ensures.reads in
     no-refusal read_number _
     (first-readable read_number _ (drop c.args.at c.args.page.now) c.requires) e

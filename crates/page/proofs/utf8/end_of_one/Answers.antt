@@ -14,7 +14,7 @@ returns-then-holds_at c =
     let start = c.args in
     ends_last tail start.text.now start.at _ c.holds_at.ensures c.if-holds_at.true
 
-pub returns : goal.returns
-returns c =
+pub returns-else-holds_at : goal.returns-else-holds_at
+returns-else-holds_at c =
     let start = c.args in
     ends-not tail start.text.now start.at _ c.holds_at.ensures _ c.if-holds_at.false

@@ -20,8 +20,8 @@ returns-then-holds_at c =
     c.holds_at.ensures _ c.end_of_two.result
     c.if-holds_at.true c.end_of_two.ensures
 
-pub returns : goal.returns
-returns c =
+pub returns-else-holds_at : goal.returns-else-holds_at
+returns-else-holds_at c =
     let start = c.args in
     ends-not (from start.low start.high) start.text.now start.at _ c.holds_at.ensures _
     c.if-holds_at.false

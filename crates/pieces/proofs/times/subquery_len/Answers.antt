@@ -3,7 +3,7 @@ use Rattle.pieces.proofs.PieceLaws.{suffix_len}
 use Rattle.text.specs.Answers.{times_of}
 use Rattle.text.specs.Display.{optional, display_times}
 use Rattle.leaves.specs.Duration.{display_duration}
-use Rattle.records.specs.Answers.{optional_duration_of}
+use Rattle.page.specs.Answers.{itself, option_of}
 use native.Mathlib.Omega.{arith}
 use Rattle.pieces.proofs.times.subquery_len.Goals as goal
 
@@ -15,6 +15,6 @@ returns c =
       c.step_len.ensures.0,
       c.times_len.ensures.0,
       suffix_len (display_duration c.args.range)
-          (optional display_duration (optional_duration_of c.args.step))
+          (optional display_duration (option_of itself c.args.step))
           (display_times (times_of c.args.times)),
     )

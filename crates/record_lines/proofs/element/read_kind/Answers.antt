@@ -1,15 +1,14 @@
 -- `record_lines::element::read_kind` meets its contract. Assumes nothing.
+use Rattle.page.proofs.ExitLaws.{exit-is}
 use Rattle.record_lines.specs.Numbers.{read_kind_numbers}
 use Rattle.record_lines.proofs.element.read_kind.Goals as goal
 
-pub returns-in-Got : goal.returns-in-Got
+pub returns : goal.returns
 unfolding read_kind_numbers
-returns-in-Got c =
-    let e = rw c.in-Got.is at c.read_kind.ensures in
-    rw (← e, c.kind_number.ensures)
+returns c =
+    rw (← c.in_ok-kind.ensures, c.kind_number.ensures)
 
-pub returns-in-Bad : goal.returns-in-Bad
+pub returns-in_err-kind : goal.returns-in_err-kind
 unfolding read_kind_numbers
-returns-in-Bad c =
-    let e = rw c.in-Bad.is at c.read_kind.ensures in
-    rw (← e)
+returns-in_err-kind c =
+    rw (exit-is _ _ c.from_residual.ensures, ← c.in_err-kind.ensures)

@@ -4,7 +4,10 @@ use Rattle.record_lines.proofs.modifier.put_bin_modifier.Goals as goal
 
 pub returns : goal.returns
 returns c =
-    let flag = rw c.flag_number.ensures at c.put_spaced-after_flag.ensures in
-    let card = rw (c.cardinality_form.ensures _) at c.put_form-after_card.ensures in
-    shows_then (shows_then (shows_then (shows_then flag c.put_label_modifier-after_matching.ensures) card)
-    c.put_fill-after_lhs.ensures) c.put_fill.ensures
+    shows_then
+    (shows_then
+    (shows_then
+    (shows_then c.put_flag-after_flag.ensures c.put_label_modifier-after_matching.ensures)
+    c.put_cardinality-after_card.ensures)
+    c.put_fill-after_lhs.ensures)
+    c.put_fill.ensures

@@ -2,10 +2,6 @@
 use Rattle.record_lines.proofs.LineLaws.{shows_then}
 use Rattle.record_lines.proofs.modifier.put_fill.Goals as goal
 
-pub returns-in-None : goal.returns-in-None
-returns-in-None c =
-    rw c.in-None.is c.put_spaced.ensures
-
 pub returns-in-Some : goal.returns-in-Some
 returns-in-Some c =
     rw c.in-Some.is

@@ -24,12 +24,11 @@ returns-in-Subquery c =
 
 pub returns-in-At : goal.returns-in-At
 returns-in-At c =
-    rw (c.in-At.is, ← c.at_numbers.ensures) c.put_numbers.ensures
+    rw c.in-At.is c.put_at.ensures
 
 pub returns-in-Offset : goal.returns-in-Offset
 returns-in-Offset c =
-    rw (c.in-Offset.is, ← c.offset_numbers.ensures)
-    c.put_numbers-in-Offset.ensures
+    rw c.in-Offset.is c.put_offset.ensures
 
 pub returns-in-Unary : goal.returns-in-Unary
 returns-in-Unary c =

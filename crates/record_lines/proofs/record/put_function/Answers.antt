@@ -4,7 +4,9 @@ use Rattle.record_lines.proofs.record.put_function.Goals as goal
 
 pub returns : goal.returns
 returns c =
-    let variadic = rw c.variadic_numbers.ensures at c.put_numbers-after_variadic.ensures in
     let result = rw c.kind_number.ensures at c.put_spaced.ensures in
-    shows_then (shows_then (shows_then c.put_span-after_name.ensures c.put_list-after_kinds.ensures) variadic)
+    shows_then
+    (shows_then
+    (shows_then c.put_span-after_name.ensures c.put_list-after_kinds.ensures)
+    c.put_variadic-after_variadic.ensures)
     result

@@ -4,5 +4,4 @@ use Rattle.record_lines.proofs.record.put_subquery.Goals as goal
 
 pub returns : goal.returns
 returns c =
-    shows_then c.put_spaced-next.ensures
-    (rw c.step_numbers.ensures at c.put_numbers.ensures)
+    shows_then c.put_spaced-next.ensures c.put_step.ensures

@@ -1,37 +1,5 @@
 -- `records::kind::read_kind` meets its contract: the number says which kind. Assumes nothing.
-use native.Mathlib.Omega.{arith}
-use lib.ListN.{drop}
-use Rattle.page.proofs.FieldLaws.{no-form}
-use Rattle.records.specs.Field.{kind_forms}
 use Rattle.records.proofs.kind.read_kind.Goals as goal
 
-pub returns-in-0 : goal.returns-in-0
-returns-in-0 c =
-    let e = rw c.in-Got.is at c.read_number.ensures.reads in
-    simp (← e, c.in-0.is)
-
-pub returns-in-1 : goal.returns-in-1
-returns-in-1 c =
-    let e = rw c.in-Got.is at c.read_number.ensures.reads in
-    simp (← e, c.in-1.is)
-
 pub returns-in-2 : goal.returns-in-2
-returns-in-2 c =
-    let e = rw c.in-Got.is at c.read_number.ensures.reads in
-    simp (← e, c.in-2.is)
-
-pub returns-in-3 : goal.returns-in-3
-returns-in-3 c =
-    let e = rw c.in-Got.is at c.read_number.ensures.reads in
-    simp (← e, c.in-3.is)
-
-pub returns-in_default : goal.returns-in_default
-returns-in_default c =
-    let e = rw c.in-Got.is at c.read_number.ensures.reads in
-    rw (← e)
-    (no-form kind_forms c.in-Got.n (drop c.in-Got.next c.args.page.now)
-    (omega arith))
-
-pub returns-in-Bad : goal.returns-in-Bad
-returns-in-Bad c =
-    let e = rw c.in-Bad.is at c.read_number.ensures.reads in simp (← e)
+returns-in-2 c = simp (← c.in_ok-n.ensures.reads, c.in-2.is)

@@ -1,51 +1,6 @@
 -- `records::time::read_at_modifier` meets its contract: the number says which form follows. Assumes nothing.
-use native.Mathlib.Omega.{arith}
-use lib.ListN.{drop}
-use Rattle.page.proofs.FieldLaws.{no-form}
-use Rattle.records.specs.Time.{at_forms}
+use Rattle.std.proofs.Common.{rules}
 use Rattle.records.proofs.time.read_at_modifier.Goals as goal
 
-pub returns-in-0 : goal.returns-in-0
-returns-in-0 c =
-    let e = rw c.in-Got.is at c.read_number.ensures.reads in
-    simp (← e, c.in-0.is)
-
-pub returns-in-1 : goal.returns-in-1
-returns-in-1 c =
-    let e = rw c.in-Got.is at c.read_number.ensures.reads in
-    simp (← e, c.in-1.is)
-
-pub returns-in-Got-read_time : goal.returns-in-Got-read_time
-returns-in-Got-read_time c =
-    let e = rw c.in-Got.is at c.read_number.ensures.reads in
-    let f = rw c.in-Got-read_time.is at c.read_time.ensures in
-    simp (← e, c.in-2.is, ← f)
-
-pub returns-in-Bad-read_time : goal.returns-in-Bad-read_time
-returns-in-Bad-read_time c =
-    let e = rw c.in-Got.is at c.read_number.ensures.reads in
-    let g = rw c.in-Bad-read_time.is at c.read_time.ensures in
-    simp (← e, c.in-2.is, ← g)
-
-pub returns-in-Got-read_negative_time : goal.returns-in-Got-read_negative_time
-returns-in-Got-read_negative_time c =
-    let e = rw c.in-Got.is at c.read_number.ensures.reads in
-    let f = rw c.in-Got-read_negative_time.is at c.read_negative_time.ensures in
-    simp (← e, c.in-3.is, ← f)
-
-pub returns-in-Bad-read_negative_time : goal.returns-in-Bad-read_negative_time
-returns-in-Bad-read_negative_time c =
-    let e = rw c.in-Got.is at c.read_number.ensures.reads in
-    let g = rw c.in-Bad-read_negative_time.is at c.read_negative_time.ensures in
-    simp (← e, c.in-3.is, ← g)
-
-pub returns-in_default : goal.returns-in_default
-returns-in_default c =
-    let e = rw c.in-Got.is at c.read_number.ensures.reads in
-    rw (← e)
-    (no-form at_forms c.in-Got.form
-    (drop c.in-Got.next c.args.page.now) (omega arith))
-
-pub returns-in-Bad : goal.returns-in-Bad
-returns-in-Bad c =
-    let e = rw c.in-Bad.is at c.read_number.ensures.reads in simp (← e)
+pub returns-in-2 : goal.returns-in-2
+returns-in-2 c = let number = rw c.in-2.is at c.in_ok-form.ensures.reads in search rules

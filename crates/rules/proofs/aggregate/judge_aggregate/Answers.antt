@@ -3,42 +3,31 @@
 use mathlib.Core.Path.{sym, ap, ◌∙◌}
 use lib.Dec.{eqb}
 use Rattle.ast.specs.Operand.{operand_kind}
-use Rattle.rules.proofs.AggregateLaws.{aggregate-none, parameter-other, parameter-two, plain_other, plain-one}
+use Rattle.rules.proofs.AggregateLaws.{parameter-other, parameter-two, plain_other, plain-one}
 use Rattle.rules.proofs.aggregate.judge_aggregate.Goals as goal
-
-pub returns-then-count-eq0 : goal.returns-then-count-eq0
-returns-then-count-eq0 c =
-    aggregate-none c.requires.sized (eqb c.args.rule 42) c.args.code c.args.top
-    c.args.count
-    c.if-count-eq0.true
 
 pub returns-then-count-ne2 : goal.returns-then-count-ne2
 returns-then-count-ne2 c =
-    parameter-other c.requires.sized (eqb c.args.rule 42) c.args.code c.args.top
-    c.args.count
-    (sym c.has_parameter.ensures ∙ c.if-has_parameter.true) c.if-count-eq0.false
-    c.if-count-ne2.true c.requires.inside
+    parameter-other (eqb c.args.rule 42) c.args.code _ _ c.requires
+    (sym c.has_parameter.ensures ∙ c.if-has_parameter.true)
+    c.if-count-eq0.false c.if-count-ne2.true
 
 pub returns-then-has_parameter : goal.returns-then-has_parameter
 returns-then-has_parameter c =
     c.judge_operand.ensures
-    ∙ parameter-two c.requires.sized (eqb c.args.rule 42) c.args.code c.args.top
-    c.args.count
+    ∙ parameter-two (eqb c.args.rule 42) c.args.code _ _ c.requires
     (sym c.has_parameter.ensures ∙ c.if-has_parameter.true) c.if-count-ne2.false
-    c.requires.inside (c.kind_of-parameter.ensures ∙ ap operand_kind c.operand_at.ensures)
-    (c.kind_of-operand.ensures ∙ ap operand_kind c.operand_at-then-has_parameter.ensures)
+    (c.kind_of-parameter.ensures ∙ ap operand_kind c.operand.ensures)
+    (c.kind_of-operand.ensures ∙ ap operand_kind c.operand-then-has_parameter.ensures)
 
 pub returns-then-count-ne1 : goal.returns-then-count-ne1
 returns-then-count-ne1 c =
-    plain_other c.requires.sized (eqb c.args.rule 42) c.args.code c.args.top
-    c.args.count
-    (sym c.has_parameter.ensures ∙ c.if-has_parameter.false) c.if-count-eq0.false
-    c.if-count-ne1.true c.requires.inside
+    plain_other (eqb c.args.rule 42) c.args.code _ _ c.requires (sym c.has_parameter.ensures ∙ c.if-has_parameter.false)
+    c.if-count-eq0.false c.if-count-ne1.true
 
 pub returns : goal.returns
 returns c =
     c.judge_operand-2.ensures
-    ∙ plain-one c.requires.sized (eqb c.args.rule 42) c.args.code c.args.top
-    c.args.count
+    ∙ plain-one (eqb c.args.rule 42) c.args.code _ _ c.requires
     (sym c.has_parameter.ensures ∙ c.if-has_parameter.false) c.if-count-ne1.false
-    c.requires.inside (c.kind_of-operand-2.ensures ∙ ap operand_kind c.operand_at-2.ensures)
+    (c.kind_of-operand-2.ensures ∙ ap operand_kind c.operand-2.ensures)

@@ -7,15 +7,15 @@ use Rattle.records.specs.Outcome.{refusal}
 use Rattle.sandzguli.proofs.PartLaws.{part-accepted}
 use Rattle.sandzguli.proofs.part.label_span.Goals as goal
 
-pub returns-in-Accepted : goal.returns-in-Accepted
-returns-in-Accepted c =
-    let e = rw c.in-Accepted.is at c.check.ensures.is_check in
+pub returns-in-Ok : goal.returns-in-Ok
+returns-in-Ok c =
+    let e = rw c.in-Ok.is at c.check.ensures.is_check in
     nowhere (part-accepted c.args.page.now e)
 
-pub returns-in-Refused : goal.returns-in-Refused
-returns-in-Refused c =
-    let e = rw c.in-Refused.is at c.check.ensures.is_check in
+pub returns-in-Err : goal.returns-in-Err
+returns-in-Err c =
+    let e = rw c.in-Err.is at c.check.ensures.is_check in
     part-as (ap (label_part c.args.page.now)
     (sym e
-    ∙ ap (λ n. refusal n c.in-Refused.index) (sym c.refusal_number.ensures)))
+    ∙ ap (λ n. refusal n c.in-Err.refused.index) (sym c.refusal_number.ensures)))
     c.joint_label.ensures

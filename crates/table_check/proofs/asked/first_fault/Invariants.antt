@@ -1,14 +1,7 @@
--- `table_check::asked::first_fault` meets its contract. Invariant: the records so far have no fault beside any table
--- that lies in the arrays (`Faultless`). The measure is the records left. The laws stand in `AskedLaws`. Assumes
--- nothing.
-use Prim.Native.Nat.{◌-◌, ◌≤◌}
+-- `table_check::asked::first_fault` meets its contract. Invariant: the records so far have no fault beside any
+-- functions that the table holds (`Faultless`). The laws stand in `AskedLaws`. Assumes nothing.
 use Rattle.table_check.proofs.AskedLaws.{Faultless}
 use Rattle.table_check.proofs.asked.first_fault.Given as goal
 
-abbrev pub invariant-loop-i : goal.invariant-loop-i
-invariant-loop-i l =
-    (l.i ≤ l.count) × Faultless l.page l.letters l.names l.i
-
-abbrev pub decreases-loop-i : goal.decreases-loop-i
-decreases-loop-i l =
-    l.count - l.i
+abbrev pub invariant-loop-index : goal.invariant-loop-index
+invariant-loop-index l = Faultless l.page l.table l.index

@@ -8,9 +8,8 @@ use lib.ListN.{drop}
 use Rattle.page.specs.Read.{got}
 use Rattle.records.specs.Signature.{Function}
 use Rattle.records.specs.Record.{Record, read_record}
-use Rattle.functions.specs.Table.{Formed}
 use Rattle.functions.specs.Lookup.{signature_fault}
-use Rattle.functions.specs.Answers.{fault_meant}
+use Rattle.functions.specs.Answers.{fault_meant, Holds}
 use Rattle.functions.specs.declared.carried.Carried.{Carried}
 use Rattle.functions.specs.declared.carried.Carried.TheVariants.{Like, Unlike, Unknown}
 use Rattle.table_check.proofs.FaultLaws.{other-fault, record-inside, name-readable, call-fault}
@@ -20,20 +19,20 @@ use Rattle.table_check.proofs.asked.record_fault.Goals.{After-compare_signature}
 
 -- what the table says of the name, and of the bytes behind it, is the fault of the record
 compared : (c : After-compare_signature) (r : Carried) → c.compare_signature.result ≡ r →
-    (table : List Function) → Formed c.args.letters.now c.args.names.now table
+    (table : List Function) → Holds c.args.table.now table
     → (item : Record) (rest : List ℕ)
     → got item rest ≡ read_record (drop c.args.at c.args.page.now) →
     fault_meant r ≡ signature_fault table item
 compared c r e =
     call-fault c.args.page.now c.args.at c.type_inv.page
-    c.requires.readable c.if-page-at-ne-CALL.false c.stored_text.result
-    c.stored_text.ensures.reads _ _ r
+    c.requires c.if-page-at-ne-CALL.false c.stored_text.result
+    c.stored_text.ensures.reads c.args.table.now r
     (rw e at c.compare_signature.ensures)
 
 pub bounds-page-at : goal.bounds-page-at
 bounds-page-at c =
     record-inside c.args.page.now c.args.at
-    c.type_inv.page c.requires.readable
+    c.type_inv.page c.requires
 
 pub returns-then-page-at-ne-CALL : goal.returns-then-page-at-ne-CALL
 returns-then-page-at-ne-CALL c =
@@ -43,13 +42,13 @@ returns-then-page-at-ne-CALL c =
 pub overflow_add-at : goal.overflow_add-at
 overflow_add-at c =
     let inside = record-inside c.args.page.now c.args.at
-    c.type_inv.page c.requires.readable in
+    c.type_inv.page c.requires in
     search rules
 
 pub stored_text-requires : goal.stored_text-requires
 stored_text-requires c =
     name-readable c.args.page.now c.args.at
-    c.type_inv.page c.requires.readable c.if-page-at-ne-CALL.false
+    c.type_inv.page c.requires c.if-page-at-ne-CALL.false
 
 pub returns-in-Like : goal.returns-in-Like
 returns-in-Like c =

@@ -7,13 +7,13 @@ pub returns-then-count-eq0 : goal.returns-then-count-eq0
 returns-then-count-eq0 c =
     rw c.if-count-eq0.true (next-first c.args.page.now c.requires.short)
 
-pub returns-in-Got : goal.returns-in-Got
-returns-in-Got c =
+pub returns-in-Ok : goal.returns-in-Ok
+returns-in-Ok c =
     next-behind c.args.page.now c.requires.known c.if-count-eq0.false
-    (rw (c.in-Got.is, c.wide.ensures) at c.read_record.ensures.reads)
+    (rw (c.in-Ok.is, c.wide.ensures) at c.read_record.ensures.reads)
     c.within.ensures
 
-pub returns-in-Bad : goal.returns-in-Bad
-returns-in-Bad c =
+pub returns-in-Err : goal.returns-in-Err
+returns-in-Err c =
     last-reads c.args.page.now c.requires.known c.if-count-eq0.false
-    (rw (c.in-Bad.is, c.wide.ensures) at c.read_record.ensures.reads)
+    (rw (c.in-Err.is, c.wide.ensures) at c.read_record.ensures.reads)

@@ -18,14 +18,14 @@ pub overflow_cast-starts : goal.overflow_cast-starts
 overflow_cast-starts c =
     omega (arith, c.next_start-at.ensures.inside, c.if-page-gt-PAGE_LIMIT.false)
 
-pub returns-in-Got : goal.returns-in-Got
-returns-in-Got c =
+pub returns-in-Ok : goal.returns-in-Ok
+returns-in-Ok c =
     reached-one c.args.page.now c.requires.sized.0 c.requires.sized.1 c.requires.known
     c.next_start-at.ensures c.if-index-eq-RECORD_LIMIT.false
-    (rw c.in-Got.is at c.read_record.ensures.reads)
+    (rw c.in-Ok.is at c.read_record.ensures.reads)
 
-pub returns-in-Bad : goal.returns-in-Bad
-returns-in-Bad c =
+pub returns-in-Err : goal.returns-in-Err
+returns-in-Err c =
     reached-bad c.args.page.now c.requires.sized.0 c.requires.sized.1 c.requires.known
     c.next_start-at.ensures
-    (rw c.in-Bad.is at c.read_record.ensures.reads)
+    (rw c.in-Err.is at c.read_record.ensures.reads)

@@ -3,7 +3,8 @@ use native.Mathlib.Omega.{arith}
 use mathlib.Core.Path.{ap, sym, subst}
 use lib.ListN.{length}
 use Rattle.records.specs.Float.{IsExact}
-use Rattle.records.specs.Answers.{fill_of}
+use Rattle.page.specs.Answers.{option_of}
+use Rattle.records.specs.Answers.{literal_of}
 use Rattle.tokens.proofs.FillLaws.{length-filled_bytes, digits-exact, fills-none, fills-right, fills-left}
 use Rattle.tokens.proofs.FillLaws.{fills-both}
 use Rattle.tokens.proofs.fill.fills_len.Goals as goal
@@ -11,14 +12,14 @@ use Rattle.tokens.proofs.fill.fills_len.Goals as goal
 pub both_len-requires : goal.both_len-requires
 both_len-requires c = (
   subst IsExact (sym c.digits_of.ensures)
-      (digits-exact (fill_of c.args.lhs) c.requires.1),
-  subst IsExact (sym c.digits_of-then-values-2.ensures) (digits-exact (fill_of c.args.rhs) c.requires.2),
+      (digits-exact (option_of literal_of c.args.lhs) c.requires.1),
+  subst IsExact (sym c.digits_of-then-values-2.ensures) (digits-exact (option_of literal_of c.args.rhs) c.requires.2),
 )
 
 pub returns-then-values-2 : goal.returns-then-values-2
 returns-then-values-2 c =
     rw (
-      fills-both (fill_of c.args.lhs) (fill_of c.args.rhs) _ c.requires.0 _
+      fills-both (option_of literal_of c.args.lhs) (option_of literal_of c.args.rhs) _ c.requires.0 _
           c.if-values.true c.if-values-2.true
           c.requires.1 c.requires.2 c.same_fills.ensures,
       ← c.digits_of.ensures,
@@ -30,13 +31,13 @@ filled_len-requires c =
     record {
       token = omega arith;
       exact = subst IsExact (sym c.digits_of-then-values.ensures)
-          (digits-exact (fill_of c.args.lhs) c.requires.1);
+          (digits-exact (option_of literal_of c.args.lhs) c.requires.1);
     }
 
 pub returns-then-values : goal.returns-then-values
 returns-then-values c =
     rw (
-      fills-left (fill_of c.args.lhs) (fill_of c.args.rhs) _ c.requires.0
+      fills-left (option_of literal_of c.args.lhs) (option_of literal_of c.args.rhs) _ c.requires.0
           c.if-values.true c.if-values-2.false,
       length-filled_bytes,
       ← c.digits_of-then-values.ensures,
@@ -47,13 +48,13 @@ filled_len-requires-then-values-3 c =
     record {
       token = omega arith;
       exact = subst IsExact (sym c.digits_of-then-values-3.ensures)
-          (digits-exact (fill_of c.args.rhs) c.requires.2);
+          (digits-exact (option_of literal_of c.args.rhs) c.requires.2);
     }
 
 pub returns-then-values-3 : goal.returns-then-values-3
 returns-then-values-3 c =
     rw (
-      fills-right (fill_of c.args.lhs) (fill_of c.args.rhs) _ c.requires.0
+      fills-right (option_of literal_of c.args.lhs) (option_of literal_of c.args.rhs) _ c.requires.0
           c.if-values.false c.if-values-3.true,
       length-filled_bytes,
       ← c.digits_of-then-values-3.ensures,
@@ -64,6 +65,6 @@ returns c =
     omega (
       arith,
       ap length
-          (fills-none (fill_of c.args.lhs) (fill_of c.args.rhs) _ c.requires.0
+          (fills-none (option_of literal_of c.args.lhs) (option_of literal_of c.args.rhs) _ c.requires.0
           c.if-values.false c.if-values-3.false),
     )

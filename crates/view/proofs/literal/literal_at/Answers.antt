@@ -6,14 +6,14 @@ use Rattle.records.specs.Record.{number, leaf}
 use Rattle.view.proofs.KindLaws.{one_field, no_field}
 use Rattle.view.proofs.literal.literal_at.Goals as goal
 
-pub returns-in-Got : goal.returns-in-Got
-returns-in-Got c =
+pub returns-in-Ok : goal.returns-in-Ok
+returns-in-Ok c =
     one_field c.requires.starts c.requires.kind read_literal (λ l. leaf (number l)) (λ t. refl)
-    (rw (c.in-Got.is, c.fields_start.ensures) at
+    (rw (c.in-Ok.is, c.fields_start.ensures) at
     c.read_literal.ensures)
 
-pub returns-in-Bad : goal.returns-in-Bad
-returns-in-Bad c =
+pub returns-in-Err : goal.returns-in-Err
+returns-in-Err c =
     absurd (no_field c.requires.starts c.requires.kind read_literal (λ l. return (leaf (number l))) (λ t. refl)
-    (rw (c.in-Bad.is, c.fields_start.ensures) at
+    (rw (c.in-Err.is, c.fields_start.ensures) at
     c.read_literal.ensures))

@@ -1,42 +1,14 @@
 use mathlib.Core.Path.{sym, subst}
 use native.Mathlib.Omega.{arith}
 use Rattle.view.specs.View.{NumberAt}
-use Rattle.view.proofs.ViewLaws.{descends-start, descended, unary-some, descends-unary}
+use Rattle.view.proofs.ViewLaws.{descends-unary}
 use Rattle.view.proofs.ViewLaws.{descends-number, descends-other}
 use Rattle.view.proofs.literal.signed_literal.Goals as goal
-
-pub loop-odd-init : goal.loop-odd-init
-loop-odd-init c =
-    descends-start _ _ _
-
-pub kind_at-requires : goal.kind_at-requires
-kind_at-requires c =
-    descended c.requires c.loop-odd.invariant
-
-pub overflow_sub-j : goal.overflow_sub-j
-overflow_sub-j c =
-    unary-some c.requires c.loop-odd.invariant (rw c.in-7.is at c.kind_at.ensures)
-
-pub loop-odd-smaller : goal.loop-odd-smaller
-loop-odd-smaller c =
-    omega (
-      arith,
-      unary-some c.requires c.loop-odd.invariant
-          (rw c.in-7.is at c.kind_at.ensures),
-    )
 
 pub loop-odd-preserved : goal.loop-odd-preserved
 loop-odd-preserved c =
     descends-unary c.requires c.loop-odd.invariant
     (rw c.in-7.is at c.kind_at.ensures)
-
-pub literal_at-l-requires : goal.literal_at-l-requires
-literal_at-l-requires c =
-    record { starts = descended c.requires c.loop-odd.invariant; kind = rw c.in-0.is at c.kind_at.ensures }
-
-pub negated-requires : goal.negated-requires
-negated-requires c =
-    tt
 
 pub returns-then-odd : goal.returns-then-odd
 returns-then-odd c =
