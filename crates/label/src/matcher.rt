@@ -29,7 +29,7 @@ fn printed(page: &[u8], matcher: Matcher) -> Printed
     let name = matcher.name;
     let value = matcher.value;
     Printed {
-        name_start: name.start as u16,
+        name_start: name.start as u32,
         value_start: value.start as u16,
         name_size: (name.end - name.start) as u8,
         value_size: (value.end - value.start) as u8,

@@ -13,7 +13,7 @@ use records::MatchOp;
 // operator. Small, since sixteen are kept and moved.
 #[derive(Clone, Copy)]
 pub struct Printed {
-    pub name_start: u16,
+    pub name_start: u32,
     pub value_start: u16,
     pub name_size: u8,
     pub value_size: u8,

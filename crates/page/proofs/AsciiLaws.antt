@@ -79,16 +79,28 @@ take-eight l i h =
     next : (j k : ℕ) → suc j ≡ k → j < length l → drop j l ≡ get_or l j 0 ∷ drop k l
     next j k e h = drop-cons l j 0 h ∙ ap (λ (n : ℕ). get_or l j 0 ∷ drop n l) e
 
--- a word as std makes it of eight bytes
-pub eight-passes : (bs : List ℕ) → length bs ≡ 8 → ((i : ℕ) → get_or bs i 0 < 256) → (n : ℕ) → n ≡ from_le_bytes w64 bs
-    → eqb (bit_and n 0x8080_8080_8080_8080) 0 ≡ is_ascii bs
-eight-passes bs e f n is =
-    let at = λ (i : ℕ). get_or bs i 0 in
-    let eight = at 0 ∷ at 1 ∷ at 2 ∷ at 3 ∷ at 4 ∷ at 5 ∷ at 6 ∷ at 7 ∷ [] in
-    let whole : bs ≡ eight = sym (take_all 8 bs (omega arith)) ∙ take-eight bs 0 (omega arith) in
-    let same : n ≡ word_of eight = omega (arith, is) in
-    ap (λ (m : ℕ). eqb (bit_and m 0x8080_8080_8080_8080) 0) same
-    ∙ word-passes eight (f 0, (f 1, (f 2, (f 3, (f 4, (f 5, (f 6, (f 7, tt)))))))) ∙ ap is_ascii (sym whole)
+-- eight bytes, one by one
+module _ (bs : List ℕ) (e : length bs ≡ 8) where
+  abbrev at : ℕ → ℕ
+  at i = get_or bs i 0
+
+  abbrev eight : List ℕ
+  eight = at 0 ∷ at 1 ∷ at 2 ∷ at 3 ∷ at 4 ∷ at 5 ∷ at 6 ∷ at 7 ∷ []
+
+  whole : bs ≡ eight
+  whole = sym (take_all 8 bs (omega arith)) ∙ take-eight bs 0 (omega arith)
+
+  -- the number that std makes of them
+  pub eight-word : (n : ℕ) → n ≡ from_le_bytes w64 bs → n ≡ word_of bs
+  eight-word n is =
+      let same : n ≡ word_of eight = omega (arith, is) in
+      same ∙ ap word_of (sym whole)
+
+  pub eight-passes : ((i : ℕ) → get_or bs i 0 < 256) → (n : ℕ) → n ≡ word_of bs
+      → eqb (bit_and n 0x8080_8080_8080_8080) 0 ≡ is_ascii bs
+  eight-passes f n is =
+      ap (λ (m : ℕ). eqb (bit_and m 0x8080_8080_8080_8080) 0) (is ∙ ap word_of whole)
+      ∙ word-passes eight (f 0, (f 1, (f 2, (f 3, (f 4, (f 5, (f 6, (f 7, tt)))))))) ∙ ap is_ascii (sym whole)
 
 -- a word, and what stands after it
 pub word-apart : (l : List ℕ) (i : ℕ) → drop i l ≡ take 8 (drop i l) ++ drop (i + 8) l

@@ -2,12 +2,20 @@
 // text singly. No byte outside the text is read, wherever it starts.
 ghost use Rattle.std.specs.Prelude.{◌≡◌, ◌-◌, ◌≤◌, length, take, drop};
 ghost use Rattle.page.specs.Text.{is_ascii};
+ghost use Rattle.page.specs.Word.{word_of};
 
-// A word passes exactly when its eight bytes do: none of them has its highest bit set. The first byte is the lowest.
+// Eight bytes as one number, the first the lowest: one load, where they stand side by side.
+fn word(bytes: &[u8; 8]) -> u64
+    ensures { result ≡ word_of bytes.now }
+{
+    u64::from_le_bytes(*bytes)
+}
+
+// A word passes exactly when its eight bytes do: none of them has its highest bit set.
 pub fn word_passes(bytes: &[u8; 8]) -> bool
     ensures { result ≡ is_ascii bytes.now }
 {
-    u64::from_le_bytes(*bytes) & 0x8080_8080_8080_8080 == 0
+    word(bytes) & 0x8080_8080_8080_8080 == 0
 }
 
 // The bytes from a position on, one at a time; there are none past the text's end. The loop asks with `!=` whether it

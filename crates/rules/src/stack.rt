@@ -7,11 +7,11 @@ use page::RECORD_LIMIT;
 // The top lies between the arrays: the compiler would else fill both with zeros as one large block.
 #[derive(Drop)]
 pub struct Stack {
-    tags: [u8; RECORD_LIMIT],
-    top: usize,
-    values: [f64; RECORD_LIMIT],
-    ghost inside: { top ≤ 256 },
-    ghost sized: { (length tags ≡ 256) × (length values ≡ 256) },
+    pub tags: [u8; RECORD_LIMIT],
+    pub top: usize,
+    pub values: [f64; RECORD_LIMIT],
+    pub ghost inside: { top ≤ 256 },
+    pub ghost sized: { (length tags ≡ 256) × (length values ≡ 256) },
 }
 
 impl Stack {

@@ -4,4 +4,4 @@ use Rattle.page.proofs.AsciiLaws.{eight-passes}
 use Rattle.page.proofs.ascii.word_passes.Goals as goal
 
 pub returns : goal.returns
-returns c = eight-passes c.args.bytes.now c.told-bytes c.fits-bytes _ c.from_le_bytes.ensures
+returns c = eight-passes c.args.bytes.now c.told-bytes c.fits-bytes _ c.word.ensures
